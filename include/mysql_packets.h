@@ -128,12 +128,12 @@ typedef struct myp_column_count {
 } myp_column_count;
 #define MYP_COLUMN_COUNT_INIT { 0, 0, 0 }
 
-/* Reads the count of columns, length-encoded, and under MYP_MARIADB_CLIENT_CACHE_METADATA a byte that says whether definitions
- * follow. MYP_UNEXPECTED_EOF; MYP_INVALID_DATA of a number that begins with fb or ff. */
+/* Reads the count of columns, length-encoded, and under MYP_MARIADB_CLIENT_CACHE_METADATA the byte after it that says whether
+ * definitions follow. MYP_UNEXPECTED_EOF; MYP_INVALID_DATA of a number that begins with fb or ff. */
 uint32_t myp_read_column_count(const uint8_t *packet, size_t len, uint32_t mariadb_capabilities, myp_column_count *out);
 
-/* The same of a session with MYP_CLIENT_OPTIONAL_RESULTSET_METADATA, under which a byte before the count says it too: definitions follow
- * where no byte is 0. */
+/* Reads the count of columns of a session with MYP_CLIENT_OPTIONAL_RESULTSET_METADATA too, under which the byte follows as well.
+ * Under either flag there is one byte. MYP_UNEXPECTED_EOF; MYP_INVALID_DATA of a number that begins with fb or ff. */
 uint32_t myp_read_column_count_with_metadata(const uint8_t *packet, size_t len, uint32_t capabilities, uint32_t mariadb_capabilities,
                                              myp_column_count *out);
 
@@ -163,6 +163,7 @@ enum myp_packet_kind {
     MYP_PACKET_INFILE_END, /* an empty packet */
     MYP_PACKET_COLUMN_COUNT, /* how many in `columns` */
     MYP_PACKET_COLUMN, /* the definition of a column or a parameter */
+    MYP_PACKET_FIELD_LIST_COLUMN, /* the definition of a column that answers COM_FIELD_LIST, with its default value */
     MYP_PACKET_EOF, /* the end of definitions, of rows or of events */
     MYP_PACKET_OK_TERMINATOR, /* the end of rows, as an OK packet */
     MYP_PACKET_TEXT_ROW,
@@ -412,6 +413,18 @@ typedef struct myp_extended_column {
  * its metadata after the names. The attributes in them are not looked at. */
 uint32_t myp_read_extended_column(const uint8_t *packet, size_t len, uint32_t mariadb_capabilities, myp_extended_column *out);
 
+/* Initializer: MYP_FIELD_LIST_COLUMN_INIT. */
+typedef struct myp_field_list_column {
+    myp_extended_column column; /* its used is the bytes of all */
+    myp_bytes default_value;    /* as text */
+    uint8_t has_default_value;  /* 0 where it is NULL, else 1 */
+} myp_field_list_column;
+#define MYP_FIELD_LIST_COLUMN_INIT { MYP_EXTENDED_COLUMN_INIT, MYP_BYTES_INIT, 0 }
+
+/* Reads a column that answers COM_FIELD_LIST (MYP_PACKET_FIELD_LIST_COLUMN): as myp_read_extended_column, and its default value.
+ * MYP_UNEXPECTED_EOF where that is missing; MYP_INVALID_DATA where its length begins with ff. */
+uint32_t myp_read_field_list_column(const uint8_t *packet, size_t len, uint32_t mariadb_capabilities, myp_field_list_column *out);
+
 /* Other numbers may come. */
 enum myp_column_attribute_kind {
     MYP_ATTRIBUTE_TYPE_NAME = 0,  /* the name of the type, as uuid, inet6 or point */
@@ -431,7 +444,7 @@ uint32_t myp_next_column_attribute(myp_bytes *rest, myp_column_attribute *out);
 
 /* ---- rows */
 
-enum myp_kind { MYP_NULL, MYP_BYTES, MYP_INT, MYP_UINT, MYP_FLOAT, MYP_DOUBLE, MYP_DATE, MYP_TIME };
+enum myp_kind { MYP_NULL, MYP_BYTES, MYP_INT, MYP_UINT, MYP_FLOAT, MYP_DOUBLE, MYP_DATE, MYP_TIME, MYP_DATE_WITH_OFFSET };
 
 /* A column is read as MYP_INT, or MYP_UINT of an unsigned MYP_TYPE_LONGLONG, where its type is a whole number or a year; as MYP_FLOAT,
  * MYP_DOUBLE, MYP_TIME where it is that; as MYP_DATE where it is DATE, DATETIME or TIMESTAMP; and else as MYP_BYTES, decimal numbers
@@ -447,7 +460,10 @@ enum myp_kind { MYP_NULL, MYP_BYTES, MYP_INT, MYP_UINT, MYP_FLOAT, MYP_DOUBLE, M
  *   MYP_FLOAT    number: the 32 bits
  *   MYP_DOUBLE   number: the 64 bits
  *   MYP_DATE     days (the year), month, day, hour, minute, second, micros; number and is_negative are 0
- *   MYP_TIME     is_negative, days, hour, minute, second, micros; number, month and day are 0 */
+ *   MYP_TIME     is_negative, days, hour, minute, second, micros; number, month and day are 0
+ *   MYP_DATE_WITH_OFFSET
+ *                those of MYP_DATE, and number: the offset from UTC in minutes, in two's complement. Parameters and attributes
+ *                alone have it, of the types DATETIME and TIMESTAMP */
 typedef struct myp_value {
     uint8_t kind; /* of enum myp_kind */
     uint8_t is_negative, month, day, hour, minute, second;
@@ -575,7 +591,7 @@ uint32_t myp_write_command(const myp_command *command, uint8_t *out, size_t size
  * Attributes are written by myp_write_query_with_attributes. MYP_BUFFER_TOO_SMALL. */
 uint32_t myp_write_query(const uint8_t *text, size_t len, uint32_t capabilities, uint8_t *out, size_t size, size_t *written);
 
-/* An attribute of a query. Where one is written, its type is that of its value's kind, and the last two fields are not looked at.
+/* An attribute of a query or an execution. Where one is written, its type is that of its value's kind, and the last two fields are not looked at.
  * Initializer: MYP_QUERY_ATTRIBUTE_INIT. */
 typedef struct myp_query_attribute {
     myp_bytes name;
@@ -616,20 +632,14 @@ uint32_t myp_write_execution(uint32_t statement_id, const myp_value *values, siz
 /* Which cursor an execution opens over its rows, which MYP_COM_STMT_FETCH asks for. Servers open the one that is read only. */
 enum myp_cursor { MYP_CURSOR_NONE = 0, MYP_CURSOR_READ_ONLY = 1, MYP_CURSOR_FOR_UPDATE = 2, MYP_CURSOR_SCROLLABLE = 4 };
 
+/* Beside the cursor in the flags of an execution that was read: under MYP_CLIENT_QUERY_ATTRIBUTES a count follows, also where the statement
+ * has no parameters. */
+enum myp_execution_flag { MYP_PARAMETER_COUNT_AVAILABLE = 8 };
+
 /* Writes COM_STMT_EXECUTE as myp_write_execution does, with a cursor of enum myp_cursor. MYP_INVALID_INPUT also of another cursor; then *written is 0,
  * and *as_long_data as it was. */
 uint32_t myp_write_execution_with_cursor(uint32_t statement_id, uint32_t cursor, const myp_value *values, size_t n, uint8_t *out,
                                          size_t size, size_t *written, uint8_t *as_long_data);
-
-/* Writes COM_STMT_EXECUTE with a cursor of enum myp_cursor, and each value under its type, of which there are as many: a number in as many bytes
- * as the type has; a float of 4 bytes under MYP_TYPE_FLOAT, one of 8 under MYP_TYPE_DOUBLE; a date, without a time of day under MYP_TYPE_DATE; a
- * span of time under MYP_TYPE_TIME; bytes under the types of strings; MYP_NULL under any. Where sends_types is 0, no types are sent: those passed
- * are the ones that an earlier execution of the statement sent. *as_long_data is that of myp_write_execution. MYP_INVALID_INPUT of another
- * cursor or another count of types, or of a value that is none or that its type doesn't spell, and *written is 0 and *as_long_data as it
- * was; MYP_BUFFER_TOO_SMALL, and *as_long_data is set. */
-uint32_t myp_write_execution_with_types(uint32_t statement_id, uint32_t cursor, uint8_t sends_types, const myp_column_type *types,
-                                        size_t n_types, const myp_value *values, size_t n, uint8_t *out, size_t size, size_t *written,
-                                        uint8_t *as_long_data);
 
 /* Writes COM_STMT_EXECUTE of a session with MYP_CLIENT_QUERY_ATTRIBUTES, with a cursor of enum myp_cursor, and attributes of the query after the
  * values, of which there may be none. *as_long_data is that of myp_write_execution; no attribute is left out. MYP_INVALID_INPUT of another
@@ -638,6 +648,36 @@ uint32_t myp_write_execution_with_types(uint32_t statement_id, uint32_t cursor, 
 uint32_t myp_write_execution_with_attributes(uint32_t statement_id, uint32_t cursor, const myp_value *values, size_t n,
                                              const myp_query_attribute *attributes, size_t n_attributes, uint8_t *out, size_t size,
                                              size_t *written, uint8_t *as_long_data);
+
+/* The first 10 bytes of an execution. Initializer: MYP_EXECUTION_HEAD_INIT. */
+typedef struct myp_execution_head {
+    size_t used;              /* 10; not looked at where one is written */
+    uint32_t statement_id;
+    uint32_t iteration_count; /* 1; servers ignore it */
+    uint8_t flags;            /* of enum myp_cursor, and MYP_PARAMETER_COUNT_AVAILABLE */
+} myp_execution_head;
+#define MYP_EXECUTION_HEAD_INIT { 0, 0, 1, 0 }
+
+/* A parameter or an attribute under a type of the caller's. Initializer: MYP_TYPED_VALUE_INIT. */
+typedef struct myp_typed_value {
+    myp_bytes name;        /* written under MYP_CLIENT_QUERY_ATTRIBUTES; empty where it has none */
+    myp_value value;
+    uint8_t column_type;   /* of enum myp_type */
+    uint8_t is_unsigned;   /* any number but 0 where it is */
+    uint8_t is_sent_ahead; /* any number but 0 where COM_STMT_SEND_LONG_DATA sent its data: the value is not looked at */
+} myp_typed_value;
+#define MYP_TYPED_VALUE_INIT { MYP_BYTES_INIT, MYP_VALUE_INIT, 0, 0, 0 }
+
+/* Writes COM_STMT_EXECUTE with this head, as a proxy does that writes one again as it was read: by what both sides can do, and each value under its
+ * type. A number takes as many bytes as the type has; MYP_FLOAT needs MYP_TYPE_FLOAT, MYP_DOUBLE MYP_TYPE_DOUBLE; a date needs MYP_TYPE_DATETIME
+ * or MYP_TYPE_TIMESTAMP, or MYP_TYPE_DATE without a time of day; MYP_TIME needs MYP_TYPE_TIME; bytes need another type, and MYP_NULL takes any.
+ * Where sends_types is 0, no types are sent: those passed are the ones that an earlier execution of the statement sent. Types are sent in any
+ * case where there are attributes. Attributes and names are written under MYP_CLIENT_QUERY_ATTRIBUTES alone. *as_long_data is that of
+ * myp_write_execution. MYP_INVALID_INPUT of a value that is none or that its type doesn't spell, and *written is 0 and *as_long_data as it
+ * was; MYP_BUFFER_TOO_SMALL, and *as_long_data is set; MYP_NO_MEMORY of strings that no memory holds together, and *written is 0. */
+uint32_t myp_write_execution_with_types(const myp_execution_head *head, uint32_t capabilities, uint8_t sends_types, const myp_typed_value *params,
+                                        size_t n, const myp_typed_value *attributes, size_t n_attributes, uint8_t *out, size_t size,
+                                        size_t *written, uint8_t *as_long_data);
 
 /* Flags of a bulk execution: myp_write_bulk is passed the first, and sets the second. */
 enum myp_bulk_flag {
@@ -734,9 +774,11 @@ typedef struct myp_login {
     uint8_t has_database;         /* 1 where it was sent, else 0; so the next two */
     uint8_t has_auth_plugin_name;
     uint8_t has_attributes;
+    uint8_t has_zstd_level; /* 1 where zstd_level was sent, or is to be written: under MYP_CLIENT_ZSTD_COMPRESSION_ALGORITHM */
+    uint8_t zstd_level;     /* the level of compression, 1 to 22 */
 } myp_login;
 #define MYP_LOGIN_INIT \
-    { MYP_BYTES_INIT, MYP_BYTES_INIT, MYP_BYTES_INIT, MYP_BYTES_INIT, MYP_BYTES_INIT, 0, 0, 0, 0, 0, 0, 0, 0 }
+    { MYP_BYTES_INIT, MYP_BYTES_INIT, MYP_BYTES_INIT, MYP_BYTES_INIT, MYP_BYTES_INIT, 0, 0, 0, 0, 0, 0, 0, 0, 0, 0 }
 
 /* Writes Protocol::HandshakeResponse41 with these attributes, where has_attributes is set; of a name what stands before its first
  * zero. MYP_INVALID_INPUT of attributes that are sent and not UTF-8, and *written is 0; MYP_BUFFER_TOO_SMALL; MYP_NO_MEMORY of strings that
@@ -935,16 +977,8 @@ uint32_t myp_read_close(const uint8_t *packet, size_t len, uint32_t *statement_i
  * parameter. MYP_UNEXPECTED_EOF of fewer than seven bytes; MYP_INVALID_DATA of another first byte than MYP_COM_STMT_SEND_LONG_DATA. */
 uint32_t myp_read_long_data(const uint8_t *packet, size_t len, myp_long_data *out);
 
-/* Initializer: MYP_EXECUTION_HEAD_INIT. */
-typedef struct myp_execution_head {
-    size_t used;           /* 10 */
-    uint32_t statement_id;
-    uint8_t flags;         /* which cursor is opened: 0 for none */
-} myp_execution_head;
-#define MYP_EXECUTION_HEAD_INIT { 0, 0, 0 }
-
 /* Reads the first 10 bytes of COM_STMT_EXECUTE, which say which statement it is. MYP_UNEXPECTED_EOF of fewer;
- * MYP_INVALID_DATA of another first byte than MYP_COM_STMT_EXECUTE, or of another count of executions than 1. */
+ * MYP_INVALID_DATA of another first byte than MYP_COM_STMT_EXECUTE. Servers ignore the iteration count. */
 uint32_t myp_read_execution_head(const uint8_t *packet, size_t len, myp_execution_head *out);
 
 /* Initializer: MYP_BULK_HEAD_INIT. */
@@ -989,18 +1023,25 @@ typedef struct myp_param {
 /* Initializer: MYP_EXECUTION_INIT. */
 typedef struct myp_execution {
     size_t used;
+    size_t attributes;   /* how many there are: myp_read_execution_attribute reads one */
     uint32_t statement_id;
-    uint8_t flags;       /* which cursor is opened: 0 for none */
+    uint8_t flags;       /* as those of myp_execution_head */
     uint8_t sends_types; /* 1 where the execution sends types, else 0 */
 } myp_execution;
-#define MYP_EXECUTION_INIT { 0, 0, 0, 0 }
+#define MYP_EXECUTION_INIT { 0, 0, 0, 0, 0 }
 
-/* Reads COM_STMT_EXECUTE of a session without MYP_CLIENT_QUERY_ATTRIBUTES: into the first values and the first types, one of
- * each parameter of the statement. A server keeps the types for an execution that sends none. What was sent ahead is
- * MYP_NULL. MYP_BUFFER_TOO_SMALL where there are fewer values or types than parameters: nothing is changed;
- * MYP_UNEXPECTED_EOF and MYP_INVALID_DATA: of the values and the types the first ones may be set. */
-uint32_t myp_read_execution(const uint8_t *packet, size_t len, const myp_param *params, size_t n_params, myp_value *values,
-                            size_t n_values, myp_column_type *types, size_t n_types, myp_execution *out);
+/* Reads COM_STMT_EXECUTE by what both sides can do: into the first values and the first types, one of each parameter of the
+ * statement, and under MYP_CLIENT_QUERY_ATTRIBUTES with attributes after them. A server keeps the types of the parameters for an execution
+ * that sends none. What was sent ahead is MYP_NULL. MYP_BUFFER_TOO_SMALL where there are fewer values or types than
+ * parameters: nothing is changed. MYP_UNEXPECTED_EOF; MYP_INVALID_DATA, also of a count below that of the parameters, and of attributes without
+ * types: of the values and the types the first ones may be set. */
+uint32_t myp_read_execution(const uint8_t *packet, size_t len, uint32_t capabilities, const myp_param *params, size_t n_params,
+                            myp_value *values, size_t n_values, myp_column_type *types, size_t n_types, myp_execution *out);
+
+/* Reads one attribute of an execution of these parameters, the first being at place 0. Each call reads the execution anew. MYP_END where there
+ * are fewer; MYP_UNEXPECTED_EOF and MYP_INVALID_DATA as of myp_read_execution. */
+uint32_t myp_read_execution_attribute(const uint8_t *packet, size_t len, uint32_t capabilities, const myp_param *params, size_t n_params,
+                                      size_t place, myp_query_attribute *out);
 
 /* ---- what a server writes
  *
@@ -1036,7 +1077,8 @@ uint32_t myp_write_statement_with_metadata(const myp_statement_with_metadata *st
 uint32_t myp_write_column_count(const myp_column_count *columns, uint32_t mariadb_capabilities, uint8_t *out, size_t size,
                                 size_t *written);
 
-/* The same of a session with MYP_CLIENT_OPTIONAL_RESULTSET_METADATA, under which a byte before the count says it too. */
+/* Writes the count of columns of a session with MYP_CLIENT_OPTIONAL_RESULTSET_METADATA too, under which the byte follows as well.
+ * MYP_INVALID_INPUT where metadata_follows is 0 and no byte says so. */
 uint32_t myp_write_column_count_with_metadata(const myp_column_count *columns, uint32_t capabilities, uint32_t mariadb_capabilities,
                                               uint8_t *out, size_t size, size_t *written);
 
@@ -1046,6 +1088,10 @@ uint32_t myp_write_column(const myp_column *column, uint8_t *out, size_t size, s
 /* Writes a column, with its metadata where has_metadata is not 0: a client with MYP_MARIADB_CLIENT_EXTENDED_METADATA expects them,
  * another expects none. MYP_INVALID_INPUT of a type that is none of enum myp_type. */
 uint32_t myp_write_extended_column(const myp_extended_column *column, uint8_t *out, size_t size, size_t *written);
+
+/* Writes a column that answers COM_FIELD_LIST, with its default value, or NULL where has_default_value is 0. MYP_INVALID_INPUT of a type
+ * that is none of enum myp_type. */
+uint32_t myp_write_field_list_column(const myp_field_list_column *column, uint8_t *out, size_t size, size_t *written);
 
 /* Writes an attribute of a column: its kind, and its text, length-encoded. The metadata of a column are such attributes, one after
  * another. */
@@ -1163,14 +1209,14 @@ enum myp_command_code {
  *   MYP_CLIENT_PROTOCOL_41                      an error's SQL state (myp_read_error), the status in OK packets and EOF packets (myp_read_ok)
  *   MYP_CLIENT_SESSION_TRACK                    an OK packet's info and session state (myp_read_ok, myp_write_ok)
  *   MYP_CLIENT_DEPRECATE_EOF                    the end of rows; there is none after definitions (myp_row_kind, myp_next_packet)
- *   MYP_CLIENT_OPTIONAL_RESULTSET_METADATA      a byte before a count of columns, one after a statement (.._with_metadata)
+ *   MYP_CLIENT_OPTIONAL_RESULTSET_METADATA      a byte after a count of columns, and after a statement (.._with_metadata)
  *   MYP_CLIENT_PROGRESS                         reports of progress before an answer (myp_read_error)
  *   MYP_CLIENT_MULTI_FACTOR_AUTHENTICATION      requests for a next factor (myp_read_auth_next_factor)
  *   MYP_CLIENT_PLUGIN_AUTH, MYP_CLIENT_CONNECT_ATTRS, MYP_CLIENT_CONNECT_WITH_DB, MYP_CLIENT_PLUGIN_AUTH_LENENC_CLIENT_DATA
  *                                               logins and changes of user (myp_write_login, myp_write_change_user)
  *   MYP_CLIENT_SSL                              the caller's own TLS, after myp_write_ssl_request
  *   MYP_CLIENT_LOCAL_FILES                      requests for a file (myp_read_local_infile)
- *   MYP_MARIADB_CLIENT_EXTENDED_METADATA        columns (myp_read_extended_column)
+ *   MYP_MARIADB_CLIENT_EXTENDED_METADATA        columns (myp_read_extended_column, myp_read_field_list_column)
  *   MYP_MARIADB_CLIENT_CACHE_METADATA           a byte after a count of columns (myp_read_column_count)
  *   MYP_MARIADB_CLIENT_STMT_BULK_OPERATIONS     bulk requests (myp_write_bulk); with _BULK_UNIT_RESULTS each row may have its own result
  *

@@ -18,6 +18,7 @@ expect() {
 }
 
 expect 'HANDLES holds another line' cmp -s HANDLES <(printf 'Handles allowed: none.\n')
+expect 'the table of recorded packets is out of date' tests/captured/versions.py --check
 expect 'a page quotes other lines than the crate has, or names what no library has' tools/quoted_lines.py
 
 # Words that no page of the field uses, and what stands for them: untrusted, little-endian, the initial handshake, a mutant, an

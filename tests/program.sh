@@ -213,7 +213,7 @@ recorded() {
 
 # (too many connections, as MariaDB says it in place of the greeting)
 many='< 17000000ff1004546f6f206d616e7920636f6e6e656374696f6e73'
-asked=$'usage: mypackets conversation [MAX] [caps=CAPS] [mariadb=CAPS] [--json] [--sum]\n'
+asked=$'usage: mypackets conversation [MAX] [caps=CAPS] [mariadb=CAPS] [--deciphered] [--json] [--sum]\n'
 recorded '' 'no recording' 0 ''
 recorded "$many" 'an error in place of the greeting' 0 $'< 0 unasked_error\nerror: 1040\nsql_state: none\nmessage: x546f6f206d616e7920636f6e6e656374696f6e73\n'
 recorded $'# a ping\n\n> 0100 0000 0e\r\n< 07000001 00\n< 000002000000\n' 'a connection that is taken up' 0 \

@@ -229,7 +229,7 @@ static uint64_t execution_read(const uint8_t *p, size_t n)
     static const myp_param params[COLUMNS];
     static myp_column_type sent[COLUMNS];
     static myp_execution e = MYP_EXECUTION_INIT;
-    return myp_read_execution(p, n, params, COLUMNS, row, COLUMNS, sent, COLUMNS, &e) ? 0 : e.used;
+    return myp_read_execution(p, n, 0, params, COLUMNS, row, COLUMNS, sent, COLUMNS, &e) ? 0 : e.used;
 }
 
 static uint64_t execution(const uint8_t *p, size_t n)

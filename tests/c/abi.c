@@ -44,10 +44,10 @@ static void replies(void)
     CHECK(myp_read_column_count((const uint8_t *)"\xfc\x00\x01", 3, 0, &c) == MYP_OK && c.count == 256 && c.metadata_follows == 1 && c.used == 3);
     CHECK(myp_read_column_count((const uint8_t *)"\x02\x00", 2, MYP_MARIADB_CLIENT_CACHE_METADATA, &c) == MYP_OK && c.count == 2 && c.metadata_follows == 0 && c.used == 2);
     CHECK(myp_read_column_count((const uint8_t *)"\xfb", 1, 0, &c) == MYP_INVALID_DATA && c.count == 2);
-    uint32_t optional = MYP_CLIENT_OPTIONAL_RESULTSET_METADATA; /* replies.txt: a byte before the count */
-    CHECK(myp_read_column_count_with_metadata((const uint8_t *)"\x01\x02", 2, optional, 0, &c) == MYP_OK && c.count == 2 && c.metadata_follows == 1 && c.used == 2);
-    CHECK(myp_read_column_count_with_metadata((const uint8_t *)"\x00\x03", 2, optional, 0, &c) == MYP_OK && c.count == 3 && c.metadata_follows == 0);
-    CHECK(myp_read_column_count_with_metadata((const uint8_t *)"\x01\x04\x00", 3, optional, MYP_MARIADB_CLIENT_CACHE_METADATA, &c) == MYP_OK && c.count == 4 && c.metadata_follows == 0 && c.used == 3);
+    uint32_t optional = MYP_CLIENT_OPTIONAL_RESULTSET_METADATA; /* replies.txt: a byte after the count */
+    CHECK(myp_read_column_count_with_metadata((const uint8_t *)"\x08\x01", 2, optional, 0, &c) == MYP_OK && c.count == 8 && c.metadata_follows == 1 && c.used == 2);
+    CHECK(myp_read_column_count_with_metadata((const uint8_t *)"\x02\x00", 2, optional, 0, &c) == MYP_OK && c.count == 2 && c.metadata_follows == 0);
+    CHECK(myp_read_column_count_with_metadata((const uint8_t *)"\x04\x00\x01", 3, optional, MYP_MARIADB_CLIENT_CACHE_METADATA, &c) == MYP_OK && c.count == 4 && c.metadata_follows == 0 && c.used == 2);
     CHECK(myp_read_column_count_with_metadata((const uint8_t *)"\x01\x02", 2, ~optional, 0, &c) == MYP_OK && c.count == 1 && c.metadata_follows == 1 && c.used == 1);
     CHECK(myp_read_column_count_with_metadata((const uint8_t *)"\x01", 1, optional, 0, &c) == MYP_UNEXPECTED_EOF && c.count == 1);
 }
@@ -158,6 +158,16 @@ static void results(void)
     CHECK(myp_next_column_attribute(&bad, &at) == MYP_INVALID_DATA && bad.len == 2 && (bad.len = 1) && myp_next_column_attribute(&bad, &at) == MYP_UNEXPECTED_EOF && bad.len == 1);
     CHECK(myp_read_extended_column(x, len, 0, &ex) == MYP_INVALID_DATA && myp_read_extended_column(x, len - 1, MYP_MARIADB_CLIENT_EXTENDED_METADATA, &ex) == MYP_UNEXPECTED_EOF && ex.has_metadata == 1);
     CHECK(myp_read_extended_column(column, sizeof column - 1, 0, &ex) == MYP_OK && ex.has_metadata == 0 && ex.metadata.len == 0 && IS(ex.column.org_name, "b") && ex.column.used == sizeof column - 1);
+    uint8_t f[64]; /* replies.txt: columns that answer COM_FIELD_LIST */
+    len = hex(f, "03646566026839056b696e6473056b696e64730269640269640c3f000b0000000303420000000130");
+    myp_field_list_column fl = MYP_FIELD_LIST_COLUMN_INIT;
+    CHECK(myp_read_field_list_column(f, len, 0, &fl) == MYP_OK && IS(fl.column.column.name, "id") && fl.column.has_metadata == 0 && fl.column.column.used == len);
+    CHECK(fl.has_default_value == 1 && fl.default_value.len == 1 && fl.default_value.data == f + len - 1);
+    CHECK(myp_read_field_list_column(f, len - 1, 0, &fl) == MYP_UNEXPECTED_EOF && myp_read_field_list_column(f, len - 2, 0, &fl) == MYP_UNEXPECTED_EOF && fl.has_default_value == 1);
+    f[len - 2] = 0xfb;
+    CHECK(myp_read_field_list_column(f, len, 0, &fl) == MYP_OK && fl.has_default_value == 0 && fl.default_value.len == 0 && fl.column.column.used == len - 1);
+    f[len - 2] = 0xff;
+    CHECK(myp_read_field_list_column(f, len, 0, &fl) == MYP_INVALID_DATA && fl.column.column.used == len - 1);
     static const uint8_t text[] = { 1, '7', 0xfb, 3, 'a', 'b', 'c', 9 };
     myp_value v[4] = { MYP_VALUE_INIT, MYP_VALUE_INIT, MYP_VALUE_INIT, MYP_VALUE_INIT };
     size_t used = 0;
@@ -246,10 +256,10 @@ int main(void)
     CHECK(myp_version() == MYP_VERSION && !strcmp(myp_error_text(MYP_OK), "done") && !strcmp(myp_error_text(MYP_END), "nothing is left"));
     CHECK(sizeof(myp_bytes) == 16 && sizeof(myp_value) == 40 && sizeof(myp_column_type) == 2 && sizeof(myp_header) == 8);
     CHECK(sizeof(myp_column) == 104 && sizeof(myp_ok) == 64 && sizeof(myp_error) == 56 && sizeof(myp_handshake) == 88 && sizeof(myp_statement) == 24 && sizeof(myp_column_count) == 24);
-    CHECK(sizeof(myp_change) == 56 && sizeof(myp_login) == 104 && sizeof(myp_change_user) == 96 && sizeof(myp_ssl_request) == 16 && sizeof(myp_attribute) == 32 && sizeof(myp_bulk_rule) == 16);
+    CHECK(sizeof(myp_change) == 56 && sizeof(myp_login) == 112 && sizeof(myp_change_user) == 96 && sizeof(myp_ssl_request) == 16 && sizeof(myp_attribute) == 32 && sizeof(myp_bulk_rule) == 16);
     CHECK(sizeof(myp_register_replica) == 72 && sizeof(myp_interval) == 16 && sizeof(myp_sid) == 72 && sizeof(myp_ssl_request) == 16);
-    CHECK(sizeof(myp_server_version) == 6 && sizeof(myp_extended_column) == 128 && sizeof(myp_column_attribute) == 24 && sizeof(myp_stream_packet) == 24 && sizeof(myp_table_dump) == 40 && sizeof(myp_semi_sync_ack) == 24 && sizeof(myp_command) == 56 && sizeof(myp_bulk_head) == 24 && sizeof(myp_query_attribute) == 64);
-    CHECK(sizeof(myp_long_data) == 24 && sizeof(myp_execution_head) == 16 && sizeof(myp_param) == 3 && sizeof(myp_dump) == 32 && sizeof(myp_gtid_dump) == 64 && sizeof(myp_sid_places) == 56 && sizeof(myp_execution) == 16 && sizeof(myp_conversation) == 32 && sizeof(myp_packet) == 16 && sizeof(myp_frame) == 24);
+    CHECK(sizeof(myp_server_version) == 6 && sizeof(myp_extended_column) == 128 && sizeof(myp_field_list_column) == 152 && sizeof(myp_column_attribute) == 24 && sizeof(myp_stream_packet) == 24 && sizeof(myp_table_dump) == 40 && sizeof(myp_semi_sync_ack) == 24 && sizeof(myp_command) == 56 && sizeof(myp_bulk_head) == 24 && sizeof(myp_query_attribute) == 64);
+    CHECK(sizeof(myp_long_data) == 24 && sizeof(myp_execution_head) == 24 && sizeof(myp_param) == 3 && sizeof(myp_dump) == 32 && sizeof(myp_gtid_dump) == 64 && sizeof(myp_sid_places) == 56 && sizeof(myp_execution) == 24 && sizeof(myp_conversation) == 32 && sizeof(myp_packet) == 16 && sizeof(myp_frame) == 24);
     headers();
     replies();
     conversations();

@@ -19,10 +19,17 @@ static void executions(void)
     CHECK(myp_write_execution(1, v, 6, out, sizeof out, &n, &as_long_data) == MYP_INVALID_INPUT && n == 0 && as_long_data == 7 && out[0] == 7);
     v[2].number = 2, v[4].days = 65536;
     CHECK(myp_write_execution(1, v, 6, out, sizeof out, &n, &as_long_data) == MYP_INVALID_INPUT);
-    v[4].days = 0, v[5].kind = 8;
+    v[4].days = 0, v[5].kind = 9;
     CHECK(myp_write_execution(1, v, 6, out, sizeof out, &n, &as_long_data) == MYP_INVALID_INPUT && out[0] == 7);
     v[0].bytes.data = huge, v[0].bytes.len = sizeof huge;
     CHECK(myp_write_execution(1, v, 1, out, sizeof out, &n, &as_long_data) == MYP_OK && as_long_data == 1 && is_hex(out, n, "170100000000010000000001fd00"));
+}
+
+static myp_typed_value typed(myp_value value, uint8_t column_type)
+{
+    myp_typed_value v = MYP_TYPED_VALUE_INIT;
+    v.value = value, v.column_type = column_type;
+    return v;
 }
 
 /* The example of the protocol's page on COM_STMT_EXECUTE is a VARCHAR that is "foo". */
@@ -30,26 +37,46 @@ static void typed_executions(void)
 {
     uint8_t out[64], as_long_data = 7;
     size_t n = 9;
-    static const myp_column_type varchar = { MYP_TYPE_VARCHAR, 0 }, of[] = { { MYP_TYPE_TINY, 0 }, { MYP_TYPE_SHORT, 1 }, { MYP_TYPE_LONG, 0 }, { MYP_TYPE_BLOB, 0 } };
-    myp_value foo = myp_text("foo", 3), v[4] = { myp_int(-1), MYP_VALUE_INIT, myp_int(-2), MYP_VALUE_INIT };
-    v[1].kind = MYP_UINT, v[1].number = 65535;
-    CHECK(myp_write_execution_with_types(1, MYP_CURSOR_NONE, 1, &varchar, 1, &foo, 1, out, sizeof out, &n, &as_long_data) == MYP_OK && as_long_data == 0 && is_hex(out, n, "17010000000001000000" "00" "01" "0f00" "03666f6f"));
-    CHECK(myp_write_execution_with_types(1, MYP_CURSOR_NONE, 0, &varchar, 1, &foo, 1, out, sizeof out, &n, &as_long_data) == MYP_OK && is_hex(out, n, "17010000000001000000" "00" "00" "03666f6f"));
-    CHECK(myp_write_execution_with_types(5, MYP_CURSOR_READ_ONLY, 9, of, 4, v, 4, out, sizeof out, &n, &as_long_data) == MYP_OK && is_hex(out, n, "17050000000101000000" "08" "01" "010002800300fc00" "ff" "ffff" "feffffff"));
-    CHECK(myp_write_execution_with_types(5, MYP_CURSOR_FOR_UPDATE, 0, of, 4, v, 4, out, sizeof out, &n, &as_long_data) == MYP_OK && is_hex(out, n, "17050000000201000000" "08" "00" "ff" "ffff" "feffffff"));
-    CHECK(myp_write_execution_with_types(5, MYP_CURSOR_SCROLLABLE, 1, NULL, 0, NULL, 0, out, sizeof out, &n, &as_long_data) == MYP_OK && is_hex(out, n, "17050000000401000000"));
-    CHECK(myp_write_execution_with_types(1, 0, 1, &varchar, 1, &foo, 1, out, 17, &n, &as_long_data) == MYP_BUFFER_TOO_SMALL && n == 18 && as_long_data == 0);
-    out[0] = 7, as_long_data = 7;
-    CHECK(myp_write_execution_with_types(1, 3, 1, &varchar, 1, &foo, 1, out, sizeof out, &n, &as_long_data) == MYP_INVALID_INPUT && n == 0 && out[0] == 7 && as_long_data == 7);
-    CHECK(myp_write_execution_with_types(1, 0, 1, of, 4, v, 3, out, sizeof out, &n, &as_long_data) == MYP_INVALID_INPUT && n == 0 && out[0] == 7);
-    v[0].number = UINT64_C(128);
-    CHECK(myp_write_execution_with_types(1, 0, 1, of, 4, v, 4, out, sizeof out, &n, &as_long_data) == MYP_INVALID_INPUT && out[0] == 7);
-    v[0] = foo;
-    CHECK(myp_write_execution_with_types(1, 0, 0, of, 4, v, 4, out, sizeof out, &n, &as_long_data) == MYP_INVALID_INPUT && out[0] == 7);
-    v[0].kind = 8;
-    CHECK(myp_write_execution_with_types(1, 0, 1, of, 4, v, 4, out, sizeof out, &n, &as_long_data) == MYP_INVALID_INPUT && out[0] == 7 && as_long_data == 7);
-    v[0] = myp_int(1), v[3].kind = MYP_BYTES, v[3].bytes.data = huge, v[3].bytes.len = sizeof huge;
-    CHECK(myp_write_execution_with_types(5, 0, 1, of, 4, v, 4, out, sizeof out, &n, &as_long_data) == MYP_OK && as_long_data == 1 && is_hex(out, n, "17050000000001000000" "00" "01" "010002800300fc00" "01" "ffff" "feffffff"));
+    myp_execution_head h = MYP_EXECUTION_HEAD_INIT;
+    myp_typed_value foo = typed(myp_text("foo", 3), MYP_TYPE_VARCHAR), v[4] = { typed(myp_int(-1), MYP_TYPE_TINY), typed(myp_int(65535), MYP_TYPE_SHORT), typed(myp_int(-2), MYP_TYPE_LONG), typed(myp_null(), MYP_TYPE_BLOB) };
+    v[1].value.kind = MYP_UINT, v[1].is_unsigned = 1;
+    h.statement_id = 1;
+    CHECK(myp_write_execution_with_types(&h, 0, 1, &foo, 1, NULL, 0, out, sizeof out, &n, &as_long_data) == MYP_OK && as_long_data == 0 && is_hex(out, n, "17010000000001000000" "00" "01" "0f00" "03666f6f"));
+    CHECK(myp_write_execution_with_types(&h, 0, 0, &foo, 1, NULL, 0, out, sizeof out, &n, &as_long_data) == MYP_OK && is_hex(out, n, "17010000000001000000" "00" "00" "03666f6f"));
+    CHECK(myp_write_execution_with_types(&h, 0, 1, &foo, 1, NULL, 0, out, 17, &n, &as_long_data) == MYP_BUFFER_TOO_SMALL && n == 18 && as_long_data == 0);
+    h.statement_id = 5, h.flags = MYP_CURSOR_READ_ONLY;
+    CHECK(myp_write_execution_with_types(&h, 0, 9, v, 4, NULL, 0, out, sizeof out, &n, &as_long_data) == MYP_OK && is_hex(out, n, "17050000000101000000" "08" "01" "010002800300fc00" "ff" "ffff" "feffffff"));
+    h.flags = MYP_CURSOR_FOR_UPDATE, h.iteration_count = 7;
+    CHECK(myp_write_execution_with_types(&h, 0, 0, v, 4, NULL, 0, out, sizeof out, &n, &as_long_data) == MYP_OK && is_hex(out, n, "17050000000207000000" "08" "00" "ff" "ffff" "feffffff"));
+    h.flags = MYP_CURSOR_SCROLLABLE, h.iteration_count = 1;
+    CHECK(myp_write_execution_with_types(&h, 0, 1, NULL, 0, NULL, 0, out, sizeof out, &n, &as_long_data) == MYP_OK && is_hex(out, n, "17050000000401000000"));
+    h.flags = 0, out[0] = 7, as_long_data = 7;
+    v[0].value.number = UINT64_C(128);
+    CHECK(myp_write_execution_with_types(&h, 0, 1, v, 4, NULL, 0, out, sizeof out, &n, &as_long_data) == MYP_INVALID_INPUT && n == 0 && out[0] == 7 && as_long_data == 7);
+    v[0].value = foo.value;
+    CHECK(myp_write_execution_with_types(&h, 0, 0, v, 4, NULL, 0, out, sizeof out, &n, &as_long_data) == MYP_INVALID_INPUT && out[0] == 7);
+    v[0].value.kind = 9;
+    CHECK(myp_write_execution_with_types(&h, 0, 1, v, 4, NULL, 0, out, sizeof out, &n, &as_long_data) == MYP_INVALID_INPUT && out[0] == 7 && as_long_data == 7);
+    v[0].value = myp_int(1), v[3].value.kind = MYP_BYTES, v[3].value.bytes.data = huge, v[3].value.bytes.len = sizeof huge;
+    CHECK(myp_write_execution_with_types(&h, 0, 1, v, 4, NULL, 0, out, sizeof out, &n, &as_long_data) == MYP_OK && as_long_data == 1 && is_hex(out, n, "17050000000001000000" "00" "01" "010002800300fc00" "01" "ffff" "feffffff"));
+}
+
+/* Executions of MySQL's own clients (executions.txt), written again. */
+static void executions_again(void)
+{
+    uint8_t out[64], as_long_data = 7;
+    size_t n = 9;
+    myp_execution_head h = { 10, 1, 1, MYP_PARAMETER_COUNT_AVAILABLE };
+    myp_typed_value v[2] = { typed(myp_int(7), MYP_TYPE_LONGLONG), typed(myp_int(7), MYP_TYPE_LONGLONG) }, a = typed(myp_text("z", 1), MYP_TYPE_STRING);
+    a.name.data = (const uint8_t *)"a", a.name.len = 1;
+    CHECK(myp_write_execution_with_types(&h, MYP_CLIENT_QUERY_ATTRIBUTES, 1, v, 2, &a, 1, out, sizeof out, &n, &as_long_data) == MYP_OK && is_hex(out, n, "17010000000801000000030001080000080000fe00016107000000000000000700000000000000017a"));
+    CHECK(myp_write_execution_with_types(&h, MYP_CLIENT_QUERY_ATTRIBUTES, 0, v, 2, NULL, 0, out, sizeof out, &n, &as_long_data) == MYP_OK && is_hex(out, n, "1701000000080100000002000007000000000000000700000000000000"));
+    CHECK(myp_write_execution_with_types(&h, MYP_CLIENT_QUERY_ATTRIBUTES, 1, NULL, 0, NULL, 0, out, sizeof out, &n, &as_long_data) == MYP_OK && is_hex(out, n, "1701000000080100000000"));
+    CHECK(myp_write_execution_with_types(&h, MYP_CLIENT_QUERY_ATTRIBUTES, 1, NULL, 0, &a, 1, out, sizeof out, &n, &as_long_data) == MYP_OK && is_hex(out, n, "17010000000801000000010001fe000161017a"));
+    a.value = myp_int(1), out[0] = 7;
+    CHECK(myp_write_execution_with_types(&h, MYP_CLIENT_QUERY_ATTRIBUTES, 1, v, 2, &a, 1, out, sizeof out, &n, &as_long_data) == MYP_INVALID_INPUT && n == 0 && out[0] == 7);
+    h.statement_id = 4, v[0] = typed(myp_int(0), MYP_TYPE_TINY), v[1].column_type = MYP_TYPE_STRING, v[1].is_sent_ahead = 1;
+    CHECK(myp_write_execution_with_types(&h, MYP_CLIENT_QUERY_ATTRIBUTES, 1, v, 2, NULL, 0, out, sizeof out, &n, &as_long_data) == MYP_OK && is_hex(out, n, "17040000000801000000020001010000fe000000"));
 }
 
 static void cursors(void)
@@ -318,6 +345,7 @@ void client_checks(void)
 {
     executions();
     typed_executions();
+    executions_again();
     cursors();
     query_attributes();
     bulk();

@@ -222,17 +222,39 @@ static void executions(void)
     myp_value v[2] = { MYP_VALUE_INIT, MYP_VALUE_INIT };
     myp_column_type t[2] = { { 0, 0 }, { 0, 0 } };
     myp_execution e = MYP_EXECUTION_INIT;
-    CHECK(myp_read_execution(p, len, params, 2, v, 1, t, 2, &e) == MYP_BUFFER_TOO_SMALL && myp_read_execution(p, len, params, 2, v, 2, t, 1, &e) == MYP_BUFFER_TOO_SMALL && e.statement_id == 0);
-    CHECK(myp_read_execution(p, len, params, 2, v, 2, t, 2, &e) == MYP_OK && e.statement_id == 1 && e.flags == 0 && e.sends_types == 1 && e.used == len);
+    CHECK(myp_read_execution(p, len, 0, params, 2, v, 1, t, 2, &e) == MYP_BUFFER_TOO_SMALL && myp_read_execution(p, len, 0, params, 2, v, 2, t, 1, &e) == MYP_BUFFER_TOO_SMALL && e.statement_id == 0);
+    CHECK(myp_read_execution(p, len, 0, params, 2, v, 2, t, 2, &e) == MYP_OK && e.statement_id == 1 && e.flags == 0 && e.sends_types == 1 && e.used == len);
     CHECK(v[0].kind == MYP_NULL && v[1].kind == MYP_INT && v[1].number == 1 && t[0].column_type == MYP_TYPE_NULL && t[1].column_type == MYP_TYPE_LONGLONG && t[1].is_unsigned == 0);
-    CHECK(myp_read_execution(p, len - 1, params, 2, v, 2, t, 2, &e) == MYP_UNEXPECTED_EOF && e.used == len);
+    CHECK(myp_read_execution(p, len - 1, 0, params, 2, v, 2, t, 2, &e) == MYP_UNEXPECTED_EOF && e.used == len);
     p[11] = 0, len = 12; /* no types are sent: those of an earlier execution are taken; the second was sent ahead */
     memcpy(p + len, "\x02hi", 3);
     p[10] = 0, params[0] = (myp_param){ MYP_TYPE_VAR_STRING, 0, 0 }, params[1] = (myp_param){ MYP_TYPE_BLOB, 0, 1 };
-    CHECK(myp_read_execution(p, len + 3, params, 2, v, 2, t, 2, &e) == MYP_OK && e.sends_types == 0 && e.used == 15 && v[0].bytes.data == p + 13 && v[0].bytes.len == 2 && v[1].kind == MYP_NULL && t[1].column_type == MYP_TYPE_BLOB);
-    params[0].column_type = 100; /* no type */
-    CHECK(myp_read_execution(p, len + 3, params, 2, v, 2, t, 2, &e) == MYP_INVALID_DATA && e.used == 15);
-    CHECK(myp_read_execution(p, 10, params, 0, v, 0, t, 0, &e) == MYP_OK && e.used == 10 && e.sends_types == 0);
+    CHECK(myp_read_execution(p, len + 3, 0, params, 2, v, 2, t, 2, &e) == MYP_OK && e.sends_types == 0 && e.used == 15 && v[0].bytes.data == p + 13 && v[0].bytes.len == 2 && v[1].kind == MYP_NULL && t[1].column_type == MYP_TYPE_BLOB);
+    params[0].column_type = 100; /* no type: as of all other types the value is a string (get_ps_param_len of MySQL) */
+    CHECK(myp_read_execution(p, len + 3, 0, params, 2, v, 2, t, 2, &e) == MYP_OK && e.used == 15 && v[0].bytes.data == p + 13 && v[0].bytes.len == 2);
+    CHECK(myp_read_execution(p, 10, 0, params, 0, v, 0, t, 0, &e) == MYP_OK && e.used == 10 && e.sends_types == 0 && e.attributes == 0);
+}
+
+static void executions_with_attributes(void)
+{
+    static const uint32_t flags = MYP_CLIENT_QUERY_ATTRIBUTES;
+    uint8_t p[64];
+    size_t len = hex(p, "17010000000801000000030001080000080000fe00016107000000000000000700000000000000017a"); /* executions.txt: 7, 7 and the attribute a */
+    myp_param params[2] = { { 0, 0, 0 }, { 0, 0, 0 } };
+    myp_value v[2] = { MYP_VALUE_INIT, MYP_VALUE_INIT };
+    myp_column_type t[2] = { { 0, 0 }, { 0, 0 } };
+    myp_execution e = MYP_EXECUTION_INIT;
+    CHECK(myp_read_execution(p, len, flags, params, 2, v, 2, t, 2, &e) == MYP_OK && e.flags == MYP_PARAMETER_COUNT_AVAILABLE && e.attributes == 1 && e.used == len);
+    CHECK(v[0].number == 7 && v[1].number == 7 && t[1].column_type == MYP_TYPE_LONGLONG);
+    myp_query_attribute a = MYP_QUERY_ATTRIBUTE_INIT;
+    CHECK(myp_read_execution_attribute(p, len, flags, params, 2, 1, &a) == MYP_END && a.name.len == 0);
+    CHECK(myp_read_execution_attribute(p, len, flags, params, 2, 0, &a) == MYP_OK && a.name.data == p + 22 && a.name.len == 1 && a.column_type == MYP_TYPE_STRING && a.value.kind == MYP_BYTES && a.value.bytes.data == p + len - 1);
+    CHECK(myp_read_execution_attribute(p, len - 1, flags, params, 2, 0, &a) == MYP_UNEXPECTED_EOF && myp_read_execution(p, len - 1, flags, params, 2, v, 2, t, 2, &e) == MYP_UNEXPECTED_EOF);
+    p[10] = 1; /* fewer than the statement has */
+    CHECK(myp_read_execution(p, len, flags, params, 2, v, 2, t, 2, &e) == MYP_INVALID_DATA && e.used == len);
+    len = hex(p, "170100000008010000000200010c00000800000ddb07020304050640e20100f2020700000000000000"); /* a date with an offset of 754 minutes */
+    CHECK(myp_read_execution(p, len, flags, params, 2, v, 2, t, 2, &e) == MYP_OK && e.attributes == 0 && v[0].kind == MYP_DATE_WITH_OFFSET);
+    CHECK(v[0].days == 2011 && v[0].month == 2 && v[0].day == 3 && v[0].hour == 4 && v[0].minute == 5 && v[0].second == 6 && v[0].micros == 123456 && (int64_t)v[0].number == 754);
 }
 
 static void bulks(void)
@@ -390,6 +412,7 @@ void replica_checks(void)
     asked();
     served();
     executions();
+    executions_with_attributes();
     bulks();
     bulk_rows();
     bulk_again();

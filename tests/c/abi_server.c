@@ -87,11 +87,11 @@ static void written_columns(void)
     CHECK(myp_read_column_count(sent, 2, MYP_MARIADB_CLIENT_CACHE_METADATA, &count) == MYP_OK && count.count == 2 && count.metadata_follows == 0);
     REFUSES(myp_write_column_count(&c, 0, out, size, &n));
     uint32_t optional = MYP_CLIENT_OPTIONAL_RESULTSET_METADATA;
-    WRITES("\x00\x02", 2, myp_write_column_count_with_metadata(&c, optional, 0, out, size, &n));
+    WRITES("\x02\x00", 2, myp_write_column_count_with_metadata(&c, optional, 0, out, size, &n));
     REFUSES(myp_write_column_count_with_metadata(&c, ~optional, 0, out, size, &n));
     c.metadata_follows = 1;
-    WRITES("\x01\x02", 2, myp_write_column_count_with_metadata(&c, optional, 0, out, size, &n));
-    WRITES("\x01\x02\x01", 3, myp_write_column_count_with_metadata(&c, optional, MYP_MARIADB_CLIENT_CACHE_METADATA, out, size, &n));
+    WRITES("\x02\x01", 2, myp_write_column_count_with_metadata(&c, optional, 0, out, size, &n));
+    WRITES("\x02\x01", 2, myp_write_column_count_with_metadata(&c, optional, MYP_MARIADB_CLIENT_CACHE_METADATA, out, size, &n));
     WRITES("\x02", 1, myp_write_column_count_with_metadata(&c, ~optional, 0, out, size, &n));
     static const uint8_t column[] = "\003def\004test\003tbl\003org\001a\001b\x0c\x3f\0\x0b\0\0\0\x08\x21\0\0\0\0";
     myp_column d = { TEXT("test"), TEXT("tbl"), TEXT("org"), TEXT("a"), TEXT("b"), 11, 63, 33, MYP_TYPE_LONGLONG, 0, 0 }, read = MYP_COLUMN_INIT;
@@ -105,6 +105,14 @@ static void written_columns(void)
     myp_column_attribute format = { TEXT("a"), MYP_ATTRIBUTE_FORMAT_NAME }, type = { TEXT("uuid"), MYP_ATTRIBUTE_TYPE_NAME };
     WRITES(extended + 16, 6, myp_write_column_attribute(&type, out, size, &n));
     WRITES(extended + 22, 3, myp_write_column_attribute(&format, out, size, &n));
+    uint8_t field[64]; /* replies.txt: columns that answer COM_FIELD_LIST */
+    size_t whole = hex(field, "03646566026839056b696e6473056b696e64730269640269640c3f000b0000000303420000000130");
+    myp_field_list_column fl = { { { TEXT("h9"), TEXT("kinds"), TEXT("kinds"), TEXT("id"), TEXT("id"), 11, 63, 0x4203, MYP_TYPE_LONG, 0, 0 }, { NULL, 0 }, 0 }, TEXT("0"), 1 };
+    WRITES(field, whole, myp_write_field_list_column(&fl, out, size, &n));
+    field[whole - 2] = 0xfb, fl.has_default_value = 0;
+    WRITES(field, whole - 1, myp_write_field_list_column(&fl, out, size, &n));
+    fl.column.column.column_type = 32;
+    REFUSES(myp_write_field_list_column(&fl, out, size, &n));
     x.column = d, x.has_metadata = 0;
     WRITES(column, sizeof column - 1, myp_write_extended_column(&x, out, size, &n));
     x.column.column_type = 32;

@@ -11,7 +11,7 @@ from pathlib import Path
 
 TOP = Path(__file__).resolve().parent.parent.parent
 sys.path[:0] = [str(TOP / "tests/probe"), str(TOP / "tests"), str(TOP / "examples/python")]
-from conversations import FOLDER, changed, packets_of, pieces_of, shortened
+from conversations import FOLDER, changed, recorded, shortened
 from lines import summary
 from mysql_packets import Library
 from reference_decoder.conversation import CLIENT, Refused, Session
@@ -66,6 +66,8 @@ def first_difference(packets, sent):
             ours = Conversation(packets, session)
         if kind is None:
             break
+        if packet.begins_tls:
+            session.decipher()
     if ours and ours.is_at_rest() != session.is_at_rest():
         return f"packet {at}: at rest is {ours.is_at_rest()}"
     return None
@@ -81,13 +83,15 @@ def alone(packets):
         except Refused:
             break
         kept.append(packet)
+        if packet.begins_tls:
+            session.decipher()
     return kept
 
 
 def main(library):
     packets, passed, failed = Library(library=library, header=TOP / "include/mysql_packets.h"), 0, []
     for path in sorted(FOLDER.glob("*.xz")):
-        whole = packets_of(pieces_of(path))
+        whole = recorded(path)
         front = alone(shortened(whole))
         for name, sent in [("whole", whole), *((f"change {n}", it) for n, it in enumerate(changed(front, random.Random(path.name))))]:
             wrong = first_difference(packets, sent)

@@ -62,6 +62,11 @@ static void write_extended(const uint8_t *p, size_t len, uint32_t caps)
             && SAME(y.column.name, x.column.name) && SAME(y.column.org_name, x.column.org_name) && y.column.column_length == x.column.column_length
             && y.column.character_set == x.column.character_set && y.column.flags == x.column.flags && y.column.column_type == x.column.column_type
             && y.column.decimals == x.column.decimals && y.has_metadata == x.has_metadata && SAME(y.metadata, x.metadata) && y.column.used == n);
+    myp_field_list_column f = MYP_FIELD_LIST_COLUMN_INIT, g = MYP_FIELD_LIST_COLUMN_INIT;
+    if (!myp_read_field_list_column(p, len, caps, &f))
+        must("field list column, written", !myp_write_field_list_column(&f, sent, sizeof sent, &n) && !myp_read_field_list_column(sent, n, caps, &g)
+            && SAME(g.column.column.name, f.column.column.name) && SAME(g.column.metadata, f.column.metadata)
+            && SAME(g.default_value, f.default_value) && g.has_default_value == f.has_default_value && g.column.column.used == n);
     myp_bytes rest = { p, len };
     myp_column_attribute t = MYP_COLUMN_ATTRIBUTE_INIT;
     if (len && !myp_next_column_attribute(&rest, &t)) {

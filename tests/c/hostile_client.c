@@ -64,6 +64,16 @@ static void read_extended(const uint8_t *p, size_t len)
     attributes((myp_bytes){ p, len });
 }
 
+static void read_field_list(const uint8_t *p, size_t len)
+{
+    myp_field_list_column f;
+    memset(&f, 7, sizeof f), f.column.column.schema = f.column.column.table = f.column.column.org_table = nothing;
+    f.column.column.name = f.column.column.org_name = f.column.metadata = f.default_value = nothing;
+    CALL(f, myp_read_field_list_column(p, len, (uint32_t)varied(), &f));
+    place("schema", f.column.column.schema), place("name", f.column.column.name), place("metadata", f.column.metadata);
+    place("default_value", f.default_value);
+}
+
 static void read_stream(const uint8_t *p, size_t len)
 {
     myp_stream_packet s;
@@ -76,6 +86,7 @@ void read_client(const uint8_t *p, size_t len)
 {
     read_keys(p, len);
     read_extended(p, len);
+    read_field_list(p, len);
     read_stream(p, len);
     read_changes(p, len);
 }

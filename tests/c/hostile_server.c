@@ -75,9 +75,16 @@ static void read_served(const uint8_t *p, size_t len)
         v[i] = no_value, params[i].column_type = kinds[varied() % 6].column_type, params[i].is_unsigned = varied() % 2, params[i].is_sent_ahead = varied() % 4 == 0;
     myp_execution e;
     memset(&e, 7, sizeof e);
-    CALL(e, myp_read_execution(p, len, params, varied() % 7, v, 6, t, 6, &e));
+    uint32_t attributes = varied() % 2 ? MYP_CLIENT_QUERY_ATTRIBUTES : 0;
+    size_t params_there = varied() % 7;
+    CALL(e, myp_read_execution(p, len, attributes, params, params_there, v, 6, t, 6, &e));
     for (size_t i = 0; i < 6; i++)
         place("parameter", v[i].bytes);
+    myp_query_attribute attribute;
+    memset(&attribute, 7, sizeof attribute), attribute.name = nothing, attribute.value = no_value;
+    if (e.attributes)
+        CALL(attribute, myp_read_execution_attribute(p, len, attributes, params, params_there, 0, &attribute));
+    place("attribute", attribute.name), place("attribute", attribute.value.bytes);
     struct { myp_bytes rest; } k = { b.rows };
     size_t columns = varied() % 7;
     uint8_t given[6] = { 0 };

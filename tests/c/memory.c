@@ -69,6 +69,11 @@ static void results(void)
     NONE(myp_write_extended_column(&x, out, sizeof out, &n));
     static const uint8_t extended[] = "\3def\0\0\0\1a\0\3\1\1a\x0c\x3f\0\x0b\0\0\0\x08\x21\0\0\0\0";
     NONE((code = myp_read_extended_column(extended, sizeof extended - 1, MYP_MARIADB_CLIENT_EXTENDED_METADATA, &found), n = found.column.used, code));
+    static const myp_field_list_column f = { { { TEXT("test"), TEXT("tbl"), TEXT("org"), TEXT("a"), TEXT("b"), 11, 63, 33, MYP_TYPE_LONGLONG, 0, 0 }, TEXT("\1\1a"), 1 }, TEXT("0"), 1 };
+    myp_field_list_column listed = MYP_FIELD_LIST_COLUMN_INIT;
+    NONE(myp_write_field_list_column(&f, out, sizeof out, &n));
+    static const uint8_t field[] = "\3def\0\0\0\1a\0\x0c\x3f\0\x0b\0\0\0\x08\x21\0\0\0\0\1" "0";
+    NONE((code = myp_read_field_list_column(field, sizeof field - 1, 0, &listed), n = listed.column.column.used, code));
     NONE(myp_write_column_attribute(&attribute, out, sizeof out, &n));
     NONE(myp_write_text_row(v, 2, out, sizeof out, &n));
     NONE(myp_write_binary_row(types, 2, v, 2, out, sizeof out, &n));
@@ -119,10 +124,15 @@ static void requests(void)
     myp_ssl_request r = MYP_SSL_REQUEST_INIT;
     myp_register_replica replica = MYP_REGISTER_REPLICA_INIT;
     NONE(myp_write_execution(1, v, 4, out, sizeof out, &n, &as_long_data));
-    static const myp_column_type four[] = { { MYP_TYPE_TINY, 0 }, { MYP_TYPE_STRING, 0 }, { MYP_TYPE_LONG, 1 }, { MYP_TYPE_BLOB, 0 } };
+    static const uint8_t four[] = { MYP_TYPE_TINY, MYP_TYPE_STRING, MYP_TYPE_LONG, MYP_TYPE_BLOB };
+    static const myp_execution_head head = MYP_EXECUTION_HEAD_INIT;
+    static const myp_typed_value no_value = MYP_TYPED_VALUE_INIT;
+    myp_typed_value typed[4];
+    for (size_t i = 0; i < 4; i++)
+        typed[i] = no_value, typed[i].value = v[i], typed[i].column_type = four[i];
     const myp_query_attribute named[2] = { { text, v[0], 0, 0 }, { text, v[1], 0, 0 } };
     NONE(myp_write_execution_with_cursor(1, MYP_CURSOR_READ_ONLY, v, 4, out, sizeof out, &n, &as_long_data));
-    NONE(myp_write_execution_with_types(1, MYP_CURSOR_NONE, 1, four, 4, v, 4, out, sizeof out, &n, &as_long_data));
+    NONE(myp_write_execution_with_types(&head, MYP_CLIENT_QUERY_ATTRIBUTES, 1, typed, 4, typed, 4, out, sizeof out, &n, &as_long_data));
     NONE(myp_write_execution_with_attributes(1, MYP_CURSOR_NONE, v, 4, named, 2, out, sizeof out, &n, &as_long_data));
     NONE(myp_write_query_with_attributes(text.data, text.len, named, 2, out, sizeof out, &n));
     NONE(myp_write_bulk(1, 0, 1 << 20, types, 2, v, 4, out, sizeof out, &n, &rows));
@@ -159,7 +169,7 @@ static void requests(void)
     static const myp_param params[] = { { MYP_TYPE_LONGLONG, 0, 0 }, { MYP_TYPE_LONGLONG, 0, 0 } };
     myp_column_type found[2] = { { 0, 0 }, { 0, 0 } };
     myp_execution e = MYP_EXECUTION_INIT;
-    NONE((code = myp_read_execution(execution, sizeof execution, params, 2, v, 4, found, 2, &e), n = e.used, code));
+    NONE((code = myp_read_execution(execution, sizeof execution, 0, params, 2, v, 4, found, 2, &e), n = e.used, code));
 }
 
 int main(void)

@@ -45,13 +45,14 @@ STRUCTS = {
     "semi_sync_ack": ("myp_semi_sync_ack", "myp_read_semi_sync_ack", "position file_name=filename"),
     "column_count": ("myp_column_count", "myp_read_column_count_with_metadata", "count"),
     "extended_column": ("myp_extended_column", "myp_read_extended_column", "metadata?"),
+    "field_list_column": ("myp_field_list_column", "myp_read_field_list_column", ""),
     "stream": ("myp_stream_packet", "myp_read_stream_packet", ""),
     "command": ("myp_command", "myp_read_command", ""),
     "com_bulk_ref": ("myp_bulk_head", "myp_read_bulk_head", "statement_id=stmt_id flags=bulk_flags rows"),
     "com_long_data": ("myp_long_data", "myp_read_long_data", "statement_id=stmt_id param_index content=data_ref"),
 }
 # what else a call is passed, of the words of the context
-GIVEN = {**dict.fromkeys(("err", "extended_column", "command"), lambda caps: [int(caps) & 0xFFFFFFFF]),
+GIVEN = {**dict.fromkeys(("err", "extended_column", "field_list_column", "command"), lambda caps: [int(caps) & 0xFFFFFFFF]),
          "column_count": lambda caps, mariadb: [int(caps) & 0xFFFFFFFF, int(mariadb) & 0xFFFFFFFF],
          "stream": lambda agreed: [int(agreed == "semi_sync")]}
 KINDS = {"ok": 0, "ok_end": 1, "ok_eof": 2, "ok_stream": 3}
@@ -84,7 +85,8 @@ def login_words(packets, out):
     while packets.next("myp_next_attribute", rest, name, value):
         texts[lossy(packets.text(name))] = lossy(packets.text(value))
     words = [f"db_name={x(packets.text(out.database)) if out.has_database else 'none'}",
-             plugin(packets.text(out.auth_plugin_name)) if out.has_auth_plugin_name else "plugin=none"]
+             plugin(packets.text(out.auth_plugin_name)) if out.has_auth_plugin_name else "plugin=none",
+             f"zstd_level={out.zstd_level if out.has_zstd_level else 'none'}"]
     if not out.has_attributes:
         return words + ["attributes=none"]
     return words + [f"attributes={len(texts)}"] + [word for k, v in texts.items() for word in (f"key={k}", f"value={v}")]
@@ -117,6 +119,12 @@ def extended_words(packets, out):
         words += [f"kind={ {0: 'TypeName', 1: 'FormatName'}.get(attribute.kind, attribute.kind)}", f"text={x(packets.text(attribute.text))}"]
     faults = {getattr(packets, code): fault for fault, code in CODES.items()}
     return words if code == packets.MYP_END else [*words, f"attribute={faults[code]}"]
+
+
+def field_list_words(packets, out):
+    """The column of one that answers COM_FIELD_LIST, its metadata, and its default value."""
+    words = [field_word(packets, out.column.column, it) for it in COLUMN.split()] + [field_word(packets, out.column, "metadata?")]
+    return [*words, f"default_value={x(packets.text(out.default_value)) if out.has_default_value else 'none'}"]
 
 
 def stream_words(packets, out, is_semi_sync):
@@ -155,12 +163,14 @@ def attribute_words(packets, payload):
 
 def value_word(packets, value):
     """A value as a word of an answer."""
-    kinds = [getattr(packets, f"MYP_{it}") for it in "NULL BYTES INT UINT FLOAT DOUBLE DATE TIME".split()]
+    kinds = [getattr(packets, f"MYP_{it}") for it in "NULL BYTES INT UINT FLOAT DOUBLE DATE TIME DATE_WITH_OFFSET".split()]
     match kinds.index(value.kind):
         case 0: return "N"
         case 1: return x(packets.text(value.bytes))
         case 2: return f"i{ctypes.c_int64(value.number).value}"
-        case 6: return f"D{value.days}-{value.month}-{value.day}-{value.hour}-{value.minute}-{value.second}-{value.micros}"
+        case 6 | 8 as date:
+            offset = f"{ctypes.c_int64(value.number).value:+}" if date == 8 else ""
+            return f"D{value.days}-{value.month}-{value.day}-{value.hour}-{value.minute}-{value.second}-{value.micros}{offset}"
         case 7: return f"T{value.is_negative}-{value.days}-{value.hour}-{value.minute}-{value.second}-{value.micros}"
         case it: return f"{'ufd'[it - 3]}{value.number}"
 
@@ -184,8 +194,8 @@ class Calls:
         payload = self.packets.bytes(content)
         if word in ("row", "row_text"):
             return self.row(word, context, payload)
-        if word == "com_execute":
-            return self.execution(context, payload)
+        if word in ("com_execute", "com_execute_attributes"):
+            return self.execution(context, payload, self.packets.MYP_CLIENT_QUERY_ATTRIBUTES if word == "com_execute_attributes" else 0)
         if word in ("bulk", "bulk_rows"):
             return self.bulk(word, columns_of(context[0]), payload)
         if word in SINGLE:
@@ -208,10 +218,11 @@ class Calls:
         words += version_words(p, out.server_version) if word == "handshake" else []
         words += [f"metadata_follows={('no', 'yes')[out.metadata_follows]}"] if word == "column_count" else []
         words += extended_words(p, out) if word == "extended_column" else []
+        words += field_list_words(p, out) if word == "field_list_column" else []
         words += stream_words(p, out, *given) if word == "stream" else []
         words += command_words(p, out) if word == "command" else []
         words += attribute_words(p, payload) if word == "command" and out.code == p.MYP_COM_QUERY and given[0] & p.MYP_CLIENT_QUERY_ATTRIBUTES else []
-        used = out.column.used if word == "extended_column" else getattr(out, "used", None)
+        used = out.column.used if word == "extended_column" else out.column.column.used if word == "field_list_column" else getattr(out, "used", None)
         return code, words, used, self.outside(payload, places(p, out))
 
     def single(self, word, payload):
@@ -238,20 +249,34 @@ class Calls:
         found = list(values)[:len(columns)]
         return code, [value_word(p, it) for it in found], used.value, self.outside(payload, [it.bytes for it in found])
 
-    def execution(self, context, payload):
+    def execution(self, context, payload, capabilities):
         p, bound = self.packets, bound_of(context[0])
         count, out = len(bound), p.new("myp_execution")
         known = p.array("myp_param", [p.types["myp_param"](kind, int(bool(flags)), int(ahead)) for kind, flags, ahead in bound])
         values = p.array("myp_value", [p.new("myp_value") for _ in bound])
         types = p.array("myp_column_type", [p.new("myp_column_type") for _ in bound])
         before = bytes(out)
-        code = p.dll.myp_read_execution(payload.data, payload.len, known, count, values, count, types, count, ctypes.byref(out))
+        code = p.dll.myp_read_execution(payload.data, payload.len, capabilities, known, count, values, count, types, count, ctypes.byref(out))
         if code:
-            return code, [], None, "" if bytes(out) == before else "the struct is changed"
+            attribute = p.new("myp_query_attribute")
+            attribute_before = bytes(attribute)
+            again = p.dll.myp_read_execution_attribute(payload.data, payload.len, capabilities, known, count, 0, ctypes.byref(attribute))
+            is_kept = bytes(out) == before and again == code and bytes(attribute) == attribute_before
+            return code, [], None, "" if is_kept else "a struct is changed, or reading an attribute answers another code"
         words = [f"stmt_id={out.statement_id}", f"flags={out.flags}", f"types={'yes' if out.sends_types else 'no'}"]
         for (_, _, ahead), value, of in zip(bound, values, types):
             words.append(f"{of.column_type}-{128 * of.is_unsigned}={'ahead' if ahead else value_word(p, value)}")
-        return code, words, out.used, self.outside(payload, [it.bytes for it in list(values)[:count]])
+        spans = [it.bytes for it in list(values)[:count]]
+        # (a packet may have so many that reading each anew takes a while)
+        for place in range(min(out.attributes, 100)):
+            it = p.new("myp_query_attribute")
+            code = p.dll.myp_read_execution_attribute(payload.data, payload.len, capabilities, known, count, place, ctypes.byref(it))
+            if code:
+                return code, [], None, "an attribute is not read"
+            words += [f"name={x(p.text(it.name))}", f"{it.column_type}-{128 * it.is_unsigned}={value_word(p, it.value)}"]
+            spans += [it.name, it.value.bytes]
+        after = p.dll.myp_read_execution_attribute(payload.data, payload.len, capabilities, known, count, out.attributes, ctypes.byref(p.new("myp_query_attribute")))
+        return code, words, out.used, self.outside(payload, spans) if after == p.MYP_END else "there are more attributes"
 
     def bulk(self, word, columns, payload):
         """A bulk execution, of whose rows `bulk` reads the first one."""
@@ -286,6 +311,16 @@ class Calls:
         return ""
 
 
+def without_names(words, params):
+    """The words of an execution without the names of its parameters, which C has not."""
+    kept = []
+    for word in words:
+        if word.startswith("name=") and sum("-" in it.split("=")[0] for it in kept) < params:
+            continue
+        kept.append(word)
+    return kept
+
+
 def follow(words, wanted):
     """Whether these words stand among the others one after another."""
     return any(wanted[at : at + len(words)] == words for at in range(len(wanted)))
@@ -303,6 +338,10 @@ def wrong(packets, calls, describer_, request, content):
     if request.startswith(("com_execute", "command")):
         # (of a type's flags C has the one of unsigned numbers)
         wanted = [re.sub(r"^(\d+)-(\d+)=", lambda it: f"{it[1]}-{int(it[2]) & 128}=", word) for word in wanted]
+    if request.startswith("com_execute"):
+        wanted = without_names(wanted, len(bound_of(request.split(" ")[1])))
+    if request.startswith("response") and not any(it.startswith("zstd_level=") for it in wanted):
+        wanted = [*wanted, "zstd_level=none"]
     if request.startswith("gtid"):
         # (after the five fields of the dump, those of its sids in their order; the decoder has a text of the file's name more)
         wanted = [it for it in wanted if not it.startswith("filename_str=")]
@@ -316,14 +355,14 @@ def wrong(packets, calls, describer_, request, content):
         # (the versions stand together)
         is_same = set(words) <= {*wanted, *(f"{word[:-1]}none" for word in wanted if word.endswith("=x"))} and follow(words[10:], wanted)
     else:
-        # (what is absent and what is empty is one in C)
-        is_same = set(words) <= {*wanted, *(f"{word[:-1]}none" for word in wanted if word.endswith("=x")), "affected_rows=0"}
+        # (what is absent and what is empty is one in C, but for a default value)
+        is_same = set(words) <= {*wanted, *(f"{word[:-1]}none" for word in wanted if word.endswith("=x") and word != "default_value=x"), "affected_rows=0"}
     if not is_same:
         return f"{words}, the reference decoder: {wanted}"
     return "" if used is None or used == len(content) - right.left else f"{used} bytes are used"
 
 
-READ = {*STRUCTS, *SINGLE, "row", "row_text", "com_execute", "bulk", "bulk_rows"}
+READ = {*STRUCTS, *SINGLE, "row", "row_text", "com_execute", "com_execute_attributes", "bulk", "bulk_rows"}
 
 
 def rows_read():

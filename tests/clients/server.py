@@ -214,7 +214,7 @@ class Session(socketserver.BaseRequestHandler):
         values = p.array("myp_value", [p.new("myp_value") for _ in types])
         found = p.array("myp_column_type", [p.new("myp_column_type") for _ in types])
         out = p.new("myp_execution")
-        code = p.dll.myp_read_execution(packet.data, packet.len, p.array("myp_param", known), count, values, count, found, count, ctypes.byref(out))
+        code = p.dll.myp_read_execution(packet.data, packet.len, self.capabilities, p.array("myp_param", known), count, values, count, found, count, ctypes.byref(out))
         if code or out.used != len(payload):
             raise PacketError("myp_read_execution", code)
         self.server.executions.append(out.sends_types)

@@ -1,6 +1,6 @@
 #!/usr/bin/env python3
-"""Sessions with a MariaDB server, where one is installed: logins, both protocols, executions, bulk requests, tracking, a replica, and
-the recipes of crates/examples_driver.
+"""Sessions with a MariaDB server, and with MySQL 8.4 or 9, where they are installed: logins, both protocols, executions, bulk requests,
+attributes, metadata that is left out, cursors, tracking, replicas, and the recipes of crates/examples_driver.
 
 live.py [NAME ..]: the sessions of these names, else all. It starts a server of its own, on the loopback address. Each packet is
 read and written by the probes that rt ci leaves. The kinds of a session's packets, as this client knows them, are those that the
@@ -14,9 +14,11 @@ import time
 from pathlib import Path
 
 sys.path[:0] = [str(Path(__file__).resolve().parent), str(Path(__file__).resolve().parent.parent / "probe")]
+import mysql_server
 import server
 from conversations import other_kind, request
 from lines import answers, built
+from mysql import MysqlSessions
 from recipes import Recipes
 from wire import BULK_OPERATIONS, EXTENDED_METADATA, Connection, Probe, Refused, data
 
@@ -66,7 +68,7 @@ def is_same(text, word):
     return text == value or text.isdigit() and value.isdigit() and int(text) == int(value)
 
 
-class Sessions(Recipes):
+class Sessions(MysqlSessions, Recipes):
     def __init__(self, port):
         self.port, self.passed, self.failures = port, 0, []
         self.probes = Probe("connections"), Probe("replies"), Probe("statements")
@@ -262,17 +264,16 @@ class Sessions(Recipes):
         it.socket.close()
 
 
-def main(*names):
-    missing = server.missing()
-    if missing:
-        print(f"live: skipped, since {', '.join(missing)} is not installed (Debian: apt-get install mariadb-server)")
-        print("0 passed, 0 failed")
-        return 0
-    sessions = ("logins", "scrambles", "change_of_user", "greeting_error", "types", "extended_metadata", "executions", "bulk", "tracking", "local_infile", "replica",
-                "recipes")
-    with server.running() as port:
+MARIADB = ("logins", "scrambles", "change_of_user", "greeting_error", "types", "extended_metadata", "executions", "bulk", "tracking", "local_infile", "replica",
+           "recipes")
+MYSQL = ("mysql_logins", "mysql_recipes", "mysql_attributes", "mysql_metadata", "mysql_cursor", "mysql_types", "mysql_tracking", "mysql_dump")
+
+
+def play(running, names):
+    """Plays sessions with a server: how many passed, and what failed."""
+    with running() as port:
         it = Sessions(port)
-        for name in names or sessions:
+        for name in names:
             begun = time.time()
             try:
                 getattr(it, name)()
@@ -280,10 +281,26 @@ def main(*names):
             except (Refused, ConnectionError, socket.timeout, KeyError, ValueError) as error:
                 it.failures.append(f"{name}: {type(error).__name__} {str(error)[:300]}")
             print(f"live: {name}, {time.time() - begun:.0f} s")
-    for line in it.failures[:30]:
+    return it.passed, it.failures
+
+
+def main(*names):
+    passed, failures, skipped = 0, [], 0
+    missing = ", ".join(server.missing())
+    missing = missing and f"{missing} is not installed (Debian: apt-get install mariadb-server)"
+    for running, why, sessions in ((server.running, missing, MARIADB), (mysql_server.running, mysql_server.missing(), MYSQL)):
+        chosen = [it for it in sessions if not names or it in names]
+        if why and chosen:
+            print(f"live: {len(chosen)} sessions are skipped: {why}")
+            skipped += len(chosen)
+        elif chosen:
+            count, wrong = play(running, chosen)
+            passed, failures = passed + count, failures + wrong
+    for line in failures[:30]:
         print(f"live: {line}")
-    print(f"{it.passed} passed, {len(it.failures)} failed")
-    return 1 if it.failures else 0
+    print(f"live: {skipped} sessions skipped")
+    print(f"{passed} passed, {len(failures)} failed")
+    return 1 if failures else 0
 
 
 if __name__ == "__main__":

@@ -10,6 +10,15 @@ def native(password, nonce):
     return bytes(a ^ b for a, b in zip(first, second))
 
 
+def sha2(password, nonce):
+    """caching_sha2_password, the first answer; nothing where there is no password"""
+    if not password:
+        return b""
+    first = hashlib.sha256(password).digest()
+    second = hashlib.sha256(hashlib.sha256(first).digest() + nonce).digest()
+    return bytes(a ^ b for a, b in zip(first, second))
+
+
 # Ed25519 of RFC 8032, in extended coordinates
 Q = 2**255 - 19
 L = 2**252 + 27742317777372353535851937790883648493

@@ -52,16 +52,16 @@ SOME = {
 
 
 class Packet:
-    """A frame that is a payload: whose it is, its number and the payload."""
+    """A frame that is a payload: whose it is, its number and the payload, and whether what follows it was inside of TLS."""
 
-    def __init__(self, side, number, payload):
-        self.side, self.number, self.payload = side, number, payload
+    def __init__(self, side, number, payload, begins_tls=False):
+        self.side, self.number, self.payload, self.begins_tls = side, number, payload, begins_tls
 
     def bytes(self):
         return len(self.payload).to_bytes(3, "little") + bytes([self.number]) + self.payload
 
-    def word(self):
-        return self.side + self.bytes().hex()
+    def words(self):
+        return [self.side + self.bytes().hex()] + ["tls"] * self.begins_tls
 
 
 def pieces_of(path):
@@ -72,8 +72,8 @@ def pieces_of(path):
             yield side, bytes.fromhex(digits)
 
 
-def packets_of(pieces):
-    """The payloads of both streams, in the order in which they end."""
+def packets_of(pieces, is_deciphered=False):
+    """The payloads of both streams, in the order in which they end. Of a recording that has what was inside of TLS, the request for TLS says so."""
     streams, joined, found = {CLIENT: b"", SERVER: b""}, {CLIENT: b"", SERVER: b""}, []
     for side, piece in pieces:
         streams[side] += piece
@@ -84,7 +84,8 @@ def packets_of(pieces):
             joined[side] += streams[side][4 : 4 + length]
             streams[side] = streams[side][4 + length :]
             if length < 0xFFFFFF:
-                found.append(Packet(side, number, joined[side]))
+                begins_tls = is_deciphered and side == CLIENT and len(found) == 1 and len(joined[side]) == 32
+                found.append(Packet(side, number, joined[side], begins_tls))
                 joined[side] = b""
     return found
 
@@ -99,6 +100,8 @@ def wanted(packets, limit=LIMIT):
             words.append(f"{packet.side}refused:{refusal.args[0] if refusal.args else 'Unexpected'}")
             break
         words.append(f"{packet.side}{kind}#{number}")
+        if packet.begins_tls:
+            session.decipher()
     words.append("expects" + "".join(":" + it for it in sorted(expected(session))))
     words.append("at_rest=" + ("yes" if session.is_at_rest() else "no"))
     return words
@@ -122,7 +125,7 @@ def expected(session):
 
 
 def request(packets):
-    return " ".join([f"session {LIMIT}"] + [it.word() for it in packets] + ["expects"])
+    return " ".join([f"session {LIMIT}"] + [word for it in packets for word in it.words()] + ["expects"])
 
 
 def other_kind(packets, kinds, line):
@@ -141,6 +144,9 @@ def in_pieces(packets, size):
             words += [side + run[at : at + size].hex() for at in range(0, len(run), size)]
             run, side = b"", packet.side
         run += packet.bytes()
+        if packet.begins_tls:
+            words += [side + run[at : at + size].hex() for at in range(0, len(run), size)] + ["tls"]
+            run = b""
     return " ".join([*words, "expects"])
 
 
@@ -193,9 +199,14 @@ def shortened(packets):
     return packets
 
 
+def recorded(path):
+    """The packets of a recorded conversation."""
+    return packets_of(pieces_of(path), "deciphered" in recorded_end(path.name))
+
+
 def asked_of(path):
     """The requests of a recorded conversation, with what is wanted of each."""
-    packets = packets_of(pieces_of(path))
+    packets = recorded(path)
     chance, front = random.Random(path.name), shortened(packets)
     asked = [(f"{path.name}: whole", request(packets), wanted(packets))]
     asked += [(f"{path.name}: in pieces of {size}", in_pieces(front, size), wanted(front)) for size in (1, 5, 1460)]
@@ -203,8 +214,8 @@ def asked_of(path):
     return asked
 
 
-def expected_end(name):
-    """Where the sample's own page says that a packet doesn't come."""
+def recorded_end(name):
+    """How the sample's own page says that a conversation ends."""
     return {line.split()[0]: line.split()[1:] for line in (FOLDER / "ENDS.txt").read_text().splitlines() if line and not line.startswith("#")}[name]
 
 
@@ -212,7 +223,7 @@ def ends(path, words):
     """Whether a recorded conversation is taken as its line of ENDS.txt says."""
     refused = [at for at, word in enumerate(words) if "refused:" in word]
     how = f"refused {refused[0]}" if refused else ("rest" if words[-1] == "at_rest=yes" else "open")
-    return how.split() == expected_end(path.name)
+    return how.split() == [it for it in recorded_end(path.name) if it != "deciphered"]
 
 
 def main(*names):
@@ -220,7 +231,7 @@ def main(*names):
     paths = sorted(FOLDER.glob("*.xz"))
     for path in paths:
         asked += asked_of(path)
-        if not ends(path, wanted(packets_of(pieces_of(path)))):
+        if not ends(path, wanted(recorded(path))):
             failed += 1
             print(f"{path.name}: it does not end as ENDS.txt says")
     lines = [it for _, it, _ in asked]

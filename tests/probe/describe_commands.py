@@ -1,7 +1,7 @@
 """What is shown of commands, by the reference decoder."""
 from describe import by, numbers, x
 from describe_statements import describe_long_data
-from describe_values import word_of
+from describe_values import param_word
 
 
 def one(name):
@@ -18,10 +18,7 @@ def nothing(_record):
 
 def describe_attribute(attribute):
     name, kind, flags, value = attribute
-    word = word_of(value, bool(flags & 128) and kind == 8)
-    if value is not None and kind in (4, 5):
-        word = ("f" if kind == 4 else "d") + str(value[1])
-    return [f"name={x(name)}", f"{kind}-{flags}={word}"]
+    return [f"name={x(name)}", f"{kind}-{flags}={param_word(kind, flags, value)}"]
 
 
 def describe_query(record):
@@ -41,7 +38,7 @@ def describe_set_option(code):
 
 def describe_execute(record):
     head, params = record
-    return numbers(("stmt_id", "flags"), head) + [f"params={x(params)}"]
+    return numbers(("stmt_id", "flags"), head[:2]) + [f"params={x(params)}"]
 
 
 def describe_bulk(record):

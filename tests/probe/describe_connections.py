@@ -39,15 +39,16 @@ def nonce(first, second):
 
 
 def describe_response(record):
-    capabilities, _size, collation, mariadb, user, data, database, name, attributes = record
+    capabilities, _size, collation, mariadb, user, data, database, name, attributes, level = record
+    ended = [] if level is None else [f"zstd_level={level}"]
     words = numbers(("capabilities", "collation", "mariadb"), (capabilities, collation, mariadb))
     words += [f"user={x(user)}", f"scramble_buf={x(data)}", f"db_name={x(database)}", plugin(name) if name is not None else "plugin=none"]
     if attributes is None:
-        return words + ["attributes=none"]
+        return words + ["attributes=none"] + ended
     texts = {}
     for key, value in attributes:
         texts[lossy(key)] = lossy(value)
-    return words + [f"attributes={len(texts)}"] + [word for k, v in texts.items() for word in (f"key={k}", f"value={v}")]
+    return words + [f"attributes={len(texts)}"] + [word for k, v in texts.items() for word in (f"key={k}", f"value={v}")] + ended
 
 
 def describe_plugin(name):

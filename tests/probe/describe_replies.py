@@ -42,10 +42,14 @@ def describe_extended_column(record):
     return [*describe_column(column), f"metadata={x(metadata)}", *describe_attributes(Buf(metadata or b""))]
 
 
+def describe_field_list_column(record):
+    (column, metadata), default = record
+    return [*describe_column(column), f"metadata={x(metadata)}", f"default_value={x(default)}"]
+
+
 def describe_column_count(record):
-    optional, count, byte = record
-    return (numbers(("optional_metadata_byte",), (optional,)) + [f"count={count}"] + numbers(("metadata_byte",), (byte,))
-            + ["metadata_follows=" + ("no" if 0 in (optional, byte) else "yes")])
+    count, byte = record
+    return [f"count={count}"] + numbers(("metadata_byte",), (byte,)) + ["metadata_follows=" + ("no" if byte == 0 else "yes")]
 
 
 def shown_progress(stage, most, progress, info):
@@ -149,6 +153,7 @@ MARKERS = {"ColumnDefinitionCatalog": b"\x03def", "FixedLengthFieldsLen": b"\x0c
 DESCRIBERS = {
     "column": lambda: by("Column", describe_column),
     "extended_column": lambda mariadb: by("ExtendedColumn", describe_extended_column, int(mariadb)),
+    "field_list_column": lambda mariadb: by("FieldListColumn", describe_field_list_column, int(mariadb)),
     "column_attribute": lambda: by("ColumnAttribute", describe_attribute),
     "column_count": lambda caps, mariadb: by("ColumnCount", describe_column_count, int(caps), int(mariadb)),
     "greeting_error": lambda: by("GreetingError", describe_err),

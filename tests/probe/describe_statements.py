@@ -1,8 +1,9 @@
 """What is shown of statements and of rows, by the reference decoder."""
 from describe import by, numbers, x
-from describe_values import cell, columns_of, word_of
+from describe_values import cell, columns_of, param_word, word_of
 
-from reference_decoder import values
+from reference_decoder import values, written
+from reference_decoder.statements import QUERY_ATTRIBUTES
 
 
 def describe_stmt(record):
@@ -20,15 +21,25 @@ def describe_long_data(record):
     return numbers(("stmt_id", "param_index"), (statement, param)) + [f"data_ref={x(content)}"]
 
 
+def describe_head(record):
+    stmt_id, flags, iteration_count = record
+    words = numbers(("stmt_id", "flags"), (stmt_id, flags)) + [f"cursor={flags & ~8}"] * (flags >> 3 & 1)
+    return words + [f"iteration_count={iteration_count}"] * (iteration_count != 1)
+
+
 def describe_execution(record):
-    head, sends_types, params = record
-    words = numbers(("stmt_id", "flags"), head) + [f"types={'yes' if sends_types else 'no'}"]
-    for kind, flags, is_sent_ahead, value in params:
-        word = word_of(value, bool(flags & 128) and kind == 8)
-        if value is not None and kind in (4, 5):
-            word = ("f" if kind == 4 else "d") + str(value[1])
-        words.append(f"{kind}-{flags}={'ahead' if is_sent_ahead else word}")
+    head, sends_types, params, attributes = record
+    words = numbers(("stmt_id", "flags"), head[:2]) + [f"types={'yes' if sends_types else 'no'}"]
+    for at, (kind, flags, name, is_sent_ahead, value) in enumerate(params + attributes):
+        words += [f"name={x(name)}"] * (name != b"" or at >= len(params))
+        words.append(f"{kind}-{flags}={'ahead' if is_sent_ahead else param_word(kind, flags, value)}")
     return words
+
+
+def execution(bound, capabilities):
+    read = by("ComStmtExecute", describe_execution, bound_of(bound), capabilities)
+    read.written = lambda record: written.execution(record, capabilities)
+    return read
 
 
 def bound_of(text):
@@ -62,8 +73,9 @@ DESCRIBERS = {
     "stmt": lambda: by("StmtPacket", describe_stmt),
     "stmt_metadata": lambda caps: by("StmtPacketWithMetadata", describe_stmt_with_metadata, int(caps)),
     "com_close": lambda: by("ComStmtClose", lambda it: numbers(("stmt_id",), (it,))),
-    "com_execute_head": lambda: by("ComStmtExecuteHead", lambda it: numbers(("stmt_id", "flags"), it)),
-    "com_execute": lambda bound: by("ComStmtExecute", describe_execution, bound_of(bound)),
+    "com_execute_head": lambda: by("ComStmtExecuteHead", describe_head),
+    "com_execute": lambda bound: execution(bound, 0),
+    "com_execute_attributes": lambda bound: execution(bound, QUERY_ATTRIBUTES),
     "com_long_data": lambda: by("ComStmtSendLongData", describe_long_data),
     "row": lambda columns: lambda buf: binary_row(buf, columns_of(columns), 2),
     "row_client": lambda columns: lambda buf: binary_row(buf, columns_of(columns), 0),

@@ -19,9 +19,16 @@ def word_of(value, unsigned=False):
     if kind == "bits":
         return rest[0]
     if kind == "date":
-        return "D" + "-".join(map(str, rest[0]))
+        return "D" + "-".join(map(str, rest[0])) + "".join(f"{it:+}" for it in rest[1:])
     negative, fields = rest
     return f"T{int(negative)}-" + "-".join(map(str, fields))
+
+
+def param_word(kind, flags, value):
+    """The value of a parameter or an attribute of that type."""
+    if value is not None and kind in (4, 5):
+        return ("f" if kind == 4 else "d") + str(value[1])
+    return word_of(value, bool(flags & 128) and kind == 8)
 
 
 def column_of(word):

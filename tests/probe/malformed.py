@@ -8,6 +8,7 @@ import multiprocessing
 import random
 import sys
 
+from describe import x
 from lines import answers, built, summary, vectors
 from described import READS, Buf, Eof, Invalid, describer
 
@@ -117,6 +118,10 @@ def wrong(describer_, content, answer):
         return "what is made of the fields is another record, or is no other where it must be"
     if "written" not in answered:
         return ""
+    if hasattr(describer_, "written"):
+        written = describer_.written(right.words.record)
+        is_same = content.startswith(written)
+        return "" if answered["written"] == ("same" if is_same else x(written)) else f"the reference decoder writes {x(written)}"
     taken = len(content) - right.left
     size = int(answered["len"])
     if size > taken and not describer_.may_grow:

@@ -16,13 +16,14 @@ PACKETS = {
     "request for the RSA key": ["key_request"], "RSA key": ["key"], "COM_CHANGE_USER": ["change_user"],
     "OK_Packet": ["ok"], "OK_Packet that ends a result": ["ok_end"], "EOF_Packet": ["ok_eof"], "EOF_Packet that ends a stream": ["ok_stream"],
     "ERR_Packet": ["err"], "progress report": ["progress"], "LOCAL INFILE request": ["local_infile"],
-    "count of columns": ["column_count"], "Protocol::ColumnDefinition41": ["column"], "column definition with extended metadata": ["extended_column"], "ProtocolText::ResultsetRow": ["row_text", "row_text_client"],
+    "count of columns": ["column_count"], "Protocol::ColumnDefinition41": ["column"], "column definition with extended metadata": ["extended_column"],
+    "column definition that answers COM_FIELD_LIST": ["field_list_column"], "ProtocolText::ResultsetRow": ["row_text", "row_text_client"],
     "ProtocolBinary::ResultsetRow": ["row", "row_client"], "COM_STMT_PREPARE_OK": ["stmt", "stmt_metadata"],
-    "COM_STMT_EXECUTE": ["execute", "com_execute"], "COM_STMT_SEND_LONG_DATA": ["com_long_data", "long_data"], "COM_STMT_CLOSE": ["com_close", "close"],
+    "COM_STMT_EXECUTE": ["execute", "com_execute", "com_execute_attributes"], "COM_STMT_SEND_LONG_DATA": ["com_long_data", "long_data"], "COM_STMT_CLOSE": ["com_close", "close"],
     "COM_STMT_BULK_EXECUTE": ["bulk", "bulk_rows"], "COM_REGISTER_SLAVE": ["register_slave"], "COM_BINLOG_DUMP": ["binlog_dump"],
     "COM_BINLOG_DUMP_GTID": ["gtid"], "COM_TABLE_DUMP": ["table_dump"], "semi-synchronous acknowledgement": ["semi_sync_ack"],
     "packet of a stream": ["stream"],
-    "a command, by its first byte": ["command"],
+    "COM_QUERY with attributes": ["com_query"], "a command, by its first byte": ["command"],
 }
 # what no server or client of today sends, or what was sent once in all recorded sessions: the pages' examples stand among the rows
 SELDOM = {"EOF_Packet that ends a stream", "COM_TABLE_DUMP", "Protocol::SSLRequest", "request for the RSA key", "Protocol::AuthNextFactorRequest"}

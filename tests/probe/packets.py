@@ -1,5 +1,6 @@
 #!/usr/bin/env python3
-"""What the packets of recorded conversations hold: the library's typed answer against the reference decoder, whole and with packets cut.
+"""What the packets of recorded conversations hold: the library's typed answer against the reference decoder, whole and with packets cut; and
+each execution of them is read, and written back as it was read.
 
 packets.py PROBE              the build that rt ci leaves
 packets.py --unproved [FILE]  asks it built without proof
@@ -8,7 +9,8 @@ import random
 import sys
 
 import conversations
-from conversations import FOLDER, LIMIT, Packet, packets_of, pieces_of, shortened
+import executions
+from conversations import FOLDER, LIMIT, Packet, recorded, shortened
 from lines import TOP, answers, built
 from tried import tried
 
@@ -62,9 +64,8 @@ class Watched:
         return (len(buf.all()),)
 
     def column_count(self, buf):
-        optional, count, follows = replies.column_count(buf, self.session.flags, self.session.own)
-        self.count = count
-        if optional != 0 and follows != 0:
+        self.count, follows = count, _ = replies.column_count(buf, self.session.flags, self.session.own)
+        if follows != 0:
             self.columns = []
         return (count,)
 
@@ -72,6 +73,10 @@ class Watched:
         (names, numbers), _ = replies.extended_column(buf, self.session.own)
         self.columns.append((numbers[2], numbers[3]))
         return len(names[3]), numbers[2], numbers[3]
+
+    def field_list_column(self, buf):
+        ((names, numbers), _), default = replies.field_list_column(buf, self.session.own)
+        return (len(names[3]), numbers[2], numbers[3]) + (() if default is None else (len(default),))
 
     def text_row(self, buf):
         for _ in range(self.count):
@@ -168,6 +173,8 @@ def wanted(packets):
             words.append(f"{packet.side}refused:{refusal.args[0] if refusal.args else 'Unexpected'}")
             break
         words.append(f"{packet.side}{kind}#{number}{watched.fields(kind, packet.payload)}")
+        if packet.begins_tls:
+            watched.session.decipher()
     return words
 
 
@@ -187,26 +194,31 @@ def changed(packets, chance):
 
 
 def asked_of(path):
-    packets, chance = packets_of(pieces_of(path)), random.Random(path.name)
+    packets, chance = recorded(path), random.Random(path.name)
     asked = [(f"{path.name}: whole", request(packets), wanted(packets))]
     front = shortened(packets)
     return asked + [(f"{path.name}: change {number}", request(it), wanted(it)) for number, it in enumerate(changed(front, chance))]
 
 
 def main(*names):
-    asked, failed = [], 0
-    paths = sorted(FOLDER.glob("*.xz"))
+    asked, failed, counts = [], 0, []
+    paths, is_unproved = sorted(FOLDER.glob("*.xz")), names[:1] == ("--unproved",)
     for path in paths:
         asked += asked_of(path)
+        # (without proof, answers of at most 1 MiB are handed on)
+        asked_for, want, count = executions.asked_of(path, 900_000 if is_unproved else 1 << 40)
+        asked.append((f"{path.name}: executions", asked_for, want))
+        counts.append(count)
     lines = [it for _, it, _ in asked]
-    for answered in [tried(lines, "test_calls")] if names[:1] == ("--unproved",) else [answers(it, lines) for it in built("program")]:
-        for (name, _, want), line in zip(asked, answered):
-            got = line.split()
+    for answered in [tried(lines, "test_calls")] if is_unproved else [answers(it, lines) for it in built("program")]:
+        for (name, asked_for, want), line in zip(asked, answered):
+            got = executions.answered(line) if asked_for.startswith("statements") else line.split()
             if got != want:
                 failed += 1
                 at = next((at for at, (a, b) in enumerate(zip(got, want)) if a != b), min(len(got), len(want)))
                 print(f"{name}: word {at}: {' '.join(got[at : at + 3])}, and by the pages {' '.join(want[at : at + 3])}")
-    print(f"packets: {len(paths)} recorded conversations, {len(asked)} asked")
+    read, same = map(sum, zip(*counts))
+    print(f"packets: {len(paths)} recorded conversations, {len(asked)} asked; {read} executions are written again, {same} of them as they were")
     print(f"{len(asked) - failed} passed, {failed} failed")
     return 1 if failed else 0
 

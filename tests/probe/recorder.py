@@ -63,8 +63,8 @@ class Packet:
 class Recorder:
     """What is wanted of the lines of a recording."""
 
-    def __init__(self, longest=LONGEST):
-        self.watcher, self.longest, self.wanted, self.status = Watcher(), longest, [], 0
+    def __init__(self, longest=LONGEST, is_deciphered=False):
+        self.watcher, self.longest, self.wanted, self.status = Watcher(is_deciphered), longest, [], 0
         self.streams, self.answer, self.is_over = {CLIENT: Stream(), SERVER: Stream()}, None, False
         # the commands that came before the answers to earlier ones, and no packet of the server since
         self.unheard = []
@@ -81,6 +81,7 @@ class Recorder:
             self.is_over = True
             return
         session.place, session.waiting = session.rest(), []
+        watcher.serve(session.last)
         watcher.statements.pop(watcher.runs, None)
         watcher.due, watcher.runs, watcher.columns = [], None, []
         self.unheard = []
@@ -149,9 +150,9 @@ class Recorder:
                 self.say(side, "not_taken_up", passed_over=stream.passed)
 
 
-def recorded(lines, longest=LONGEST):
+def recorded(lines, longest=LONGEST, is_deciphered=False):
     """What is wanted of lines, and the status."""
-    recorder = Recorder(longest)
+    recorder = Recorder(longest, is_deciphered)
     for side, line in lines:
         recorder.line(side, line)
         if recorder.is_over:

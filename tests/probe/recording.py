@@ -9,7 +9,7 @@ import sys
 import time
 from pathlib import Path
 
-from conversations import FOLDER, Packet, packets_of, pieces_of
+from conversations import FOLDER, Packet, packets_of, pieces_of, recorded_end
 from recorder import CLIENT, PROGRAM, SERVER, as_followed, as_lines, differs, recorded
 from watcher import COMMANDS, Watcher
 def in_bytes(pieces):
@@ -43,9 +43,9 @@ def summed(packets):
     }
 
 
-def sums_differ(name, pieces, wanted):
+def sums_differ(name, words, pieces, wanted):
     """What is wrong with the sums of a conversation, or no text."""
-    run = subprocess.run([PROGRAM, "conversation", "--json", "--sum"], input=as_lines(pieces), capture_output=True)
+    run = subprocess.run([PROGRAM, "conversation", "--json", "--sum", *words], input=as_lines(pieces), capture_output=True)
     came = [it for it in wanted if "sequence" in it and it["kind"] != "refused"]
     wrong = differs(summed(came), run.stdout.splitlines()[-1])
     largest = sorted((it["size"] for it in came), reverse=True)[:5]
@@ -68,7 +68,7 @@ def compared(name, wanted, output, is_status):
 
 def taken_up(packets, limit=4):
     """Places at which a connection is taken up, each with what both sides agreed on and what is wanted from there on."""
-    watcher, wanted, places = Watcher(), [], []
+    watcher, wanted, places = Watcher(any(it.begins_tls for it in packets)), [], []
     for at, packet in enumerate(packets):
         is_between = not watcher.session.before and watcher.session.is_at_rest()
         it, comes = watcher.wanted(packet)
@@ -129,29 +129,31 @@ def main():
     passed = failed = 0
     for path in sorted(FOLDER.glob("*.xz")):
         pieces = list(pieces_of(path))
-        wanted, status = recorded(pieces)
+        words = ["--deciphered"] if "deciphered" in recorded_end(path.name) else []
+        wanted, status = recorded(pieces, is_deciphered=bool(words))
         # (of a loss in a line of one byte nothing is taken up)
         is_short = sum(len(it) for _, it in pieces) < 50_000 and not status
         forms = [("lines", as_lines), ("followed", as_followed)] + ([("bytes", in_bytes)] if is_short else [])
         for form, written in forms:
             data = written(pieces)
-            run = subprocess.run([PROGRAM, "conversation", "--json"], input=data, capture_output=True)
+            run = subprocess.run([PROGRAM, "conversation", "--json", *words], input=data, capture_output=True)
             wrong = compared(f"{path.name}: {form}", wanted, run.stdout, run.returncode == status)
             passed, failed = passed + (not wrong), failed + bool(wrong)
             if wrong:
                 print(wrong)
-        run = subprocess.run([PROGRAM, "conversation"], input=as_lines(pieces), capture_output=True)
+        run = subprocess.run([PROGRAM, "conversation", *words], input=as_lines(pieces), capture_output=True)
         heads = [it for it in run.stdout.decode().splitlines() if it[:2] in ("> ", "< ")]
         want = [f"{'>' if it['side'] == 'client' else '<'} {it.get('sequence', '')} {it['kind']}".replace("  ", " ") for it in wanted]
         right = heads == want
         passed, failed = passed + right, failed + (not right)
         if not right:
             print(f"{path.name}: the lines of its packets differ")
-        places, faults = wrong_amid(path.name, [it for it in packets_of(pieces)]) if all(len(it.payload) < 0xFFFFFF for it in packets_of(pieces)) else (0, [])
+        packets = packets_of(pieces, bool(words))
+        places, faults = wrong_amid(path.name, packets) if all(len(it.payload) < 0xFFFFFF for it in packets) else (0, [])
         passed, failed = passed + places - len(faults), failed + len(faults)
         for wrong in faults:
             print(wrong)
-        wrong = sums_differ(path.name, pieces, wanted)
+        wrong = sums_differ(path.name, words, pieces, wanted)
         passed, failed = passed + (not wrong), failed + bool(wrong)
         if wrong:
             print(wrong)

@@ -1,11 +1,13 @@
 """What the program shows of each packet, by the second tracker and the second decoder, which are written from the protocol's pages."""
+import math
+import struct
 import sys
 
 from conversations import expected
 from lines import TOP
 
 sys.path.insert(0, str(TOP / "tests"))
-from reference_decoder import authentication, replies, statements, values  # noqa: E402
+from reference_decoder import authentication, commands, replies, statements, values  # noqa: E402
 from reference_decoder.buf import Buf, Eof, Invalid  # noqa: E402
 from reference_decoder.conversation import CLIENT, Refused, Session  # noqa: E402
 
@@ -13,7 +15,7 @@ WAITING = 4096
 # the kinds, in the order in which they are shown
 KINDS = [
     "handshake", "ssl_request", "login", "auth_switch", "old_auth_switch", "auth_more_data", "auth_next_factor", "auth_plugin_data", "auth_data",
-    "command", "ok", "error", "unasked_error", "progress_report", "local_infile", "infile_content", "infile_end", "column_count", "column", "eof",
+    "command", "ok", "error", "unasked_error", "progress_report", "local_infile", "infile_content", "infile_end", "column_count", "column", "field_list_column", "eof",
     "ok_terminator", "text_row", "binary_row", "prepare_ok", "statistics", "binlog_event", "semi_sync_ack",
 ]
 COMMANDS = {
@@ -44,32 +46,65 @@ def named(names, fields):
     return {name: shown(it) if isinstance(it, bytes) else it for name, it in zip(names.split(), fields)}
 
 
-def spelled(value):
-    """A value in binary, as JSON has it; a float, whose digits the second decoder doesn't give, is `float`."""
+class Float:
+    """A float by its bits: equal to the number that JSON has of it, which is none of an infinity and of what is no number."""
+
+    def __init__(self, bits, width):
+        self.bytes, self.form = bits.to_bytes(width, "little"), {4: "<f", 8: "<d"}[width]
+
+    def __eq__(self, other):
+        number = struct.unpack(self.form, self.bytes)[0]
+        if other is None or not math.isfinite(number):
+            return other is None and not math.isfinite(number)
+        try:
+            return isinstance(other, (int, float)) and struct.pack(self.form, other) == self.bytes
+        except OverflowError:
+            return False
+
+    def __repr__(self):
+        return f"{struct.unpack(self.form, self.bytes)[0]!r}"
+
+
+def offset_of(minutes):
+    return "{}{:02}:{:02}".format("-" if minutes < 0 else "+", *divmod(abs(minutes), 60))
+
+
+def spelled(value, column_type):
+    """A value in binary, as JSON has it."""
+    if value is None:
+        return None
     if isinstance(value, bytes):
         return shown(value)
-    if value is None or value[0] == "bits":
-        return value and "float"
+    if value[0] == "bits":
+        return Float(value[1], 4 if column_type == 4 else 8)
     if value[0] == "number":
         return value[1]
     if value[0] == "date":
-        return "{:04}-{:02}-{:02} {:02}:{:02}:{:02}.{:06}".format(*value[1])
+        return "{:04}-{:02}-{:02} {:02}:{:02}:{:02}.{:06}".format(*value[1]) + "".join(map(offset_of, value[2:]))
     return "{}{} {:02}:{:02}:{:02}.{:06}".format("-" if value[1] else "", *value[2])
 
 
 class Watcher:
     """What the fields of each packet are, by the second decoder."""
 
-    def __init__(self):
+    def __init__(self, is_deciphered=False):
+        self.is_deciphered = is_deciphered
         self.session, self.columns, self.count = Session(WAITING), [], 0
         # of each statement its columns, and of that which runs or is prepared its number and what is expected of it
         self.statements, self.last, self.runs, self.due = {}, None, None, []
+        # of each statement the type, its flags and whether it was sent ahead of each parameter, and whether an execution gave these types; and the
+        # commands that came before the answers to earlier ones, each with its exchange
+        self.params, self.is_bound, self.early = {}, set(), []
 
     def ok(self, payload, header):
         capabilities = self.session.flags
         numbers, status, warnings, (info, state) = replies.ok_packet(Buf(payload), capabilities, header, True)
         fields = named("affected_rows last_insert_id status_flags warnings info", (*numbers, status, warnings, info))
-        for kind, change in replies.changes_as_sent(state or b""):
+        for it in replies.changes_as_sent(state or b""):
+            if not isinstance(it, tuple):
+                fields["refused"] = {Eof: "UnexpectedEof", Invalid: "InvalidData"}[type(it)]
+                continue
+            kind, change = it
             if kind == 0:
                 fields["variable"] = fields.get("variable", []) + [shown(name) for name, _ in change]
                 fields["variable_value"] = fields.get("variable_value", []) + [shown(value) for _, value in change]
@@ -97,14 +132,89 @@ class Watcher:
         buf = Buf(payload)
         buf.take(1)
         nulls = int.from_bytes(buf.take((len(columns) + 7 + 2) // 8), "little") >> 2
-        row = [None if nulls >> at & 1 else spelled(values.bin_value(buf, *it)) for at, it in enumerate(columns)]
-        return {"value": row} if row and "float" not in row else {}
+        row = [None if nulls >> at & 1 else spelled(values.bin_value(buf, *it), it[0]) for at, it in enumerate(columns)]
+        return {"value": row} if row else {}
 
     def column(self, payload):
-        (names, numbers), metadata = replies.extended_column(Buf(payload), self.session.own)
+        ((names, numbers), metadata) = replies.extended_column(Buf(payload), self.session.own)
         self.define(numbers[2], numbers[3])
+        return self.of_column(names, numbers, metadata)
+
+    def of_column(self, names, numbers, metadata):
         fields = named("schema table org_table name org_name character_set column_length column_type flags decimals", (*names, *numbers))
         return fields if metadata is None else {**fields, "extended_metadata": shown(metadata)}
+
+    # ---- statements
+
+    def forget(self):
+        self.statements, self.params, self.is_bound, self.last = {}, {}, set(), None
+
+    def bind(self, payload):
+        """What a command changes of the parameters of a statement."""
+        code, number = payload[0], int.from_bytes(payload[1:5], "little")
+        number = self.last if number == 0xFFFFFFFF else number
+        if code in (0x11, 0x1F):
+            self.forget()
+        elif code == 0x16:
+            # (a preparation that fails leaves no last statement: MariaDB's mysqld_stmt_prepare, clear_last_stmt)
+            self.last = None
+        params = self.params.get(number)
+        if params is None:
+            return
+        if code == 0x18 and len(payload) > 6:
+            place = int.from_bytes(payload[5:7], "little")
+            params[place : place + 1] = [(*it[:2], True) for it in params[place : place + 1]]
+        elif code == 0x19:
+            del self.params[number]
+        elif code == 0x1A:
+            self.params[number] = [(*it[:2], False) for it in params]
+        elif code in (0x17, 0xFA):
+            try:
+                types = self.types_of(payload, params)
+            except (Eof, Invalid):
+                types = None
+            if types is not None:
+                self.is_bound.add(number)
+            self.params[number] = [(kind, flags, False) for kind, flags, *_ in types or params]
+
+    def types_of(self, payload, params):
+        """The types that an execution sends of the parameters, if it does."""
+        if payload[0] == 0xFA:
+            types, _ = statements.bulk_head(Buf(payload), params)
+            return types[2] or None
+        _, sends_types, read, _ = statements.stmt_execute(Buf(payload), params, self.session.flags)
+        return [it[:2] for it in read] if sends_types else None
+
+    def executed(self, payload):
+        """The parameters and the attributes of an execution, where its types are known."""
+        number = int.from_bytes(payload[1:5], "little")
+        number = self.last if number == 0xFFFFFFFF else number
+        # (what an early command changes is known once the server comes to it)
+        if self.early or number not in self.params:
+            return {}
+        _, sends_types, params, attributes = statements.stmt_execute(Buf(payload), self.params[number], self.session.flags)
+        if not sends_types and number not in self.is_bound:
+            return {}
+        fields = {
+            "parameter": ["sent ahead" if it[3] else spelled(it[4], it[0]) for it in params],
+            "attribute": [shown(it[2]) for it in attributes],
+            "attribute_value": [spelled(it[4], it[0]) for it in attributes],
+        }
+        return {name: it for name, it in fields.items() if it}
+
+    def queried(self, payload):
+        """The text of a query, and its attributes."""
+        attributes, text = commands.query(Buf(payload), self.session.flags)
+        fields = {"query": shown(text)}
+        if attributes:
+            fields["attribute"] = [shown(it[0]) for it in attributes]
+            fields["attribute_value"] = [spelled(it[3], it[1]) for it in attributes]
+        return fields
+
+    def serve(self, number):
+        """The server has come to the exchange of this number."""
+        while self.early and self.early[0][0] <= number:
+            self.bind(self.early.pop(0)[1])
 
     def command(self, payload):
         """Which statement runs."""
@@ -116,6 +226,25 @@ class Watcher:
         else:
             self.runs, self.columns = None, []
 
+    def of_command(self, payload):
+        is_early = self.session.waiting and self.session.waiting[-1][1] is payload
+        fields = {}
+        try:
+            if payload[0] == 0x16:
+                fields = {"query": shown(payload[1:])}
+            elif payload[0] == 0x03:
+                fields = self.queried(payload)
+            elif payload[0] == 0x17 and not is_early:
+                fields = self.executed(payload)
+        except (Eof, Invalid):
+            pass
+        self.command(payload)
+        if is_early:
+            self.early.append((self.session.last, payload))
+        else:
+            self.bind(payload)
+        return fields
+
     def fields(self, side, kind, payload):
         """What is wanted of a packet of this kind, as far as the second decoder says it."""
         if kind == "handshake":
@@ -123,13 +252,10 @@ class Watcher:
             return named(names, authentication.handshake(Buf(payload)))
         if kind == "login":
             read = authentication.handshake_response(Buf(payload))
-            return named("capabilities max_packet_size collation mariadb_ext_capabilities user db_name auth_plugin_name", (*read[:5], *read[6:8]))
+            fields = named("capabilities max_packet_size collation mariadb_ext_capabilities user db_name auth_plugin_name", (*read[:5], *read[6:8]))
+            return fields if read[9] is None else {**fields, "zstd_level": read[9]}
         if kind == "command":
-            fields = {"command": COMMANDS.get(payload[0], payload[0])}
-            self.command(payload)
-            if payload[0] == 0x16 or payload[0] == 0x03 and not self.session.flags & 1 << 27:
-                fields["query"] = shown(payload[1:])
-            return fields
+            return {"command": COMMANDS.get(payload[0], payload[0]), **self.of_command(payload)}
         if kind == "ok":
             return self.ok(payload, b"\0")
         if kind == "ok_terminator":
@@ -141,11 +267,13 @@ class Watcher:
             return named("error sql_state message", read(Buf(payload), self.session.flags))
         if kind == "column_count":
             self.columns, self.due = [], []
-            optional, count, follows = replies.column_count(Buf(payload), self.session.flags, self.session.own)
-            self.count = count
-            return {"count": count, "metadata_follows": 0 not in (optional, follows)}
+            self.count, follows = replies.column_count(Buf(payload), self.session.flags, self.session.own)
+            return {"count": self.count, "metadata_follows": follows != 0}
         if kind == "column":
             return self.column(payload)
+        if kind == "field_list_column":
+            ((names, numbers), metadata), default = replies.field_list_column(Buf(payload), self.session.own)
+            return {**self.of_column(names, numbers, metadata), "default_value": shown(default)}
         if kind == "text_row":
             return self.text_row(payload)
         if kind == "binary_row":
@@ -154,6 +282,8 @@ class Watcher:
             (number, columns, params), warnings = statements.stmt_packet(Buf(payload))
             self.columns, self.last, self.runs, self.due = [], number, number, ["parameter"] * params
             self.statements[number] = self.columns
+            self.params[number] = [(6, 0, False)] * params
+            self.is_bound.discard(number)
             return named("statement_id num_columns num_params warning_count", (number, columns, params, warnings))
         if kind == "local_infile":
             return {"file_name": shown(payload[1:])}
@@ -171,6 +301,10 @@ class Watcher:
             return {**refused, "expected": kinds} if kinds else refused, False
         kind = word.split(":")[0]
         head.update(exchange=number, kind=kind)
+        if packet.side != CLIENT:
+            self.serve(number)
+        if kind == "ssl_request" and self.is_deciphered:
+            self.session.decipher()
         try:
             return {**head, **self.fields(packet.side, kind, packet.payload)}, True
         except (Eof, Invalid, IndexError):

@@ -1,6 +1,6 @@
 """What is said before the first command, and when the user changes."""
 from .buf import to_the_end
-from .codes import CONNECT_ATTRS, CONNECT_WITH_DB, LENENC_CLIENT_DATA, MULTI_FACTOR_AUTHENTICATION, PLUGIN_AUTH, SECURE_CONNECTION
+from .codes import CONNECT_ATTRS, CONNECT_WITH_DB, LENENC_CLIENT_DATA, MULTI_FACTOR_AUTHENTICATION, PLUGIN_AUTH, SECURE_CONNECTION, ZSTD
 from .replies import system_variable
 
 
@@ -69,7 +69,9 @@ def handshake_response(buf):
     if capabilities & PLUGIN_AUTH:
         plugin = buf.null_string() if 0 in buf.data else buf.all()
     answered = attributes(buf) if capabilities & CONNECT_ATTRS else None
-    return capabilities, packet_size, collation, mariadb, user, data, database, plugin, answered
+    # (the level of compression: `parse_client_handshake_packet` in sql/auth/sql_authentication.cc)
+    level = buf.number(1) if capabilities & ZSTD and buf.data else None
+    return capabilities, packet_size, collation, mariadb, user, data, database, plugin, answered, level
 
 
 def change_user(buf, capabilities):

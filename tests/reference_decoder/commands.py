@@ -1,8 +1,7 @@
 """Commands, by their first byte, as the protocol's pages lay them out."""
 from . import authentication, replication, statements
-from .buf import Eof, counted
-from .values import bin_value
-from .codes import UNSIGNED
+from .buf import Eof, Invalid, counted
+from .values import param_value
 
 QUERY_ATTRIBUTES = 1 << 27
 
@@ -50,10 +49,11 @@ def query_attributes(buf):
     if not count:
         return []
     bits = int.from_bytes(buf.take((count + 7) // 8), "little")
-    buf.const(b"\1")
+    # (any byte but 0: `parse_query_bind_params`)
+    if not buf.number(1):
+        raise Invalid
     types = counted(buf, count, lambda b: (*statements.bulk_type(b), b.string()))
-    return [(name, kind, flags, None if bits >> i & 1 else bin_value(buf, kind, UNSIGNED if flags & 128 else 0))
-            for i, (kind, flags, name) in enumerate(types)]
+    return [(name, kind, flags, None if bits >> i & 1 else param_value(buf, kind, flags & 128)) for i, (kind, flags, name) in enumerate(types)]
 
 
 def query(buf, capabilities):

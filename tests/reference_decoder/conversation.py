@@ -2,7 +2,7 @@
 following it."""
 from . import authentication, replies, statements
 from .buf import Buf, Eof, Invalid
-from .codes import MULTI_FACTOR_AUTHENTICATION, OPTIONAL_METADATA, PROGRESS_OBSOLETE
+from .codes import MULTI_FACTOR_AUTHENTICATION, PROGRESS_OBSOLETE
 
 CLIENT, SERVER = ">", "<"
 COMPRESS, SSL, LONG_PASSWORD, DEPRECATE_EOF, ZSTD = 1 << 5, 1 << 11, 1, 1 << 24, 1 << 26
@@ -86,7 +86,7 @@ class Session:
         return bool(self.flags & DEPRECATE_EOF)
 
     def begins_ok(self, payload):
-        return payload[:1] == b"\0" and not (self.flags & OPTIONAL_METADATA and len(payload) < 7)
+        return payload[:1] == b"\0"
 
     def ok_status(self, payload):
         return read(replies.ok_packet, payload, self.flags, b"\0", True)[1]
@@ -154,8 +154,8 @@ class Session:
         return Place(server)
 
     def count(self, buf):
-        optional, number, follows = replies.column_count(buf, self.flags, self.own)
-        return number, optional != 0 and follows != 0
+        number, follows = replies.column_count(buf, self.flags, self.own)
+        return number, follows != 0
 
     def definitions(self, left, following, end):
         """Definitions, and the EOF packet where it isn't deprecated."""
@@ -163,13 +163,13 @@ class Session:
             return Place(lambda _: ("column", self.definitions(left - 1, following, end)))
         return following() if self.is_deprecated() else Place(end)
 
-    def some_definitions(self, count, following):
-        """Definitions with their end, or nothing where there are none."""
+    def some_definitions(self, count, follow, following):
+        """Definitions with their end, or their end alone where they are left out; nothing where there are none."""
         def end(payload):
             self.eof_status(payload)
             return "eof", following()
 
-        return self.definitions(count, following, end) if count else following()
+        return self.definitions(count if follow else 0, following, end) if count else following()
 
     def columns_end(self, is_binary, has_cursor, after):
         def server(payload):
@@ -199,11 +199,9 @@ class Session:
     def prepared(self):
         def server(payload):
             ((_, columns, params), _), metadata = read(statements.stmt_packet_with_metadata, payload, self.flags)
-            kind = f"prepare_ok:{columns}:{params}"
-            if metadata == 0:
-                return kind + ":absent", self.rest()
-            of_columns = lambda: self.some_definitions(columns, self.rest)
-            return kind, self.some_definitions(params, of_columns)
+            follow = metadata != 0
+            of_columns = lambda: self.some_definitions(columns, follow, self.rest)
+            return f"prepare_ok:{columns}:{params}" + ("" if follow else ":absent"), self.some_definitions(params, follow, of_columns)
 
         return Place(server)
 
@@ -256,7 +254,7 @@ class Session:
         if code == 0x09:
             return Place(lambda _: ("statistics", self.rest()))
         if code == 0x04:
-            return self.until_end("column", False, lambda _: self.rest())
+            return self.until_end("field_list_column", False, lambda _: self.rest())
         if code == 0x11:
             return self.authenticating(False)
         if code in (0x12, 0x1E):

@@ -32,7 +32,7 @@ def switch_fields(record):
 
 
 def response_fields(record):
-    capabilities, _size, collation, mariadb, user, data, database, plugin, _attributes = record
+    capabilities, _size, collation, mariadb, user, data, database, plugin, _attributes, _level = record
     named = [("capabilities", capabilities), ("collation", collation), ("mariadb_ext_capabilities", mariadb),
              ("user", user), ("scramble_buf", data), ("db_name", database)]
     return named + ([("plugin", None)] if plugin is None else plugin_fields(plugin))

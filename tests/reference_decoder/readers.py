@@ -44,6 +44,7 @@ READERS = {
     "Column": replies.column,
     "ColumnAttribute": replies.column_attribute,
     "ExtendedColumn": replies.extended_column,
+    "FieldListColumn": replies.field_list_column,
     "ColumnCount": replies.column_count,
     "LocalInfilePacket": lambda b: (b.const(b"\xfb"), b.all()),
     "ProgressReport": replies.progress_report,

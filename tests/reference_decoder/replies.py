@@ -1,5 +1,6 @@
 """What a server answers: changes of a session's state, columns, OK packets, errors."""
 from .buf import Buf, Eof, Invalid, to_the_end
+from .values import text_value
 from .codes import CACHE_METADATA, COLUMN_TYPES, EXTENDED_METADATA, OPTIONAL_METADATA, PROGRESS_OBSOLETE, PROTOCOL_41, SESSION_STATE_CHANGED, SESSION_TRACK
 
 
@@ -112,8 +113,13 @@ def progress_report(buf):
 
 
 def column_count(buf, capabilities, mariadb):
-    optional = buf.number(1) if capabilities & OPTIONAL_METADATA else None
-    return optional, buf.lenenc(), buf.number(1) if mariadb & CACHE_METADATA else None
+    """The count, and the byte that says whether definitions follow: MySQL's (`start_result_metadata` in sql/protocol_classic.cc), or MariaDB's."""
+    return buf.lenenc(), buf.number(1) if capabilities & OPTIONAL_METADATA or mariadb & CACHE_METADATA else None
+
+
+def field_list_column(buf, mariadb):
+    """A column that answers COM_FIELD_LIST, and its default value: a value of a text row."""
+    return extended_column(buf, mariadb), text_value(buf)
 
 
 def sql_state(buf):

@@ -1,7 +1,7 @@
 """Prepared statements, their rows, and bulk executions."""
-from .buf import Invalid, to_the_end
+from .buf import Invalid, counted, to_the_end
 from .codes import COLUMN_TYPES, TYPE_CODES, UNSIGNED
-from .values import bin_value
+from .values import bin_value, param_value
 
 
 def stmt_packet(buf):
@@ -31,26 +31,40 @@ def stmt_long_data(buf):
 
 
 def stmt_execute_head(buf):
+    """The statement's number, the flags, and the count of executions, which servers pass over."""
     block = buf.block(10)
     block.const(b"\x17")
-    stmt_id, flags = block.number(4), block.number(1)
-    block.const(b"\1\0\0\0")
-    return stmt_id, flags
+    return block.number(4), block.number(1), block.number(4)
 
 
-def stmt_execute(buf, bound):
-    """An execution of parameters of which these are the type, its flags, and whether it was sent ahead."""
-    head, sends_types, params = stmt_execute_head(buf), False, []
-    if bound:
-        bits = int.from_bytes(buf.take((len(bound) + 7) // 8), "little")
-        sends_types = buf.number(1) != 0
-        if sends_types:
-            bound = [(*bulk_type(buf), is_sent_ahead) for _, _, is_sent_ahead in bound]
-        for i, (kind, flags, is_sent_ahead) in enumerate(bound):
-            has_value = not is_sent_ahead and not bits >> i & 1
-            value = bin_value(buf, kind, UNSIGNED if flags & 128 else 0) if has_value else None
-            params.append((kind, flags, is_sent_ahead, value))
-    return head, sends_types, params
+QUERY_ATTRIBUTES, PARAMETER_COUNT_AVAILABLE = 1 << 27, 8
+
+
+def stmt_execute(buf, bound, capabilities=0):
+    """An execution of parameters of which these are the type, its flags, and whether it was sent ahead: the parameters, and the attributes after
+    them, as `parse_com_stmt_execute` and `parse_query_bind_params` in sql/protocol_classic.cc read them."""
+    head = stmt_execute_head(buf)
+    has_names, count = bool(capabilities & QUERY_ATTRIBUTES), len(bound)
+    if has_names and (bound or head[1] & PARAMETER_COUNT_AVAILABLE):
+        count = buf.lenenc()
+        if count < len(bound):
+            raise Invalid
+    if not count:
+        return head, False, [], []
+    bits = int.from_bytes(buf.take((count + 7) // 8), "little")
+    sends_types = buf.number(1) != 0
+    if sends_types:
+        types = counted(buf, count, lambda b: (*bulk_type(b), b.string() if has_names else b""))
+    elif count > len(bound):
+        raise Invalid
+    else:
+        types = [(kind, flags, b"") for kind, flags, _ in bound]
+    ahead = [is_sent_ahead for _, _, is_sent_ahead in bound] + [False] * (count - len(bound))
+    read = []
+    for i, ((kind, flags, name), is_sent_ahead) in enumerate(zip(types, ahead)):
+        has_value = not is_sent_ahead and not bits >> i & 1
+        read.append((kind, flags, name, is_sent_ahead, param_value(buf, kind, flags & 128) if has_value else None))
+    return head, sends_types, read[: len(bound)], read[len(bound) :]
 
 
 COLUMNS = [(TYPE_CODES["LONGLONG"], 0), (TYPE_CODES["VAR_STRING"], 0), (TYPE_CODES["DATETIME"], 0)]

@@ -36,3 +36,20 @@ def bin_value(buf, column_type, flags):
     if column_type == 6:
         return None
     raise Invalid
+
+
+def date_with_offset(buf):
+    """A date, a time of day with microseconds and an offset in minutes: 13 bytes (`time_zone_displacement` in sql/sql_prepare.cc)."""
+    buf.const(b"\x0d")
+    date = [buf.number(width) for width in (2, 1, 1, 1, 1, 1, 4)]
+    return "date", date, int.from_bytes(buf.take(2), "little", signed=True)
+
+
+def param_value(buf, column_type, is_unsigned):
+    """The value of a parameter or an attribute, as `get_ps_param_len` in sql/protocol_classic.cc has it: of any type but those of numbers, dates
+    and times it is a string."""
+    if column_type in (7, 12) and buf.data[:1] == b"\x0d":
+        return date_with_offset(buf.block(14))
+    if column_type in (1, 2, 3, 4, 5, 6, 7, 8, 10, 11, 12):
+        return bin_value(buf, column_type, UNSIGNED if is_unsigned else 0)
+    return buf.string()

@@ -1,6 +1,6 @@
 //! Executions of prepared statements.
 
-use mysql_stmt::ComStmtExecuteRequestBuilder;
+use mysql_stmt::{ComStmtExecuteRequestBuilder, TypedExecutionError};
 use mysql_values::{Value, ValueRef};
 use mysql_wire::MySerialize;
 use std::alloc::{AllocError, Global};
@@ -53,7 +53,10 @@ pub extern "C" fn bench_executions_written(alloc: Global, batch: &[u8]) -> u64 {
 }
 
 /// Writes the execution with these borrowed values to an empty buffer at once, and answers how many bytes it has.
-fn written_by_reference(values: &[ValueRef<'_>], out: &mut Vec<u8>) -> Result<u64, AllocError> {
+fn written_by_reference(
+    values: &[ValueRef<'_>],
+    out: &mut Vec<u8>,
+) -> Result<u64, TypedExecutionError> {
     out.clear();
     let _leaves_out = ComStmtExecuteRequestBuilder::new(1).write_ref(values, out)?;
     Ok(out.len() as u64)

@@ -110,12 +110,17 @@ pub extern "C" fn bench_text_rows_sent(alloc: Global, batch: &[u8]) -> u64 {
 fn received(alloc: Global, bound: &[BoundParam], packet: &[u8]) -> Result<u64, Fault> {
     let mut buf = ParseBuf::new(alloc, packet);
     let head: ComStmtExecuteHead = buf.parse(())?;
-    let mut params = ExecuteParamsView::new(bound, buf)?;
+    let mut params = ExecuteParamsView::new(
+        CapabilityFlags::from_bits_retain(0),
+        &head,
+        bound,
+        buf,
+    )?;
     let mut sum = u64::from(head.stmt_id());
     for _ in 0..bound.len() {
-        sum = sum.wrapping_add(match params.next_param()? {
-            Some((_, ExecuteParam::Value(ValueRef::Int(number)))) => number.cast_unsigned(),
-            Some((_, ExecuteParam::Value(ValueRef::Bytes(bytes)))) => bytes.len() as u64,
+        sum = sum.wrapping_add(match params.next_param()?.map(|it| it.param) {
+            Some(ExecuteParam::Value(ValueRef::Int(number))) => number.cast_unsigned(),
+            Some(ExecuteParam::Value(ValueRef::Bytes(bytes))) => bytes.len() as u64,
             _ => 0,
         });
     }

@@ -5,6 +5,7 @@ use Rattle.std.proofs.lemmas.Slice.Eq.{slice_eq-Decides}
 use Rattle.std.specs.Cmp.Lexicographic.{pointwise}
 use borrow.Author.Tests.{clash}
 use Rattle.mysql_wire.proofs.Same.{and-true, numbers-same, bytes-same, options-same, parts-same}
+use Rattle.mysql_wire.specs.declared.int.RawInt.{RawInt}
 use Rattle.mysql_auth.specs.contracts.auth_more_data.AuthMoreDataPartialEq.TheImpl as derived_more
 use Rattle.mysql_auth.specs.contracts.auth_plugin.AuthPluginPartialEq.TheImpl as derived_plugin
 use Rattle.mysql_auth.specs.contracts.auth_plugin_data.AuthPluginDataPartialEq.TheImpl as derived_answer
@@ -41,6 +42,10 @@ use Rattle.mysql_auth.specs.PublicKeyResponse as key
 -- a number that a field's type wraps
 number : (m n : ℕ) → Decides (nat_eq m n && true) (m ≡ n)
 number m n = and-true _ (numbers-same m n)
+
+bytes_in_packets-same : (m n : RawInt ℕ ℕ) → Decides (nat_eq m.0 n.0 && true) (m ≡ n)
+bytes_in_packets-same =
+    parts-same (λ m n. nat_eq m.0 n.0 && true) (λ m n. m.0 ≡ n.0) (λ m n. number m.0 n.0) (λ m n s i. record { 0 = s i; 1 = record {} }) (λ m. refl)
 
 -- a word of flags
 word : (m n : ℕ) → Decides ((nat_eq m n && true) && true) (m ≡ n)
@@ -198,19 +203,21 @@ ssl_requests-same =
 pub responses-same : (a b : HandshakeResponse) → Decides (derived_response.ghosts.eq a b) (a ≡ b)
 responses-same =
     parts-same derived_response.ghosts.eq
-    (λ a b. (a.head ≡ b.head) × ((a.user ≡ b.user) × ((a.scramble_buf ≡ b.scramble_buf) × ((a.db_name ≡ b.db_name) × ((a.auth_plugin ≡ b.auth_plugin) × (a.connect_attributes ≡ b.connect_attributes))))))
+    (λ a b. (a.head ≡ b.head) × ((a.user ≡ b.user) × ((a.scramble_buf ≡ b.scramble_buf) × ((a.db_name ≡ b.db_name) × ((a.auth_plugin ≡ b.auth_plugin)
+    × ((a.connect_attributes ≡ b.connect_attributes) × (a.zstd_level ≡ b.zstd_level)))))))
     (λ a b. Decides-and _ _ (ssl_requests-same a.head b.head) (Decides-and _ _ (bytes-same a.user b.user) (Decides-and _ _ (bytes-same a.scramble_buf b.scramble_buf)
     (Decides-and _ _ (options-same bytes-same a.db_name b.db_name) (Decides-and _ _ (options-same plugins-same a.auth_plugin b.auth_plugin)
-    (options-same attribute_lists-same a.connect_attributes b.connect_attributes))))))
+    (Decides-and _ _ (options-same attribute_lists-same a.connect_attributes b.connect_attributes) (options-same bytes_in_packets-same a.zstd_level b.zstd_level)))))))
     (λ a b s i. record {
       head = s.0 i;
       user = s.1.0 i;
       scramble_buf = s.1.1.0 i;
       db_name = s.1.1.1.0 i;
       auth_plugin = s.1.1.1.1.0 i;
-      connect_attributes = s.1.1.1.1.1 i;
+      connect_attributes = s.1.1.1.1.1.0 i;
+      zstd_level = s.1.1.1.1.1.1 i;
     })
-    (λ a. (refl, (refl, (refl, (refl, (refl, refl))))))
+    (λ a. (refl, (refl, (refl, (refl, (refl, (refl, refl)))))))
 
 pub change_data-same : (a b : ComChangeUserMoreData) → Decides (derived_change_data.ghosts.eq a b) (a ≡ b)
 change_data-same =

@@ -1,5 +1,7 @@
 -- The parts of packets that were read fit, but for what their lengths have to tell.
-use Rattle.std.proofs.Common.{◌≡◌, ℕ, List, Option, Bool, true, false, refl, sym, subst, ap, ◌∙◌}
+use Rattle.std.proofs.Common.{◌≡◌, ℕ, List, Option, Some, None, Bool, true, false, refl, sym, subst, ap, ◌∙◌}
+use Rattle.std.specs.Option.{option_map}
+use Rattle.mysql_wire.specs.declared.int.RawInt.{RawInt}
 use Rattle.mysql_wire.specs.Codecs.{one_of, string_null, string_u8, string_lenenc}
 use Rattle.mysql_wire.specs.Flags.{CapabilityFlags}
 use Rattle.mysql_wire.specs.Form.{when}
@@ -8,7 +10,7 @@ use Rattle.mysql_auth.specs.Attributes.{Attribute, AreShort, AreShortIn, attribu
 use Rattle.mysql_auth.specs.ComChangeUser as change
 use Rattle.mysql_auth.specs.ComChangeUser.{change_user, last_part, more_data, named_plugin, sent_attributes as change_attributes, NamedFits, MoreDataPartsFit, MoreIsShort, MorePartsFit, ChangeUserIsShort, ChangeUserPartsFit}
 use Rattle.mysql_auth.specs.Handshake.{handshake, handshake_head, handshake_block, server_version}
-use Rattle.mysql_auth.specs.HandshakeResponse.{handshake_response, scramble, database, plugin, sent_attributes, counts_by_lenenc, counts_by_byte, sends_database, sends_plugin, sends_attributes, PartFits, ScrambleFits, ScrambleIsShort, ResponseIsShort, ResponsePartsFit}
+use Rattle.mysql_auth.specs.HandshakeResponse.{handshake_response, scramble, database, plugin, sent_attributes, counts_by_lenenc, counts_by_byte, sends_database, sends_plugin, sends_attributes, sends_zstd_level, sent_zstd_level, level_codec, LevelFits, LevelIsByte, PartFits, ScrambleFits, ScrambleIsShort, ResponseIsShort, ResponsePartsFit}
 use Rattle.mysql_auth.specs.PluginName.{PluginFits, plugin_null, plugin_null_or_eof}
 use Rattle.mysql_auth.specs.declared.auth_plugin.AuthPlugin.{AuthPlugin}
 use Rattle.mysql_auth.specs.declared.com_change_user.ComChangeUser.{ComChangeUser}
@@ -42,25 +44,43 @@ attributes-fit : (sent : Bool) (given : Option (List Attribute)) (bytes rest : L
 attributes-fit true given bytes rest s = subst (λ (o : Option (List Attribute)). AreShortIn o → PartFits AreShort true o) s.1 (λ short. (refl, short))
 attributes-fit false given bytes rest s = subst (λ (o : Option (List Attribute)). AreShortIn o → PartFits AreShort false o) (sym s.0) (λ short. refl)
 
-pub response-parts : (p : HandshakeResponse) (bytes rest : List ℕ) → (handshake_response.form tt).Spells p bytes rest → ResponseIsShort p → ResponsePartsFit p
-unfolding handshake_response scramble database plugin sent_attributes
-response-parts p bytes rest s =
+-- a level that was read was sent
+level-fits : (sent : Bool) (level : Option (RawInt ℕ ℕ)) (bytes rest more : List ℕ) → ((level_codec sent).form tt).Spells level bytes rest
+    → LevelIsByte sent (option_map (λ n. n.0) level) more → LevelFits sent (option_map (λ n. n.0) level) more
+level-fits true None bytes rest more s h = h
+level-fits false None bytes rest more s h = h
+level-fits true (Some level) bytes rest more s h = (refl, h)
+level-fits false (Some level) bytes rest more s h = absurd (cc s.0)
+
+pub response-parts : (p : HandshakeResponse) (bytes rest more : List ℕ) → (handshake_response.form tt).Spells p bytes rest → ResponseIsShort p more → ResponsePartsFit p more
+unfolding handshake_response scramble database plugin sent_attributes sent_zstd_level
+response-parts p bytes rest more s =
     let user = s.3 in
     let answer = user.3 in
     let name = answer.3 in
     let named = name.3 in
     let given = named.3 in
+    let level = given.3 in
     let head = s.0 in
-    let made : HandshakeResponse = record { head = head; user = user.0; scramble_buf = answer.0; db_name = name.0; auth_plugin = named.0; connect_attributes = given.0 } in
-    let parts : ResponseIsShort made → ResponsePartsFit made = λ short. record {
+    let made : HandshakeResponse = record {
+      head = head;
+      user = user.0;
+      scramble_buf = answer.0;
+      db_name = name.0;
+      auth_plugin = named.0;
+      connect_attributes = given.0;
+      zstd_level = level.0;
+    } in
+    let parts : ResponseIsShort made more → ResponsePartsFit made more = λ short. record {
       user = null-no_zero user.0 s.1 user.1 user.2;
       scramble_buf = scramble-fits (counts_by_lenenc head) (counts_by_byte head) answer.0 user.1 answer.1 answer.2 short.scramble_buf;
       db_name = read-part null_string HasNoZero null-no_zero (sends_database head) name.0 answer.1 name.1 name.2;
       auth_plugin = read-part (plugin_null_or_eof.form tt) PluginFits to-zero-or-end-fits (sends_plugin head) named.0 name.1 named.1 named.2;
       connect_attributes = attributes-fit (sends_attributes head) given.0 named.1 given.1 given.2 short.connect_attributes;
+      zstd_level = level-fits (sends_zstd_level head) level.0 given.1 level.1 more level.2 short.zstd_level;
     } in
-    let whole : p ≡ made = given.3.0 in
-    subst (λ (q : HandshakeResponse). ResponseIsShort q → ResponsePartsFit q) (sym whole) parts
+    let whole : p ≡ made = level.3.0 in
+    subst (λ (q : HandshakeResponse). ResponseIsShort q more → ResponsePartsFit q more) (sym whole) parts
 
 -- ---- the change of user
 

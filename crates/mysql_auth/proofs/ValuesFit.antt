@@ -47,7 +47,7 @@ given-fit : (sent : Bool) (given : Option (List Attribute)) → Once given → P
 given-fit sent None once h = h
 given-fit sent (Some pairs) once h = (h.0, record { once = once pairs refl; short = h.1 })
 
-pub response-spelled : (p : HandshakeResponse) (rest : List ℕ) → SslRequestFits p.head → Once (response.connect_attributes p) → ResponsePartsFit p
+pub response-spelled : (p : HandshakeResponse) (rest : List ℕ) → SslRequestFits p.head → Once (response.connect_attributes p) → ResponsePartsFit p rest
     → (handshake_response.form tt).Spells p (handshake_response.bytes p ++ rest) rest
 response-spelled p rest widths once h =
     handshake_response.again tt p rest (response-fits p rest (record {
@@ -60,6 +60,7 @@ response-spelled p rest widths once h =
       db_name = h.db_name;
       auth_plugin = h.auth_plugin;
       connect_attributes = given-fit (response.sends_attributes p.head) (response.connect_attributes p) once h.connect_attributes;
+      zstd_level = h.zstd_level;
     }))
 
 -- ---- the change of user

@@ -1,10 +1,15 @@
 -- The answer to a handshake.
-use Rattle.std.specs.Prelude.{◌≡◌, ℕ, ◌<◌, ◌^◌, ◌==◌, ◌&&◌, ◌||◌, nat_lt, nat_le, List, length, Option, Some, None, Bool, true, false, if◌then◌else◌, refl}
+use Rattle.std.specs.Prelude.{◌≡◌, ℕ, ◌<◌, ◌^◌, ◌==◌, ◌&&◌, ◌||◌, nat_lt, nat_le, List, [], length, Option, Some, None, Bool, true, false, if◌then◌else◌, refl}
+use Rattle.std.proofs.Common.{arith}
+use Rattle.std.specs.Option.{option_map}
 use Rattle.mysql_wire.specs.Codec.{Codec, Fields}
-use Rattle.mysql_wire.specs.Codecs.{◌>>=◌, give, field, packet, when, one_of, string_null, string_u8, string_lenenc}
-use Rattle.mysql_wire.specs.FlagMasks.{CLIENT_CONNECT_WITH_DB, CLIENT_SECURE_CONNECTION, CLIENT_PLUGIN_AUTH, CLIENT_CONNECT_ATTRS, CLIENT_PLUGIN_AUTH_LENENC_CLIENT_DATA}
+use Rattle.mysql_wire.specs.Codecs.{◌>>=◌, give, field, packet, when, one_of, if_bytes_left, u8, raw_int, string_null, string_u8, string_lenenc}
+use Rattle.mysql_wire.specs.FlagMasks.{CLIENT_CONNECT_WITH_DB, CLIENT_SECURE_CONNECTION, CLIENT_PLUGIN_AUTH, CLIENT_CONNECT_ATTRS, CLIENT_PLUGIN_AUTH_LENENC_CLIENT_DATA, CLIENT_ZSTD_COMPRESSION_ALGORITHM}
 use Rattle.mysql_wire.specs.Flags.{CapabilityFlags, MariadbCapabilities, has}
 use Rattle.mysql_wire.specs.Null.{HasNoZero}
+use Rattle.mysql_wire.specs.Optional.{optional_bytes}
+use Rattle.mysql_wire.specs.Writing.{le_bytes}
+use Rattle.mysql_wire.specs.declared.int.RawInt.{RawInt}
 use Rattle.mysql_auth.specs.Attributes.{Attribute, AreShort, AreShortIn, AttributesFit, attributes}
 use Rattle.mysql_auth.specs.PluginName.{PluginFits, plugin_null_or_eof}
 use Rattle.mysql_auth.specs.SslRequest as ssl
@@ -42,6 +47,13 @@ auth_plugin p = p.auth_plugin
 abbrev pub connect_attributes : HandshakeResponse → Option (List Attribute)
 connect_attributes p = p.connect_attributes
 
+-- the level of its compression by zstd
+abbrev pub zstd_level : HandshakeResponse → Option ℕ
+zstd_level p = option_map (λ level. level.0) p.zstd_level
+
+abbrev pub with_zstd_level : Option ℕ → HandshakeResponse → HandshakeResponse
+with_zstd_level level p = record p { zstd_level = option_map raw_int level }
+
 -- the response with these capabilities of MariaDB's own
 abbrev pub with_mariadb : MariadbCapabilities → HandshakeResponse → HandshakeResponse
 with_mariadb mariadb p = record p { head = ssl.with_mariadb mariadb p.head }
@@ -74,6 +86,9 @@ counts_by_lenenc head = has (ssl.capabilities head).0 CLIENT_PLUGIN_AUTH_LENENC_
 abbrev pub counts_by_byte : SslRequest → Bool
 counts_by_byte head = has (ssl.capabilities head).0 CLIENT_SECURE_CONNECTION
 
+abbrev pub sends_zstd_level : SslRequest → Bool
+sends_zstd_level head = has (ssl.capabilities head).0 CLIENT_ZSTD_COMPRESSION_ALGORITHM
+
 -- ---- the layout
 
 -- Length-encoded under CLIENT_PLUGIN_AUTH_LENENC_CLIENT_DATA; else after a length of one byte under
@@ -91,8 +106,18 @@ plugin head = when (λ c. sends_plugin head) plugin_null_or_eof
 unfoldable pub sent_attributes : SslRequest → Codec (Unit {0}) (Option (List Attribute))
 sent_attributes head = when (λ c. sends_attributes head) attributes
 
--- 32 bytes as of a request for TLS; the user; the scramble; the database, the plugin's name and the attributes, each
--- under its flag
+-- the level of compression in a byte, where it is sent and a byte is left
+pub some-byte : (level : RawInt ℕ ℕ) → 0 < 1
+some-byte level = omega arith
+
+abbrev pub level_codec : (sent : Bool) → Codec (Unit {0}) (Option (RawInt ℕ ℕ))
+level_codec sent = one_of sent (if_bytes_left u8 some-byte) (when (λ c. false) u8)
+
+unfoldable pub sent_zstd_level : SslRequest → Codec (Unit {0}) (Option (RawInt ℕ ℕ))
+sent_zstd_level head = level_codec (sends_zstd_level head)
+
+-- 32 bytes as of a request for TLS; the user; the scramble; the database, the plugin's name, the attributes and the level
+-- of compression, each under its flag
 abbrev pub handshake_response_fields : Fields (Unit {0}) HandshakeResponse HandshakeResponse
 handshake_response_fields = do
   head ← field (λ p. p.head) ssl_request
@@ -101,6 +126,7 @@ handshake_response_fields = do
   db_name ← field db_name (database head)
   auth_plugin ← field auth_plugin (plugin head)
   connect_attributes ← field connect_attributes (sent_attributes head)
+  zstd_level ← field (λ p. p.zstd_level) (sent_zstd_level head)
   give (
       record {
         head = head;
@@ -109,15 +135,20 @@ handshake_response_fields = do
         db_name = db_name;
         auth_plugin = auth_plugin;
         connect_attributes = connect_attributes;
+        zstd_level = zstd_level;
       }
       )
 
 unfoldable pub handshake_response : Codec (Unit {0}) HandshakeResponse
 handshake_response = packet handshake_response_fields (λ p. refl)
 
+-- what is written of a level, where one is given
+abbrev pub level_bytes : Option (RawInt ℕ ℕ) → List ℕ
+level_bytes level = optional_bytes (λ n. le_bytes 1 n.0) level
+
 -- what is written before the attributes
 abbrev pub before_attributes : HandshakeResponse → List ℕ
-before_attributes p = handshake_response.bytes (record p { connect_attributes = None })
+before_attributes p = handshake_response.bytes (record p { connect_attributes = None; zstd_level = None })
 
 pub size-handshake_response : (handshake_response.form tt).size ≡ None
 unfolding handshake_response
@@ -136,13 +167,20 @@ ScrambleFits true by_byte scramble = length scramble < 2 ^ 64
 ScrambleFits false true scramble = length scramble < 2 ^ 8
 ScrambleFits false false scramble = HasNoZero scramble
 
--- the parts: what is left to show of a response at hand
-pub record ResponsePartsFit (p : HandshakeResponse) : Type 0 where
+-- a level is a byte that is sent; where it is sent and there is none, nothing may follow
+abbrev pub LevelFits : (sent : Bool) → Option ℕ → (rest : List ℕ) → Type 0
+LevelFits sent (Some level) rest = (sent ≡ true) × (level < 2 ^ 8)
+LevelFits true None rest = rest ≡ []
+LevelFits false None rest = Unit {0}
+
+-- the parts, before this rest: what is left to show of a response at hand
+pub record ResponsePartsFit (p : HandshakeResponse) (rest : List ℕ) : Type 0 where
   pub user : HasNoZero (user p)
   pub scramble_buf : ScrambleFits (counts_by_lenenc p.head) (counts_by_byte p.head) (scramble_buf p)
   pub db_name : PartFits HasNoZero (sends_database p.head) (db_name p)
   pub auth_plugin : PartFits PluginFits (sends_plugin p.head) (auth_plugin p)
   pub connect_attributes : PartFits AreShort (sends_attributes p.head) (connect_attributes p)
+  pub zstd_level : LevelFits (sends_zstd_level p.head) (zstd_level p) rest
 
 -- a length that its form can tell
 abbrev pub ScrambleIsShort : (by_lenenc by_byte : Bool) → List ℕ → Type 0
@@ -150,13 +188,20 @@ ScrambleIsShort true by_byte scramble = length scramble < 2 ^ 64
 ScrambleIsShort false true scramble = length scramble < 2 ^ 8
 ScrambleIsShort false false scramble = Unit {0}
 
--- the lengths: what is left to show of a response that was read
-pub record ResponseIsShort (p : HandshakeResponse) : Type 0 where
+-- a level is a byte; where it is sent and there is none, nothing may follow
+abbrev pub LevelIsByte : (sent : Bool) → Option ℕ → (rest : List ℕ) → Type 0
+LevelIsByte sent (Some level) rest = level < 2 ^ 8
+LevelIsByte true None rest = rest ≡ []
+LevelIsByte false None rest = Unit {0}
+
+-- the lengths, before this rest: what is left to show of a response that was read
+pub record ResponseIsShort (p : HandshakeResponse) (rest : List ℕ) : Type 0 where
   pub scramble_buf : ScrambleIsShort (counts_by_lenenc p.head) (counts_by_byte p.head) (scramble_buf p)
   pub connect_attributes : AreShortIn (connect_attributes p)
+  pub zstd_level : LevelIsByte (sends_zstd_level p.head) (zstd_level p) rest
 
--- numbers that have their widths, as they always have; and the parts, of which the attributes have each key once
-pub record HandshakeResponseFits (p : HandshakeResponse) : Type 0 where
+-- numbers that have their widths, as they always have; and the parts before this rest, of which the attributes have each key once
+pub record HandshakeResponseFits (p : HandshakeResponse) (rest : List ℕ) : Type 0 where
   pub capabilities : (capabilities p).0 < 2 ^ 32
   pub max_packet_size : max_packet_size p < 2 ^ 32
   pub collation : collation p < 2 ^ 8
@@ -166,3 +211,4 @@ pub record HandshakeResponseFits (p : HandshakeResponse) : Type 0 where
   pub db_name : PartFits HasNoZero (sends_database p.head) (db_name p)
   pub auth_plugin : PartFits PluginFits (sends_plugin p.head) (auth_plugin p)
   pub connect_attributes : PartFits AttributesFit (sends_attributes p.head) (connect_attributes p)
+  pub zstd_level : LevelFits (sends_zstd_level p.head) (zstd_level p) rest

@@ -1,13 +1,14 @@
 -- The answer to a handshake, part by part.
-use Rattle.std.specs.Prelude.{List, Option, None}
+use Rattle.std.specs.Prelude.{ℕ, List, Option, None}
 use Rattle.mysql_wire.specs.Form.{Form, ◌>>=◌, give}
 use Rattle.mysql_wire.specs.Null.{null_string}
+use Rattle.mysql_wire.specs.declared.int.RawInt.{RawInt}
 use Rattle.mysql_auth.specs.Attributes.{Attribute}
 use Rattle.mysql_auth.specs.HandshakeResponse.{scramble, database, plugin}
 use Rattle.mysql_auth.specs.SslRequest.{ssl_request}
 use Rattle.mysql_auth.specs.declared.handshake_response.HandshakeResponse.{HandshakeResponse}
 
--- what stands in front of the attributes: the response without any
+-- what stands in front of the attributes: the response without any, and without a level
 abbrev pub before_attributes : Form HandshakeResponse
 before_attributes = do
   head ← ssl_request.form tt
@@ -23,9 +24,10 @@ before_attributes = do
         db_name = db_name;
         auth_plugin = auth_plugin;
         connect_attributes = None;
+        zstd_level = None;
       }
       )
 
--- the same response with these attributes
-abbrev pub with_attributes : Option (List Attribute) → HandshakeResponse → HandshakeResponse
-with_attributes given p = record p { connect_attributes = given }
+-- the same response with these attributes, and with this level of compression
+abbrev pub with_last : Option (List Attribute) → Option (RawInt ℕ ℕ) → HandshakeResponse → HandshakeResponse
+with_last given level p = record p { connect_attributes = given; zstd_level = level }

@@ -28,7 +28,7 @@ use bitflags::Flags;
 use indexmap::IndexMap;
 use mysql_wire::{
     AnyWidth, CapabilityFlags, Either, EofBytes, FaultOf, LenEnc, MariadbCapabilities,
-    MyDeserialize, NullBytes, ParseBuf, Parts, RawBytes, Sink, U8Bytes, parts,
+    MyDeserialize, NullBytes, ParseBuf, Parts, RawBytes, RawInt, Sink, U8Bytes, parts,
 };
 use std::alloc::{AllocError, Global};
 use std::borrow::CowSlice;
@@ -44,6 +44,7 @@ use std::borrow::CowSlice;
 /// | `db_name` | under `CLIENT_CONNECT_WITH_DB`: up to a zero |
 /// | `auth_plugin` | under `CLIENT_PLUGIN_AUTH`: its name, up to a zero or the end; it is written with the zero |
 /// | `connect_attributes` | under `CLIENT_CONNECT_ATTRS`: a length-encoded string, whose content is length-encoded keys and values, one after another |
+/// | `zstd_level` | under `CLIENT_ZSTD_COMPRESSION_ALGORITHM`: one byte, where a byte is left |
 ///
 /// Missing bytes are `UnexpectedEof`; a length that begins with `fb` or `ff` is `InvalidData`. Reading takes memory for
 /// the attributes alone.
@@ -55,6 +56,7 @@ pub struct HandshakeResponse<'a> {
     pub(crate) db_name: Option<RawBytes<'a, NullBytes>>,
     pub(crate) auth_plugin: Option<AuthPlugin<'a>>,
     pub(crate) connect_attributes: Option<Attributes<'a>>,
+    pub(crate) zstd_level: Option<RawInt<u8>>,
 }
 
 impl Drop for HandshakeResponse<'_> {
@@ -67,6 +69,7 @@ impl Drop for HandshakeResponse<'_> {
             db_name: _,
             auth_plugin: _,
             connect_attributes: _,
+            zstd_level: _,
         } = self;
     }
 }
@@ -168,6 +171,7 @@ impl<'a> HandshakeResponse<'a> {
             db_name: bytes_if_given(db_name),
             auth_plugin,
             connect_attributes,
+            zstd_level: None,
         })
     }
 
@@ -184,6 +188,20 @@ impl<'a> HandshakeResponse<'a> {
         ensures value { result ≡ spec.with_collation collation self.entry }
     {
         self.head.set_character_set(collation);
+        self
+    }
+
+    /// The same response with this level of compression by zstd, from 1 to 22, or with none.
+    ///
+    /// Servers read it where `CLIENT_ZSTD_COMPRESSION_ALGORITHM` is among the capabilities
+    /// (`parse_client_handshake_packet` in MySQL's `sql/auth/sql_authentication.cc`).
+    pub fn with_zstd_level(mut self, level: Option<u8>) -> Self
+        ensures value { result ≡ spec.with_zstd_level level self.entry }
+    {
+        self.zstd_level = match level {
+            Some(level) => Some(RawInt::new(level)),
+            None => None,
+        };
         self
     }
 
@@ -279,7 +297,18 @@ impl<'a> HandshakeResponse<'a> {
         }
     }
 
-    /// What is written of it before its attributes.
+    /// The level of compression by zstd, where one was sent.
+    #[inline]
+    pub fn zstd_level(&self) -> Option<u8>
+        ensures value { result ≡ spec.zstd_level self.now }
+    {
+        match &self.zstd_level {
+            Some(level) => Some(level.0),
+            None => None,
+        }
+    }
+
+    /// What is written of it before its attributes, without its level of compression.
     pub fn before_attributes(&self) -> ResponseBeforeAttributes<'_, 'a>
         ensures { result.0.now ≡ self.now }
     {
@@ -336,6 +365,18 @@ fn read_attributes<'s, 'a>(
     Ok(Some(buf.parse(())?))
 }
 
+/// The level of compression, where it was sent.
+#[tactic(auto, using(mysql_wire::proofs::Packets::packets), unfolding(crate::specs::HandshakeResponse::sent_zstd_level))]
+pub(crate) fn read_zstd_level(head: &SslRequest, buf: &mut ParseBuf<'_>) -> Option<RawInt<u8>>
+    ensures value { ((spec.sent_zstd_level head.now).form tt).reads buf.old ≡ Ok (result, buf.new) }
+{
+    let flag = CapabilityFlags::CLIENT_ZSTD_COMPRESSION_ALGORITHM;
+    if !head.capabilities().contains(flag) || buf.is_empty() {
+        return None;
+    }
+    Some(RawInt::take(buf))
+}
+
 impl<'de> MyDeserialize<'de> for HandshakeResponse<'de> {
     const SIZE: Option<usize> = None;
 
@@ -352,14 +393,15 @@ impl<'de> MyDeserialize<'de> for HandshakeResponse<'de> {
         let mut rest = buf.rest();
         let response = HandshakeResponseRef::read_before_attributes(&mut rest)?;
         let connect_attributes = read_attributes(&response.head, &mut rest)?;
+        let zstd_level = read_zstd_level(&response.head, &mut rest);
         *buf = rest;
-        Ok(response.with_attributes(connect_attributes))
+        Ok(response.with_last(connect_attributes, zstd_level))
     }
 
     ghost size_is = { λ _. spec.size-handshake_response };
 }
 
-#[tactic(auto, using(mysql_wire::proofs::Packets::packets), unfolding(crate::specs::HandshakeResponse::handshake_response, crate::specs::HandshakeResponse::database, crate::specs::HandshakeResponse::plugin, crate::specs::HandshakeResponse::sent_attributes, crate::specs::PluginName::plugin_null_or_eof))]
+#[tactic(auto, using(mysql_wire::proofs::Packets::packets), unfolding(crate::specs::HandshakeResponse::handshake_response, crate::specs::HandshakeResponse::database, crate::specs::HandshakeResponse::plugin, crate::specs::HandshakeResponse::sent_attributes, crate::specs::HandshakeResponse::sent_zstd_level, crate::specs::PluginName::plugin_null_or_eof))]
 impl Parts for HandshakeResponse<'_> {
     ghost bytes = { spec.handshake_response.bytes };
 
@@ -372,7 +414,8 @@ impl Parts for HandshakeResponse<'_> {
             scramble,
             self.db_name,
             self.auth_plugin,
-            self.connect_attributes
+            self.connect_attributes,
+            self.zstd_level
         ));
     }
 }
@@ -381,7 +424,7 @@ impl Parts for HandshakeResponse<'_> {
 #[derive(Drop)]
 pub struct ResponseBeforeAttributes<'b, 'a>(&'b HandshakeResponse<'a>);
 
-#[tactic(auto, using(mysql_wire::proofs::Packets::packets), unfolding(crate::specs::HandshakeResponse::handshake_response, crate::specs::HandshakeResponse::database, crate::specs::HandshakeResponse::plugin, crate::specs::HandshakeResponse::sent_attributes, crate::specs::PluginName::plugin_null_or_eof))]
+#[tactic(auto, using(mysql_wire::proofs::Packets::packets), unfolding(crate::specs::HandshakeResponse::handshake_response, crate::specs::HandshakeResponse::database, crate::specs::HandshakeResponse::plugin, crate::specs::HandshakeResponse::sent_attributes, crate::specs::HandshakeResponse::sent_zstd_level, crate::specs::PluginName::plugin_null_or_eof))]
 impl Parts for ResponseBeforeAttributes<'_, '_> {
     ghost bytes = { λ r. spec.before_attributes r.0.now };
 

@@ -8,20 +8,20 @@ ghost use Rattle.mysql_auth.specs.Attributes.{merged};
 ghost use Rattle.mysql_auth.specs.AuthPlugin.{plugin_of};
 ghost use Rattle.mysql_auth.specs.ConnectAttributesRef.{AnswersGiven};
 ghost use Rattle.mysql_auth.specs.HandshakeResponse as spec;
-ghost use Rattle.mysql_auth.specs.HandshakeResponseRef.{before_attributes, with_attributes};
+ghost use Rattle.mysql_auth.specs.HandshakeResponseRef.{before_attributes, with_last};
 ghost use Rattle.mysql_auth.specs.declared.handshake_response.HandshakeResponse.{HandshakeResponse};
 
 use crate::attributes::Attributes;
 use crate::auth_plugin::AuthPlugin;
 use crate::connect_attributes_ref::{ConnectAttributesRef, attributes_given, iter_given};
 use crate::handshake_head_ref::{bytes_of, place_given, shown};
-use crate::handshake_response::HandshakeResponse;
+use crate::handshake_response::{HandshakeResponse, read_zstd_level};
 use crate::plugin_name::{AuthPluginRef, again_given, name_given, plugin_given};
 use crate::ssl_request::SslRequest;
 use bitflags::Flags;
 use mysql_wire::{
     AnyWidth, BytesRepr, CapabilityFlags, FaultOf, LenEnc, MariadbCapabilities, MyDeserialize,
-    NullBytes, ParseBuf, RawBytes, U8Bytes,
+    NullBytes, ParseBuf, RawBytes, RawInt, U8Bytes,
 };
 use std::alloc::{AllocError, Global};
 use std::borrow::CowSlice;
@@ -41,6 +41,7 @@ pub struct HandshakeResponseRef<'a> {
     db_name: Option<ParseBuf<'a>>,
     auth_plugin: Option<AuthPluginRef<'a>>,
     connect_attributes: Option<ConnectAttributesRef<'a>>,
+    zstd_level: Option<RawInt<u8>>,
 }
 
 impl<'a> Model for HandshakeResponseRef<'a> {
@@ -53,6 +54,7 @@ impl<'a> Model for HandshakeResponseRef<'a> {
       db_name = p.db_name;
       auth_plugin = p.auth_plugin;
       connect_attributes = option_map merged p.connect_attributes;
+      zstd_level = p.zstd_level;
     } };
 }
 
@@ -139,13 +141,35 @@ impl<'a> HandshakeResponseRef<'a> {
         iter_given(&self.connect_attributes)
     }
 
-    /// The response with these attributes in place of its own, in its other form.
+    /// As [`HandshakeResponse::zstd_level`].
     #[inline]
-    pub(crate) fn with_attributes(
+    pub fn zstd_level(&self) -> Option<u8>
+        ensures value { result ≡ spec.zstd_level self.now }
+    {
+        match &self.zstd_level {
+            Some(level) => Some(level.0),
+            None => None,
+        }
+    }
+
+    /// The level once more.
+    fn level_again(&self) -> Option<RawInt<u8>>
+        ensures value { result ≡ self.now.zstd_level }
+    {
+        match &self.zstd_level {
+            Some(level) => Some(RawInt::new(level.0)),
+            None => None,
+        }
+    }
+
+    /// The response with these attributes and this level of compression in place of its own, in its other form.
+    #[inline]
+    pub(crate) fn with_last(
         &self,
         connect_attributes: Option<Attributes<'a>>,
+        zstd_level: Option<RawInt<u8>>,
     ) -> HandshakeResponse<'a>
-        ensures value { result ≡ with_attributes connect_attributes.entry self.now }
+        ensures value { result ≡ with_last connect_attributes.entry zstd_level self.now }
     {
         HandshakeResponse {
             head: self.head.again(),
@@ -157,6 +181,7 @@ impl<'a> HandshakeResponseRef<'a> {
             },
             auth_plugin: self.auth_plugin(),
             connect_attributes,
+            zstd_level,
         }
     }
 
@@ -166,10 +191,11 @@ impl<'a> HandshakeResponseRef<'a> {
         // Without attributes it takes no memory.
         ensures no_memory { unwrap_or (spec.connect_attributes self.now) [] ≡ [] → IsOk result }
     {
-        Ok(self.with_attributes(attributes_given(&self.connect_attributes, alloc)?))
+        let attributes = attributes_given(&self.connect_attributes, alloc)?;
+        Ok(self.with_last(attributes, self.level_again()))
     }
 
-    /// The response without its attributes, which are left.
+    /// The response without its attributes and its level of compression, which are left.
     #[tactic(auto, using(mysql_wire::proofs::Packets::packets))]
     pub(crate) fn read_before_attributes<'s>(
         buf: &mut ParseBuf<'a>,
@@ -188,6 +214,7 @@ impl<'a> HandshakeResponseRef<'a> {
             db_name,
             auth_plugin,
             connect_attributes: None,
+            zstd_level: None,
         })
     }
 }
@@ -269,6 +296,7 @@ impl Clone for HandshakeResponseRef<'_> {
             db_name: place_given(&self.db_name),
             auth_plugin: again_given(&self.auth_plugin),
             connect_attributes: iter_given(&self.connect_attributes),
+            zstd_level: self.level_again(),
         })
     }
 }
@@ -287,6 +315,7 @@ impl Debug for HandshakeResponseRef<'_> {
             .field("db_name", &db_name)
             .field("auth_plugin", &self.auth_plugin())
             .field("connect_attributes", &self.connect_attributes)
+            .field("zstd_level", &self.zstd_level())
             .finish()
     }
 }
@@ -306,6 +335,7 @@ impl<'de> MyDeserialize<'de> for HandshakeResponseRef<'de> {
         let mut rest = buf.rest();
         let mut response = HandshakeResponseRef::read_before_attributes(&mut rest)?;
         response.connect_attributes = read_attributes(&response.head, &mut rest)?;
+        response.zstd_level = read_zstd_level(&response.head, &mut rest);
         *buf = rest;
         Ok(response)
     }

@@ -107,7 +107,7 @@ pub fn handshake_round_trips()
 
 /// What is written of a response to a handshake is read again.
 pub fn handshake_response_round_trips()
-    ensures spelled { (p : HandshakeResponse) (rest : List ℕ) → HandshakeResponseFits p → (handshake_response.form tt).Spells p (handshake_response.bytes p ++ rest) rest }
+    ensures spelled { (p : HandshakeResponse) (rest : List ℕ) → HandshakeResponseFits p rest → (handshake_response.form tt).Spells p (handshake_response.bytes p ++ rest) rest }
 {}
 
 /// What is written of a change of user is read again, under the flags that both sides know.
@@ -129,7 +129,7 @@ pub fn read_handshake_has_no_zero()
 /// The parts of a response that was read fit, where its lengths do.
 #[tactic(auto, using(crate::proofs::ReadPackets::read_packets))]
 pub fn read_handshake_response_fits()
-    ensures fits { (p : HandshakeResponse) (bytes rest : List ℕ) → (handshake_response.form tt).Spells p bytes rest → ResponseIsShort p → ResponsePartsFit p }
+    ensures fits { (p : HandshakeResponse) (bytes rest more : List ℕ) → (handshake_response.form tt).Spells p bytes rest → ResponseIsShort p more → ResponsePartsFit p more }
 {}
 
 /// The parts of more data that was read fit, where the length of its attributes does.

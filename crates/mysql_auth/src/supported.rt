@@ -17,7 +17,7 @@ use mysql_wire::CapabilityFlags;
 /// | `CLIENT_SSL` | it makes the first 32 bytes of a response a request for TLS: [`HandshakeResponse::ssl_request`](crate::HandshakeResponse::ssl_request) sets it |
 ///
 /// Three change what a driver has to do, so that only one that does so agrees to them: under
-/// `CLIENT_OPTIONAL_RESULTSET_METADATA` a byte more stands in the answer to a preparation and before the count of
+/// `CLIENT_OPTIONAL_RESULTSET_METADATA` a byte more follows the answer to a preparation and the count of
 /// columns, under `CLIENT_QUERY_ATTRIBUTES` a query and an execution have counts in any case, and under
 /// `MULTI_FACTOR_AUTHENTICATION` a login may go on with a further plugin
 /// ([`AuthReply::NextFactor`](crate::AuthReply::NextFactor)).

@@ -4,7 +4,7 @@ use Rattle.std.proofs.Common.{◌≡◌, ℕ, zero, suc, ◌+◌, ◌*◌, ◌<�
 use Rattle.std.proofs.lemmas.List.{append-nil}
 use Rattle.std.proofs.Math.Nat.{pow-suc}
 use Rattle.std.specs.Int.{byte_at, bytes_low_first}
-use Rattle.mysql_wire.specs.Constant.{const_byte, const_le_u32}
+use Rattle.mysql_wire.specs.Constant.{const_byte}
 use Rattle.mysql_wire.specs.ConstantValue.{coded}
 use Rattle.mysql_wire.specs.CountedBytes.{u8_string, u8_string_bytes, counted_bytes, counted_bytes_of}
 use Rattle.mysql_wire.specs.Flags.{flag_word}
@@ -14,11 +14,9 @@ use Rattle.mysql_wire.specs.LittleEndian.{value-le_bytes, length-le_bytes}
 use Rattle.mysql_wire.specs.Null.{null_string, null_bytes, before_zero, HasNoZero}
 use Rattle.mysql_wire.specs.Writing.{le_bytes}
 use Rattle.mysql_wire.specs.declared.constant.ConstU8.{ConstU8}
-use Rattle.mysql_wire.specs.declared.constant.ConstU32.{ConstU32}
 use Rattle.mysql_wire.specs.declared.constant_value.Const.{Const}
 use Rattle.mysql_wire.specs.declared.flags.FlagWord.{FlagWord}
 use Rattle.mysql_wire.specs.declared.int.RawInt.{RawInt}
-use Rattle.mysql_wire.specs.declared.little_endian.LeU32.{LeU32}
 use Rattle.mysql_commands.specs.AsRead.{AreBytes, Exact}
 
 -- ---- bytes
@@ -160,13 +158,3 @@ u8_string-exact content before rest h s =
     let below : s.2.2.0 < 256 ^ 1 = number-below 1 s.2.2.0 before s.1 h s.2.2.2 in
     let all : take 255 content ≡ content = take-all 255 content (omega (arith, below, value, is)) in
     rw (all, ← is) (then-exact (le_bytes 1 s.2.0.0) content before s.1 rest header (sym s.3.1))
-
-the-constant_32 : {T : Type 0} (test : Bool) (value : ℕ) (v : ConstU32 T value) → (if test then Some (record { 0 = record {} }) else None) ≡ Some v → test ≡ true
-the-constant_32 true value v e = refl
-the-constant_32 false value v e = absurd cc
-
-pub const_32-exact : {T : Type 0} (value : ℕ) → Exact (const_le_u32 {T = T} value) (λ v. le_bytes 4 value)
-unfolding const_le_u32
-const_32-exact {T} value v before rest h s =
-    let is : s.0.0 ≡ value = eqb-true _ _ (the-constant_32 (s.0.0 == value) value v s.1) in
-    rw (← is) (raw-exact LeU32 4 s.0 before rest h s.2)

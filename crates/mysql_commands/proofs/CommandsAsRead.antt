@@ -18,7 +18,8 @@ use Rattle.mysql_commands.specs.After.{after_form, byte_left, code_bytes}
 use Rattle.mysql_commands.specs.AsSent.{as_sent_form}
 use Rattle.mysql_commands.specs.Command.{command, command_at, command_named, command_bytes}
 use Rattle.mysql_commands.specs.Query.{query, sends_attributes}
-use Rattle.mysql_commands.specs.QueryAttributes.{Attribute, query_attributes}
+use Rattle.mysql_prepared.specs.Attributes.{Attribute}
+use Rattle.mysql_commands.specs.QueryAttributes.{query_attributes}
 use Rattle.mysql_commands.specs.declared.as_sent.AsSent.{AsSent}
 use Rattle.mysql_commands.specs.declared.command.Command.{Command}
 use Rattle.mysql_commands.specs.AsRead.{AreBytes, Exact}

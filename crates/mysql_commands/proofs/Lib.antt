@@ -2,7 +2,6 @@ pub mod LastPart
 pub mod CommandAgain
 pub mod QueryAgain
 pub mod SentAlike
-pub mod AttributeViews
 pub mod AsRead
 pub mod PacketsAsRead
 pub mod CommandsAsRead

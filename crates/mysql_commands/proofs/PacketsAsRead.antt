@@ -18,7 +18,7 @@ use Rattle.mysql_commands.specs.StmtFetch.{stmt_fetch}
 use Rattle.mysql_commands.specs.StmtReset.{stmt_reset}
 use Rattle.mysql_commands.specs.Unknown.{unknown}
 use Rattle.mysql_commands.specs.AsRead.{AreBytes, Exact}
-use Rattle.mysql_commands.proofs.AsRead.{bytes-before, bytes-left, took, then-exact, last-exact, block-exact, const-exact, raw-exact, flags-exact, null-exact, left-exact, u8_string-exact, const_32-exact}
+use Rattle.mysql_commands.proofs.AsRead.{bytes-before, bytes-left, took, then-exact, last-exact, block-exact, const-exact, raw-exact, flags-exact, null-exact, left-exact, u8_string-exact}
 
 pub field_list-exact : Exact (field_list.form tt) field_list.bytes
 unfolding field_list
@@ -101,8 +101,8 @@ execute_head-exact v before rest h s =
     let e0_s_2 = took (0x17 ∷ []) s.0 s.2.1 (const-exact 0x17 s.2.0 s.0 s.2.1 small s.2.2) small in
     let e1_s_2 = took (le_bytes 4 s.2.3.0.0) s.2.1 s.2.3.1 (raw-exact _ 4 s.2.3.0 s.2.1 s.2.3.1 e0_s_2.left s.2.3.2) e0_s_2.left in
     let e2_s_2 = took (le_bytes 1 s.2.3.3.0.0.0) s.2.3.1 s.2.3.3.1 (flags-exact _ _ 1 s.2.3.3.0 s.2.3.1 s.2.3.3.1 e1_s_2.left s.2.3.3.2) e1_s_2.left in
-    let e3_s_2 = took (le_bytes 4 1) s.2.3.3.1 s.2.3.3.3.1 (const_32-exact 1 s.2.3.3.3.0 s.2.3.3.1 s.2.3.3.3.1 e2_s_2.left s.2.3.3.3.2) e2_s_2.left in
-    block-exact (execute_head.bytes v) s.0 before rest (rw s.2.3.3.3.3.0 (then-exact (0x17 ∷ []) ((le_bytes 4 s.2.3.0.0) ++ ((le_bytes 1 s.2.3.3.0.0.0) ++ ((le_bytes 4 1) ++ []))) s.0 s.2.1 [] e0_s_2.parts (then-exact (le_bytes 4 s.2.3.0.0) ((le_bytes 1 s.2.3.3.0.0.0) ++ ((le_bytes 4 1) ++ [])) s.2.1 s.2.3.1 [] e1_s_2.parts (then-exact (le_bytes 1 s.2.3.3.0.0.0) ((le_bytes 4 1) ++ []) s.2.3.1 s.2.3.3.1 [] e2_s_2.parts (then-exact (le_bytes 4 1) ([]) s.2.3.3.1 s.2.3.3.3.1 [] e3_s_2.parts (last-exact [] s.2.3.3.3.1 s.2.3.3.3.3.1)))))) s.1.1
+    let e3_s_2 = took (le_bytes 4 s.2.3.3.3.0.0) s.2.3.3.1 s.2.3.3.3.1 (raw-exact _ 4 s.2.3.3.3.0 s.2.3.3.1 s.2.3.3.3.1 e2_s_2.left s.2.3.3.3.2) e2_s_2.left in
+    block-exact (execute_head.bytes v) s.0 before rest (rw s.2.3.3.3.3.0 (then-exact (0x17 ∷ []) ((le_bytes 4 s.2.3.0.0) ++ ((le_bytes 1 s.2.3.3.0.0.0) ++ ((le_bytes 4 s.2.3.3.3.0.0) ++ []))) s.0 s.2.1 [] e0_s_2.parts (then-exact (le_bytes 4 s.2.3.0.0) ((le_bytes 1 s.2.3.3.0.0.0) ++ ((le_bytes 4 s.2.3.3.3.0.0) ++ [])) s.2.1 s.2.3.1 [] e1_s_2.parts (then-exact (le_bytes 1 s.2.3.3.0.0.0) ((le_bytes 4 s.2.3.3.3.0.0) ++ []) s.2.3.1 s.2.3.3.1 [] e2_s_2.parts (then-exact (le_bytes 4 s.2.3.3.3.0.0) ([]) s.2.3.3.1 s.2.3.3.3.1 [] e3_s_2.parts (last-exact [] s.2.3.3.3.1 s.2.3.3.3.3.1)))))) s.1.1
 
 pub stmt_execute-exact : Exact (stmt_execute.form tt) stmt_execute.bytes
 unfolding stmt_execute

@@ -4,7 +4,8 @@ use Rattle.mysql_wire.specs.Codecs.{Codec, Fields, ◌>>=◌, give, field, packe
 use Rattle.mysql_wire.specs.FlagMasks.{CLIENT_QUERY_ATTRIBUTES}
 use Rattle.mysql_wire.specs.Flags.{CapabilityFlags, has}
 use Rattle.mysql_commands.specs.AsSent.{as_sent}
-use Rattle.mysql_commands.specs.QueryAttributes.{Attribute, query_attributes}
+use Rattle.mysql_prepared.specs.Attributes.{Attribute}
+use Rattle.mysql_commands.specs.QueryAttributes.{query_attributes}
 use Rattle.mysql_commands.specs.declared.as_sent.AsSent.{AsSent}
 use Rattle.mysql_commands.specs.declared.query.ComQueryRef.{ComQueryRef}
 use Rattle.mysql_commands.specs.declared.query.InvalidComQueryHeader.{InvalidComQueryHeader}

@@ -6,12 +6,12 @@ ghost use Rattle.mysql_wire.specs.Flags.{CapabilityFlags};
 ghost use Rattle.mysql_commands.specs.AsRead.{AreBytes};
 ghost use Rattle.mysql_commands.specs.Command.{command, command_bytes, CommandFits};
 ghost use Rattle.mysql_commands.specs.Query.{query};
-ghost use Rattle.mysql_commands.specs.SentQuery.{SentQueryFits, query_read};
+ghost use Rattle.mysql_commands.specs.SentQuery.{SentQueryFits, query_read, sent_bytes};
 ghost use Rattle.mysql_commands.specs.declared.as_sent.AsSent.{AsSent};
 ghost use Rattle.mysql_commands.specs.declared.command.Command.{Command};
 ghost use Rattle.mysql_commands.specs.declared.command.Command.TheVariants.{Query};
-ghost use Rattle.mysql_prepared.specs.ComQuery.{query_bytes};
 ghost use Rattle.mysql_prepared.specs.declared.com_query.ComQuery.{ComQuery};
+ghost use Rattle.mysql_prepared.specs.declared.execute_param.QueryAttribute.{QueryAttribute};
 
 /// What is written of a command is read again, under the flags that both sides know.
 #[tactic(auto, using(crate::proofs::CommandAgain::commands_again))]
@@ -29,9 +29,9 @@ pub fn read_commands_are_written_as_they_were()
 /// CLIENT_QUERY_ATTRIBUTES the attributes, each with its name and its value, and the type that the value is sent as.
 #[tactic(auto, using(crate::proofs::QueryAgain::queries_again))]
 pub fn sent_queries_are_read()
-    ensures spelled { (c : CapabilityFlags) (q : ComQuery) → SentQueryFits c q → (query.form c).Spells (query_read q) (query_bytes q) [] }
-    ensures read { (c : CapabilityFlags) (q : ComQuery) → SentQueryFits c q → (query.form c).reads (query_bytes q) ≡ Ok (query_read q, []) }
-    ensures command { (c : CapabilityFlags) (q : ComQuery) → SentQueryFits c q → (command c).reads (query_bytes q) ≡ Ok (Query (query_read q), []) }
+    ensures spelled { (c : CapabilityFlags) (q : ComQuery QueryAttribute) → SentQueryFits c q → (query.form c).Spells (query_read q) (sent_bytes q) [] }
+    ensures read { (c : CapabilityFlags) (q : ComQuery QueryAttribute) → SentQueryFits c q → (query.form c).reads (sent_bytes q) ≡ Ok (query_read q, []) }
+    ensures command { (c : CapabilityFlags) (q : ComQuery QueryAttribute) → SentQueryFits c q → (command c).reads (sent_bytes q) ≡ Ok (Query (query_read q), []) }
 {}
 
 /// What was sent is equal exactly where its bytes are the same, whatever they are read as.

@@ -9,7 +9,6 @@ mod command_reader;
 mod command_writer;
 mod field_list;
 pub mod laws;
-mod named_types;
 mod query;
 mod query_attributes;
 mod set_option;
@@ -24,10 +23,7 @@ pub use bytes_ref::BytesRef;
 pub use command::Command;
 pub use field_list::{ComFieldListHeader, ComFieldListRef, InvalidComFieldListHeader};
 pub use query::{ComQueryHeader, ComQueryRef, InvalidComQueryHeader};
-pub use query_attributes::{
-    InvalidNewParamsBindFlag, InvalidParameterSetCount, QueryAttributeRef, QueryAttributesRef,
-    QueryAttributesView,
-};
+pub use query_attributes::{InvalidParameterSetCount, QueryAttributesRef};
 pub use set_option::{ComSetOption, ComSetOptionHeader, InvalidComSetOptionHeader, ServerOption};
 pub use stmt_execute::ComStmtExecuteRef;
 pub use stmt_fetch::{ComStmtFetch, ComStmtFetchHeader, InvalidComStmtFetchHeader};

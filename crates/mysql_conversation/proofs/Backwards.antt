@@ -6,10 +6,10 @@ use Rattle.mysql_prepared.specs.StmtWithMetadata.{packet_of}
 use Rattle.mysql_prepared.specs.declared.stmt_with_metadata.StmtPacketWithMetadata.{StmtPacketWithMetadata}
 use Rattle.mysql_conversation.specs.Agreements.{Agreed, deprecates_eof}
 use Rattle.mysql_conversation.specs.Parts.{◌followed_by◌, ◌or◌}
-use Rattle.mysql_conversation.specs.Payloads.{begins_ok, definitions_follow, has_more, opens_cursor, first_is, IsOk, IsEnd, IsOldEnd, IsInfileRequest, IsCount, IsRow, IsPrepared, asks_cursor}
+use Rattle.mysql_conversation.specs.Payloads.{definitions_follow, has_more, opens_cursor, first_is, IsOk, IsEnd, IsOldEnd, IsInfileRequest, IsCount, IsRow, IsPrepared, asks_cursor}
 use Rattle.mysql_conversation.specs.Conversation as c
 use Rattle.mysql_conversation.specs.Conversation.{Packet, sent, served, answering, answered, ending, format_of, authentication_kind}
-use Rattle.mysql_conversation.specs.Machine.{serve, answers, reply_step, infile_step, infile_reply_step, line_step, last_step, prepared_by, prepared_step, command_step, begun, acknowledgement_step, logged_in, authentication_step, answer_step, ack_step, definitions_end_step, event_step, columns_step, counted, less, define, ended, line_of, reply_of, old_end_of, statement_at, ok_status}
+use Rattle.mysql_conversation.specs.Machine.{serve, answers, reply_step, infile_step, infile_reply_step, line_step, last_step, prepared_by, prepared_step, column_end, param_end, command_step, begun, acknowledgement_step, logged_in, authentication_step, answer_step, ack_step, definitions_end_step, event_step, columns_step, counted, less, define, ended, line_of, reply_of, old_end_of, statement_at, ok_status}
 use Rattle.mysql_conversation.specs.Taken.{packet}
 use Rattle.mysql_conversation.proofs.Classes.{reply_means, line_means, old_end_means, statement_at_is, ok_status_is, chosen, some_is, eqb_refl}
 use Rattle.mysql_conversation.specs.declared.state.After.{After}
@@ -98,10 +98,13 @@ back_definitions_end : (a : Agreed) (b : After) (p : List ℕ) (o : Option Statu
     → first_is 0xff p ≡ false → old_end_of a p ≡ o → definitions_end_step b o ≡ Some (k, m) → tail_of a m items rest → tail_of a (state.DefinitionsEnd b) (packet Server p k ∷ items) rest
 back_definitions_end a (after.Rows r) p None k m items rest e w h t = absurd cc
 back_definitions_end a (after.Columns n) p None k m items rest e w h t = absurd cc
+back_definitions_end a after.End p None k m items rest e w h t = absurd cc
 back_definitions_end a after.Rest p None k m items rest e w h t = absurd cc
 back_definitions_end a (after.Rows r) p (Some status) k m items rest e w h t = back_columns a r status p k m items rest e (old_end_means a status p w) h t
 back_definitions_end a (after.Columns n) p (Some status) k m items rest e w h t = back a (state.DefinitionsEnd (after.Columns n)) Server p _ k _ m items rest h
     (λ t. (items, serving kind.Eof _ p items items refl e (status, old_end_means a status p w), entered a (after.Columns n) items rest t)) t
+back_definitions_end a after.End p (Some status) k m items rest e w h t = back a (state.DefinitionsEnd after.End) Server p _ k _ m items rest h
+    (λ t. (items, serving kind.Eof _ p items items refl e (status, old_end_means a status p w), entered a after.End items rest t)) t
 back_definitions_end a after.Rest p (Some status) k m items rest e w h t = back a (state.DefinitionsEnd after.Rest) Server p _ k _ m items rest h
     (λ t. serving kind.Eof _ p items rest t e (status, old_end_means a status p w)) t
 
@@ -142,10 +145,10 @@ back_acknowledgement a p (Some line.Row) None k m items rest e w v h t = absurd 
 back_acknowledgement a p None r k m items rest e w v h t = absurd cc
 
 back_fields : (a : Agreed) (p : List ℕ) (r : Option Line) (k : Kind) (m : State) (items rest : List Packet)
-    → first_is 0xff p ≡ false → line_of a Text p ≡ r → last_step (deprecates_eof a) kind.Column state.Fields r ≡ Some (k, m) → tail_of a m items rest → tail_of a state.Fields (packet Server p k ∷ items) rest
+    → first_is 0xff p ≡ false → line_of a Text p ≡ r → last_step (deprecates_eof a) kind.FieldListColumn state.Fields r ≡ Some (k, m) → tail_of a m items rest → tail_of a state.Fields (packet Server p k ∷ items) rest
 back_fields a p None k m items rest e w h t = absurd cc
 back_fields a p (Some line.Row) k m items rest e w h t = back a state.Fields Server p _ k _ m items rest h
-    (λ t. (t.0, many_more (c.field a) _ items t.0 (serving kind.Column (IsRow a Text) p items items refl e (line_means a Text p _ w)) t.1, t.2)) t
+    (λ t. (t.0, many_more (c.field a) _ items t.0 (serving kind.FieldListColumn (IsRow a Text) p items items refl e (line_means a Text p _ w)) t.1, t.2)) t
 back_fields a p (Some (line.End more)) k m items rest e w h t = back a state.Fields Server p _ k _ m items rest h
     (λ t. (_, many_none (c.field a) _, any_end_of a more p items rest t e (line_means a Text p _ w))) t
 
@@ -164,7 +167,7 @@ one_round : (a : Agreed) (p : List ℕ) (items rest : List Packet) → first_is 
 one_round a p items rest e z t =
     (t.2.0, many_more (round a) _ t.0 t.2.0 (items, (packet Server p (authentication_kind a p), (refl, refl, e, z), refl), t.1) t.2.1, t.2.2)
 
-authenticated : (a : Agreed) (p : List ℕ) (status : StatusFlags) (items rest : List Packet) → items ≡ rest → first_is 0xff p ≡ false → begins_ok a p ≡ true → ok_status a p ≡ Some status → c.authentication a (packet Server p kind.Ok ∷ items) rest
+authenticated : (a : Agreed) (p : List ℕ) (status : StatusFlags) (items rest : List Packet) → items ≡ rest → first_is 0xff p ≡ false → first_is 0 p ≡ true → ok_status a p ≡ Some status → c.authentication a (packet Server p kind.Ok ∷ items) rest
 authenticated a p status items rest t e z w = (_, many_none (round a) _, any_ok_of a (has_more status) p items rest t e (z, status, ok_status_is a status p w, refl))
 
 -- where the client was asked, and does not answer
@@ -173,18 +176,15 @@ unanswered a true items rest h = (items, inl refl, h)
 unanswered a false items rest h = h
 
 back_ok_status : (a : Agreed) (b : Bool) (p : List ℕ) (status : Option StatusFlags) (k : Kind) (m : State) (items rest : List Packet)
-    → first_is 0xff p ≡ false → begins_ok a p ≡ true → ok_status a p ≡ status → logged_in status ≡ Some (k, m) → tail_of a m items rest → tail_of a (state.Authentication b) (packet Server p k ∷ items) rest
+    → first_is 0xff p ≡ false → first_is 0 p ≡ true → ok_status a p ≡ status → logged_in status ≡ Some (k, m) → tail_of a m items rest → tail_of a (state.Authentication b) (packet Server p k ∷ items) rest
 back_ok_status a b p None k m items rest e z w h t = absurd cc
 back_ok_status a b p (Some status) k m items rest e z w h t = back a (state.Authentication b) Server p _ k _ m items rest h (λ t. unanswered a b _ rest (authenticated a p status items rest t e z w)) t
 
 back_authentication : (a : Agreed) (b : Bool) (p : List ℕ) (k : Kind) (m : State) (items rest : List Packet)
     → first_is 0xff p ≡ false → authentication_step a p (ok_status a p) ≡ Some (k, m) → tail_of a m items rest → tail_of a (state.Authentication b) (packet Server p k ∷ items) rest
-back_authentication a b p k m items rest e h t = elim (chosen (begins_ok a p) _ _ _ h) [
+back_authentication a b p k m items rest e h t = elim (chosen (first_is 0 p) _ _ _ h) [
   | inl z ↦ back_ok_status a b p (ok_status a p) k m items rest e z.0 refl z.1 t
-  | inr o ↦ elim (chosen (first_is 0 p) _ _ _ o.1) [
-    | inl z ↦ absurd cc
-    | inr z ↦ back a (state.Authentication b) Server p _ k _ m items rest z.1 (λ t. unanswered a b _ rest (one_round a p items rest e z.0 t)) t
-  ]
+  | inr z ↦ back a (state.Authentication b) Server p _ k _ m items rest z.1 (λ t. unanswered a b _ rest (one_round a p items rest e z.0 t)) t
 ]
 
 -- what the client answers, one step back
@@ -203,12 +203,33 @@ back_ack a p k m items rest h t = elim (chosen (first_is 0xef p) _ _ _ h) [
 ]
 
 -- the definitions of a prepared statement
-params_columns : (a : Agreed) (params columns : ℕ) (items rest : List Packet) → tail_of a (define params (after.Columns columns)) items rest → (c.definitions a params followed_by c.definitions a columns) items rest
-params_columns a zero columns items rest t = (items, refl, entered a (after.Columns columns) items rest t)
+params_columns : (a : Agreed) (params columns : ℕ) (items rest : List Packet) → tail_of a (define params (after.Columns columns)) items rest
+    → (c.definitions a true params followed_by c.definitions a true columns) items rest
+params_columns a zero columns items rest t = (items, (items, refl, refl), entered a (after.Columns columns) items rest t)
 params_columns a (suc n) columns items rest t = (t.2.0, (t.0, t.1, t.2.1), t.2.2)
 
+-- and their ends, where they are left out
+no_end : (a : Agreed) (n : ℕ) (items rest : List Packet) → items ≡ rest → c.definitions_end_of a true n items rest
+no_end a zero items rest h = h
+no_end a (suc n) items rest h = h
+
+one_end : (a : Agreed) (n : ℕ) (items rest : List Packet) → tail_of a (column_end n) items rest → c.definitions_end_of a false n items rest
+one_end a zero items rest t = t
+one_end a (suc n) items rest t = t
+
+both_ends : (a : Agreed) (params columns : ℕ) (items rest : List Packet) → tail_of a (param_end params columns) items rest
+    → (c.definitions_end_of a false params followed_by c.definitions_end_of a false columns) items rest
+both_ends a zero columns items rest t = (items, refl, one_end a columns items rest t)
+both_ends a (suc n) zero items rest t = (rest, t, refl)
+both_ends a (suc n) (suc m) items rest t = t
+
+left_out : (a : Agreed) (d : Bool) (columns params : ℕ) (items rest : List Packet) → tail_of a (prepared_by d false columns params) items rest
+    → (c.definitions_end_of a d params followed_by c.definitions_end_of a d columns) items rest
+left_out a true columns params items rest t = (items, no_end a params items items refl, no_end a columns items rest t)
+left_out a false columns params items rest t = both_ends a params columns items rest t
+
 by_following : (a : Agreed) (s : StmtPacketWithMetadata) (p : List ℕ) (follow : Bool) (items rest : List Packet) → first_is 0xff p ≡ false → statement_at a p ≡ Some s → definitions_follow s ≡ follow
-    → tail_of a (prepared_by follow (num_columns (packet_of s)) (num_params (packet_of s))) items rest
+    → tail_of a (prepared_by (deprecates_eof a) follow (num_columns (packet_of s)) (num_params (packet_of s))) items rest
     → c.prepared a (packet Server p (kind.PrepareOk (num_columns (packet_of s)) (num_params (packet_of s)) follow) ∷ items) rest
 by_following a s p true items rest e w f t =
     let spelled = statement_at_is a s p w in
@@ -219,10 +240,10 @@ by_following a s p false items rest e w f t =
     let spelled = statement_at_is a s p w in
     let columns = num_columns (packet_of s) in
     let params = num_params (packet_of s) in
-    (columns, (params, inr (serving (kind.PrepareOk columns params false) (IsPrepared a columns params false) p items rest t e (s, spelled.0, spelled.1, refl, refl, f))))
+    (columns, (params, inr (items, serving (kind.PrepareOk columns params false) (IsPrepared a columns params false) p items items refl e (s, spelled.0, spelled.1, refl, refl, f), left_out a (deprecates_eof a) columns params items rest t)))
 
 back_prepared : (a : Agreed) (p : List ℕ) (r : Option StmtPacketWithMetadata) (k : Kind) (m : State) (items rest : List Packet)
-    → first_is 0xff p ≡ false → statement_at a p ≡ r → prepared_step r ≡ Some (k, m) → tail_of a m items rest → tail_of a state.Prepared (packet Server p k ∷ items) rest
+    → first_is 0xff p ≡ false → statement_at a p ≡ r → prepared_step (deprecates_eof a) r ≡ Some (k, m) → tail_of a m items rest → tail_of a state.Prepared (packet Server p k ∷ items) rest
 back_prepared a p None k m items rest e w h t = absurd cc
 back_prepared a p (Some s) k m items rest e w h t = back a state.Prepared Server p _ k _ m items rest h (by_following a s p (definitions_follow s) items rest e w refl) t
 

@@ -1,6 +1,6 @@
 -- What a payload says of itself is what the machine takes it for.
 use Rattle.std.proofs.Common.{◌≡◌, ℕ, ◌<◌, List, [], ◌∷◌, ◌⊎◌, inl, inr, Option, Some, None, Ok, Err, refl, ap, subst, ◌∙◌, Bool, true, false, cond}
-use Rattle.std.proofs.lemmas.Bool.{eqb-true, eq-eqb, and_parts}
+use Rattle.std.proofs.lemmas.Bool.{eqb-true, eq-eqb}
 use Rattle.std.specs.Prelude.{◌==◌, nat_lt}
 use Rattle.mysql_wire.specs.Flags.{StatusFlags}
 use Rattle.mysql_wire.specs.Form.{Form}
@@ -12,7 +12,7 @@ use Rattle.std.proofs.lemmas.Bool.{lt-ltb, ltb-true}
 use Rattle.mysql_replies.specs.ColumnCount.{column_count, count, metadata_follows}
 use Rattle.mysql_replies.specs.declared.column_count.ColumnCount.{ColumnCount}
 use Rattle.mysql_conversation.specs.Agreements.{Agreed, deprecates_eof}
-use Rattle.mysql_conversation.specs.Payloads.{begins_ok, first_is, ok_form, terminator_form, old_end_form, looks_like_end, SpelledWith, IsOk, EndsWith, IsEnd, IsOldEnd, IsInfileRequest, IsCount, IsRow}
+use Rattle.mysql_conversation.specs.Payloads.{first_is, ok_form, terminator_form, old_end_form, looks_like_end, SpelledWith, IsOk, EndsWith, IsEnd, IsOldEnd, IsInfileRequest, IsCount, IsRow}
 use Rattle.mysql_conversation.specs.Machine.{status_in, ok_status, old_end_status, terminator_status, end_status, ok_of, count_in, count_at, columns_of, reply_of, end_of, row_of, line_of, old_end_of, statement_in, statement_at}
 use Rattle.mysql_conversation.specs.declared.kind.Format.{Format}
 use Rattle.mysql_conversation.specs.declared.kind.Format.TheVariants.{Text, Binary}
@@ -117,11 +117,11 @@ ReplyMeans a (reply.Ok more) p = IsOk a more p
 ReplyMeans a reply.Infile p = IsInfileRequest p
 ReplyMeans a (reply.Columns n follow) p = IsCount a n follow p
 
-ok_means : (a : Agreed) (p : List ℕ) (s : Option StatusFlags) (r : Reply) → begins_ok a p ≡ true → ok_status a p ≡ s → ok_of s ≡ Some r → ReplyMeans a r p
+ok_means : (a : Agreed) (p : List ℕ) (s : Option StatusFlags) (r : Reply) → first_is 0 p ≡ true → ok_status a p ≡ s → ok_of s ≡ Some r → ReplyMeans a r p
 ok_means a p None r z e h = absurd cc
 ok_means a p (Some status) r z e h = subst (λ r. ReplyMeans a r p) (some_is h) (z, status, ok_status_is a status p e, refl)
 
-count_means : (a : Agreed) (p : List ℕ) (c : Option ColumnCount) (r : Reply) → begins_ok a p ≡ false → first_is 0xfb p ≡ false → count_at a p ≡ c → columns_of c ≡ Some r → ReplyMeans a r p
+count_means : (a : Agreed) (p : List ℕ) (c : Option ColumnCount) (r : Reply) → first_is 0 p ≡ false → first_is 0xfb p ≡ false → count_at a p ≡ c → columns_of c ≡ Some r → ReplyMeans a r p
 count_means a p None r z f e h = absurd cc
 count_means a p (Some c) r z f e h = elim (chosen (nat_lt 0 (count c)) _ _ _ h) [
   | inl g ↦ (let s = count_at_is a c p e in subst (λ r. ReplyMeans a r p) (some_is g.1) (z, f, ltb-true 0 (count c) g.0, c, s.0, s.1, refl, refl))
@@ -129,7 +129,7 @@ count_means a p (Some c) r z f e h = elim (chosen (nat_lt 0 (count c)) _ _ _ h) 
 ]
 
 pub reply_means : (a : Agreed) (p : List ℕ) (r : Reply) → reply_of a p ≡ Some r → ReplyMeans a r p
-reply_means a p r h = elim (chosen (begins_ok a p) _ _ _ h) [
+reply_means a p r h = elim (chosen (first_is 0 p) _ _ _ h) [
   | inl z ↦ ok_means a p (ok_status a p) r z.0 refl z.1
   | inr z ↦ elim (chosen (first_is 0xfb p) _ _ _ z.1) [
     | inl f ↦ subst (λ r. ReplyMeans a r p) (some_is f.1) f.0
@@ -138,10 +138,6 @@ reply_means a p r h = elim (chosen (begins_ok a p) _ _ _ h) [
 ]
 
 -- ---- lines
-
--- what begins as an OK packet begins with 00
-pub ok_is_zero : (a : Agreed) (p : List ℕ) → begins_ok a p ≡ true → first_is 0 p ≡ true
-ok_is_zero a p h = (and_parts (first_is 0 p) _ h).0
 
 pub zero_is_no_end : (deprecates : Bool) (p : List ℕ) → first_is 0 p ≡ true → looks_like_end deprecates p ≡ false
 zero_is_no_end deprecates p h = rw (first_unlike 0 0xfe p h refl) refl

@@ -1,6 +1,6 @@
 -- Packets with which each part of an answer may go on.
-use Rattle.std.proofs.Common.{◌≡◌, ℕ, zero, suc, List, [], ◌∷◌, inl, inr, Some, None, Ok, refl, ap, Bool, true, false}
-use Rattle.std.specs.Prelude.{◌&&◌, not}
+use Rattle.std.proofs.Common.{◌≡◌, ℕ, zero, suc, List, [], ◌∷◌, inl, inr, Some, None, Ok, refl, Bool, true, false}
+use Rattle.std.specs.Prelude.{◌&&◌}
 use Rattle.mysql_wire.specs.Flags.{StatusFlags}
 use Rattle.mysql_wire.specs.Form.{bytes, number}
 use Rattle.mysql_wire.specs.Int.{raw, raw_int}
@@ -15,7 +15,7 @@ use Rattle.mysql_prepared.specs.StmtWithMetadata.{stmt_with_metadata, sends_meta
 use Rattle.mysql_prepared.specs.declared.stmt_with_metadata.StmtPacketWithMetadata.{StmtPacketWithMetadata}
 use Rattle.mysql_conversation.specs.Parts.{◌or◌, times}
 use Rattle.mysql_conversation.specs.Payloads.{ok_form, old_end_form, terminator_form, SpelledWith, EndsWith, looks_like_end, first_is, is_report, IsOk, IsEnd, IsPrepared}
-use Rattle.mysql_conversation.specs.Agreements.{Agreed, deprecates_eof, has_optional_metadata, reports_progress}
+use Rattle.mysql_conversation.specs.Agreements.{Agreed, deprecates_eof, reports_progress}
 use Rattle.mysql_conversation.specs.Conversation as c
 use Rattle.mysql_conversation.specs.Conversation.{Packet, served, ending, format_of, inside, authentication_kind}
 use Rattle.mysql_conversation.specs.Machine.{rests}
@@ -98,7 +98,7 @@ end_bytes a true = (terminator_bytes, refl, refl, (deserialized (body_of 0 0 pla
 end_bytes a false = (old_end_bytes, refl, refl, old_end_spelled a)
 
 ok_then : (a : Agreed) (rest : List Packet) → c.ok a false (packet Server ok_bytes kind.Ok ∷ rest) rest
-ok_then a rest = serving kind.Ok (IsOk a false) ok_bytes rest rest refl refl (ap not (tracks_nothing (has_optional_metadata a)), plain, ok_spelled a, refl)
+ok_then a rest = serving kind.Ok (IsOk a false) ok_bytes rest rest refl refl (refl, plain, ok_spelled a, refl)
 
 -- a packet inside of an exchange
 abbrev pub Inside : Packet → Type 0
@@ -134,8 +134,8 @@ columns_ended a Execution d rest = definitions_ended a d rest
 columns_ended a Cursor true rest = (rest, refl)
 columns_ended a Cursor false rest = (packet Server old_end_bytes kind.Eof ∷ rest, serving kind.Eof _ old_end_bytes rest rest refl refl (plain, (refl, old_end_spelled a), refl))
 
-all_definitions : (a : Agreed) (n : ℕ) → (items : List Packet) × c.definitions a n items []
-all_definitions a zero = ([], refl)
+all_definitions : (a : Agreed) (n : ℕ) → (items : List Packet) × c.definitions a true n items []
+all_definitions a zero = ([], ([], refl, refl))
 all_definitions a (suc n) =
     let e = definitions_ended a (deprecates_eof a) [] in
     (defs (suc n) e.0, (e.0, defs_are (suc n) e.0, e.1))
@@ -150,6 +150,10 @@ all_following a d (after.Rows r) =
     (x.0, inl (e.0 ∷ [], x.1, e.2))
 all_following a d (after.Columns n) =
     let e = all_definitions a n in
+    let x = definitions_ended a d e.0 in
+    (x.0, (e.0, x.1, e.1))
+all_following a d after.End =
+    let e = definitions_ended a false [] in
     let x = definitions_ended a d e.0 in
     (x.0, (e.0, x.1, e.1))
 all_following a d after.Rest = definitions_ended a d []
@@ -174,6 +178,9 @@ old_end_comes a (after.Rows Cursor) =
     (old_end, e.0 ∷ [], refl, inl (e.0 ∷ [], serving kind.Eof _ old_end_bytes (e.0 ∷ []) (e.0 ∷ []) refl refl (plain, (refl, old_end_spelled a), refl), e.2))
 old_end_comes a (after.Columns n) =
     let e = all_definitions a n in
+    (old_end, e.0, refl, (e.0, serving kind.Eof _ old_end_bytes e.0 e.0 refl refl (plain, (refl, old_end_spelled a)), e.1))
+old_end_comes a after.End =
+    let e = definitions_ended a false [] in
     (old_end, e.0, refl, (e.0, serving kind.Eof _ old_end_bytes e.0 e.0 refl refl (plain, (refl, old_end_spelled a)), e.1))
 old_end_comes a after.Rest =
     (old_end, [], refl, serving kind.Eof _ old_end_bytes [] [] refl refl (plain, (refl, old_end_spelled a)))
@@ -202,7 +209,7 @@ to_come a state.Prepared h = (
   packet Server statement_bytes (kind.PrepareOk 0 0 true),
   [],
   refl,
-  (0, (0, inl ([], serving (kind.PrepareOk 0 0 true) (IsPrepared a 0 0 true) statement_bytes [] [] refl refl (statement_is a (sends_metadata a.mysql) refl), ([], refl, refl)))),
+  (0, (0, inl ([], serving (kind.PrepareOk 0 0 true) (IsPrepared a 0 0 true) statement_bytes [] [] refl refl (statement_is a (sends_metadata a.mysql) refl), ([], ([], refl, refl), ([], refl, refl))))),
 )
 to_come a state.Fetch h = let e = end_then a [] in (e.0, [], e.1, (_, many_none (c.row a Binary) _, inr e.2))
 to_come a state.Acknowledgement h = (packet Server ok_bytes kind.Ok, [], refl, inl (inr (ok_then a [])))

@@ -81,6 +81,7 @@ asks_by_name kind.InfileContent = refl
 asks_by_name kind.InfileEnd = refl
 asks_by_name (kind.ColumnCount n follow) = refl
 asks_by_name kind.Column = refl
+asks_by_name kind.FieldListColumn = refl
 asks_by_name kind.Eof = refl
 asks_by_name kind.OkTerminator = refl
 asks_by_name (kind.Row Text) = refl

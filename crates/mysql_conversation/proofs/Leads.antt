@@ -8,8 +8,8 @@ use Rattle.mysql_conversation.specs.Payloads.{has_more, opens_cursor, first_is, 
 use Rattle.mysql_conversation.specs.Agreements.{Agreed, deprecates_eof}
 use Rattle.mysql_conversation.specs.Conversation as c
 use Rattle.mysql_conversation.specs.Conversation.{Packet, sent, served, answering, answered, ending, format_of, authentication_kind, commands, inside}
-use Rattle.mysql_conversation.specs.Machine.{entrance, step, client_step, serve, rests, Run, StepsTo, answers, reply_step, infile_step, infile_reply_step, line_step, last_step, prepared_by, prepared_step, command_step, begun, acknowledgement_step, definitions_end_step, event_step, old_end_of, enter, defined, counted, less, define, ended, reply_of}
-use Rattle.mysql_conversation.proofs.Classes.{ok_status_of, reply_ok, reply_infile, reply_count, line_row, line_end, old_end_of_is, statement_at_of, eqb_is, zero_is_no_end, end_is_no_zero, ok_is_zero}
+use Rattle.mysql_conversation.specs.Machine.{entrance, step, client_step, serve, rests, Run, StepsTo, answers, reply_step, infile_step, infile_reply_step, line_step, last_step, prepared_by, prepared_step, column_end, param_end, command_step, begun, acknowledgement_step, definitions_end_step, event_step, old_end_of, enter, defined, counted, less, define, ended, reply_of}
+use Rattle.mysql_conversation.proofs.Classes.{ok_status_of, reply_ok, reply_infile, reply_count, line_row, line_end, old_end_of_is, statement_at_of, eqb_is, zero_is_no_end, end_is_no_zero}
 use Rattle.mysql_conversation.proofs.States.{step_listens}
 use Rattle.mysql_conversation.specs.declared.state.After.{After}
 use Rattle.mysql_conversation.specs.declared.state.After.TheVariants as after
@@ -163,27 +163,53 @@ lead_definitions_end : (a : Agreed) (d : Bool) (b : After) (m : State) → enter
 lead_definitions_end a true b m e g = subst (λ m. Leads a (enter b) nothing m) e (lead_nothing a (enter b))
 lead_definitions_end a false b m e g = lead_served a (state.DefinitionsEnd b) kind.Eof _ m (λ p h. ap (definitions_end_step b) (old_end_of_is a h.0 p h.1) ∙ g h.0)
 
-lead_columns : (a : Agreed) (n : ℕ) → Leads a (enter (after.Columns n)) (c.definitions a n) state.Rest
-lead_columns a zero = lead_nothing a state.Rest
+lead_columns : (a : Agreed) (n : ℕ) → Leads a (enter (after.Columns n)) (c.definitions a true n) state.Rest
+lead_columns a zero = lead_then a _ _ _ state.Rest _ (lead_nothing a state.Rest) (lead_nothing a state.Rest)
 lead_columns a (suc n) = lead_then a _ _ _ (defined (deprecates_eof a) after.Rest) _ (lead_all a n after.Rest) (lead_definitions_end a (deprecates_eof a) after.Rest state.Rest refl (λ status. refl))
 
-lead_params : (a : Agreed) (n columns : ℕ) → Leads a (define n (after.Columns columns)) (c.definitions a n) (enter (after.Columns columns))
-lead_params a zero columns = lead_nothing a (enter (after.Columns columns))
+lead_params : (a : Agreed) (n columns : ℕ) → Leads a (define n (after.Columns columns)) (c.definitions a true n) (enter (after.Columns columns))
+lead_params a zero columns = lead_then a _ _ _ (enter (after.Columns columns)) _ (lead_nothing a (enter (after.Columns columns))) (lead_nothing a (enter (after.Columns columns)))
 lead_params a (suc n) columns = lead_then a _ _ _ (defined (deprecates_eof a) (after.Columns columns)) _ (lead_all a n (after.Columns columns))
     (lead_definitions_end a (deprecates_eof a) (after.Columns columns) (enter (after.Columns columns)) refl (λ status. refl))
 
-prepared_step_of : (a : Agreed) (columns params : ℕ) (follow : Bool) (p : List ℕ) → IsPrepared a columns params follow p → serve a state.Prepared p ≡ Some (kind.PrepareOk columns params follow, prepared_by follow columns params)
-prepared_step_of a columns params follow p h = ap prepared_step (statement_at_of a h.0 p h.1 h.2) ∙ rw (h.3, h.4, h.5) refl
+-- where the definitions are left out
+lead_no_end : (a : Agreed) (n : ℕ) → Leads a state.Rest (c.definitions_end_of a true n) state.Rest
+lead_no_end a zero = lead_nothing a state.Rest
+lead_no_end a (suc n) = lead_nothing a state.Rest
 
-lead_prepared_ok : (a : Agreed) (columns params : ℕ) (follow : Bool) → Leads a state.Prepared (c.prepared_ok a columns params follow) (prepared_by follow columns params)
-lead_prepared_ok a columns params follow = lead_served a state.Prepared (kind.PrepareOk columns params follow) (IsPrepared a columns params follow) (prepared_by follow columns params) (λ p h. prepared_step_of a columns params follow p h)
+lead_column_end : (a : Agreed) (n : ℕ) → Leads a (column_end n) (c.definitions_end_of a false n) state.Rest
+lead_column_end a zero = lead_nothing a state.Rest
+lead_column_end a (suc n) = lead_definitions_end a false after.Rest state.Rest refl (λ status. refl)
+
+lead_ends : (a : Agreed) (params columns : ℕ) → Leads a (param_end params columns) (c.definitions_end_of a false params followed_by c.definitions_end_of a false columns) state.Rest
+lead_ends a zero columns = lead_then a _ _ _ (column_end columns) _ (lead_nothing a (column_end columns)) (lead_column_end a columns)
+lead_ends a (suc n) zero = lead_then a _ _ _ state.Rest _ (lead_definitions_end a false after.Rest state.Rest refl (λ status. refl)) (lead_nothing a state.Rest)
+lead_ends a (suc n) (suc m) = lead_then a _ _ _ (state.DefinitionsEnd after.Rest) _
+    (lead_definitions_end a false after.End (state.DefinitionsEnd after.Rest) refl (λ status. refl))
+    (lead_definitions_end a false after.Rest state.Rest refl (λ status. refl))
+
+lead_left_out : (a : Agreed) (d : Bool) (columns params : ℕ) → Leads a (prepared_by d false columns params) (c.definitions_end_of a d params followed_by c.definitions_end_of a d columns) state.Rest
+lead_left_out a true columns params = lead_then a _ _ _ state.Rest _ (lead_no_end a params) (lead_no_end a columns)
+lead_left_out a false columns params = lead_ends a params columns
+
+prepared_step_of : (a : Agreed) (columns params : ℕ) (follow : Bool) (p : List ℕ) → IsPrepared a columns params follow p
+    → serve a state.Prepared p ≡ Some (kind.PrepareOk columns params follow, prepared_by (deprecates_eof a) follow columns params)
+prepared_step_of a columns params follow p h = ap (prepared_step (deprecates_eof a)) (statement_at_of a h.0 p h.1 h.2) ∙ rw (h.3, h.4, h.5) refl
+
+lead_prepared_ok : (a : Agreed) (columns params : ℕ) (follow : Bool) → Leads a state.Prepared (c.prepared_ok a columns params follow) (prepared_by (deprecates_eof a) follow columns params)
+lead_prepared_ok a columns params follow = lead_served a state.Prepared (kind.PrepareOk columns params follow) (IsPrepared a columns params follow) (prepared_by (deprecates_eof a) follow columns params)
+    (λ p h. prepared_step_of a columns params follow p h)
+
+lead_statement : (a : Agreed) (columns params : ℕ) (follow : Bool) → Leads a state.Prepared (c.statement a columns params follow) state.Rest
+lead_statement a columns params true = lead_then a _ _ _ (define params (after.Columns columns)) _
+    (lead_prepared_ok a columns params true)
+    (lead_then a _ _ _ (enter (after.Columns columns)) _ (lead_params a params columns) (lead_columns a columns))
+lead_statement a columns params false = lead_then a _ _ _ (prepared_by (deprecates_eof a) false columns params) _
+    (lead_prepared_ok a columns params false)
+    (lead_left_out a (deprecates_eof a) columns params)
 
 lead_prepared : (a : Agreed) → Leads a state.Prepared (c.prepared a) state.Rest
-lead_prepared a = lead_some a _ _ _ (λ columns. lead_some a _ _ _ (λ params. lead_or a _ _ _ _
-    (lead_then a _ _ _ (define params (after.Columns columns)) _
-    (lead_prepared_ok a columns params true)
-    (lead_then a _ _ _ (enter (after.Columns columns)) _ (lead_params a params columns) (lead_columns a columns)))
-    (lead_prepared_ok a columns params false)))
+lead_prepared a = lead_some a _ _ _ (λ columns. lead_some a _ _ _ (λ params. lead_or a _ _ _ _ (lead_statement a columns params true) (lead_statement a columns params false)))
 
 lead_fetched : (a : Agreed) → Leads a state.Fetch (many (c.row a Binary) followed_by c.any_end a) state.Rest
 lead_fetched a =
@@ -200,7 +226,7 @@ lead_acknowledged a =
   where
     acknowledged_ok : (more : Bool) → Leads a state.Acknowledgement (c.ok a more) state.Rest
     acknowledged_ok more = lead_served a state.Acknowledgement kind.Ok (IsOk a more) state.Rest
-        (λ p h. ap (λ l. acknowledgement_step (deprecates_eof a) l (reply_of a p)) (line_row a Text p (zero_is_no_end (deprecates_eof a) p (ok_is_zero a p h.0))) ∙ ap (acknowledgement_step (deprecates_eof a) (Some line.Row)) (reply_ok a more p h))
+        (λ p h. ap (λ l. acknowledgement_step (deprecates_eof a) l (reply_of a p)) (line_row a Text p (zero_is_no_end (deprecates_eof a) p h.0)) ∙ ap (acknowledgement_step (deprecates_eof a) (Some line.Row)) (reply_ok a more p h))
 
     acknowledged_end : (more : Bool) → Leads a state.Acknowledgement (c.end a more) state.Rest
     acknowledged_end more = lead_served a state.Acknowledgement (ending (deprecates_eof a)) (IsEnd a more) state.Rest
@@ -209,11 +235,11 @@ lead_acknowledged a =
 lead_fields : (a : Agreed) → Leads a state.Fields (many (c.field a) followed_by c.any_end a) state.Rest
 lead_fields a =
     lead_then a _ _ _ state.Fields _
-    (lead_many a state.Fields (c.field a) (lead_served a state.Fields kind.Column (IsRow a Text) state.Fields (λ p h. ap (last_step (deprecates_eof a) kind.Column state.Fields) (line_row a Text p h))))
+    (lead_many a state.Fields (c.field a) (lead_served a state.Fields kind.FieldListColumn (IsRow a Text) state.Fields (λ p h. ap (last_step (deprecates_eof a) kind.FieldListColumn state.Fields) (line_row a Text p h))))
     (lead_or a _ _ _ _ (at_end true) (at_end false))
   where
     at_end : (more : Bool) → Leads a state.Fields (c.end a more) state.Rest
-    at_end more = lead_served a state.Fields (ending (deprecates_eof a)) (IsEnd a more) state.Rest (λ p h. ap (last_step (deprecates_eof a) kind.Column state.Fields) (line_end a Text more p h))
+    at_end more = lead_served a state.Fields (ending (deprecates_eof a)) (IsEnd a more) state.Rest (λ p h. ap (last_step (deprecates_eof a) kind.FieldListColumn state.Fields) (line_end a Text more p h))
 
 lead_events : (a : Agreed) → Leads a state.Events (c.events a) state.Rest
 lead_events a =

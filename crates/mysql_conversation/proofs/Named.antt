@@ -7,7 +7,7 @@ use Rattle.mysql_wire.specs.Flags.{StatusFlags}
 use Rattle.mysql_prepared.specs.declared.stmt_with_metadata.StmtPacketWithMetadata.{StmtPacketWithMetadata}
 use Rattle.mysql_conversation.proofs.States.{by_cond}
 use Rattle.mysql_conversation.specs.Agreements.{Agreed, deprecates_eof, asks_factors, reports_progress}
-use Rattle.mysql_conversation.specs.Payloads.{first_is, begins_ok, is_report, begins_with_ff, is_one_byte, asks_cursor, opens_cursor}
+use Rattle.mysql_conversation.specs.Payloads.{first_is, is_report, begins_with_ff, is_one_byte, asks_cursor, opens_cursor}
 use Rattle.mysql_conversation.specs.Conversation.{answering, ending, format_of}
 use Rattle.mysql_conversation.specs.Machine.{step, take_step, client_step, serve, rests, is_due, error_kind, begun, command_step, infile_step, logged_in, authentication_step, reply_step, infile_reply_step, columns_step, definitions_end_step, event_step, line_step, last_step, prepared_step, acknowledgement_step, reply_of, line_of, old_end_of, statement_at, ok_status}
 use Rattle.mysql_conversation.specs.KindName.{name_of, index, is_in}
@@ -41,7 +41,7 @@ reported_is n false xs = refl
 -- ---- a name is known by its number
 
 all_names : List KindName
-all_names = name.Handshake ∷ name.SslRequest ∷ name.Login ∷ name.AuthSwitch ∷ name.OldAuthSwitch ∷ name.AuthMoreData ∷ name.AuthNextFactor ∷ name.AuthPluginData ∷ name.AuthData ∷ name.Command ∷ name.Ok ∷ name.Error ∷ name.UnaskedError ∷ name.ProgressReport ∷ name.LocalInfile ∷ name.InfileContent ∷ name.InfileEnd ∷ name.ColumnCount ∷ name.Column ∷ name.Eof ∷ name.OkTerminator ∷ name.TextRow ∷ name.BinaryRow ∷ name.PrepareOk ∷ name.Statistics ∷ name.BinlogEvent ∷ name.SemiSyncAck ∷ []
+all_names = name.Handshake ∷ name.SslRequest ∷ name.Login ∷ name.AuthSwitch ∷ name.OldAuthSwitch ∷ name.AuthMoreData ∷ name.AuthNextFactor ∷ name.AuthPluginData ∷ name.AuthData ∷ name.Command ∷ name.Ok ∷ name.Error ∷ name.UnaskedError ∷ name.ProgressReport ∷ name.LocalInfile ∷ name.InfileContent ∷ name.InfileEnd ∷ name.ColumnCount ∷ name.Column ∷ name.FieldListColumn ∷ name.Eof ∷ name.OkTerminator ∷ name.TextRow ∷ name.BinaryRow ∷ name.PrepareOk ∷ name.Statistics ∷ name.BinlogEvent ∷ name.SemiSyncAck ∷ []
 
 at : List KindName → ℕ → Option KindName
 at [] n = None
@@ -69,6 +69,7 @@ known name.InfileContent = refl
 known name.InfileEnd = refl
 known name.ColumnCount = refl
 known name.Column = refl
+known name.FieldListColumn = refl
 known name.Eof = refl
 known name.OkTerminator = refl
 known name.TextRow = refl
@@ -145,8 +146,7 @@ named_status xs (Some status) = refl
 
 named_authentication : (a : Agreed) (p : List ℕ) (status : Option StatusFlags) → Named (name.Ok ∷ asked_names (asks_factors a)) (authentication_step a p status)
 unfolding kind_by
-named_authentication a p status = named_cond (name.Ok ∷ asked_names (asks_factors a)) (begins_ok a p) _ _ (named_status (asked_names (asks_factors a)) status)
-    (named_cond (name.Ok ∷ asked_names (asks_factors a)) (first_is 0 p) _ _ tt (asked_named (asks_factors a) p))
+named_authentication a p status = named_cond (name.Ok ∷ asked_names (asks_factors a)) (first_is 0 p) _ _ (named_status (asked_names (asks_factors a)) status) (asked_named (asks_factors a) p)
 
 named_reply : (d : Bool) (r : Request) (x : Option Reply) → Named (name.Ok ∷ name.LocalInfile ∷ name.ColumnCount ∷ []) (reply_step d r x)
 named_reply d r None = tt
@@ -173,9 +173,11 @@ named_event false (Some status) = refl
 named_definitions_end : (b : After) (o : Option StatusFlags) → Named (name.Eof ∷ []) (definitions_end_step b o)
 named_definitions_end (after.Rows r) None = tt
 named_definitions_end (after.Columns n) None = tt
+named_definitions_end after.End None = tt
 named_definitions_end after.Rest None = tt
 named_definitions_end (after.Rows r) (Some status) = named_columns status r
 named_definitions_end (after.Columns n) (Some status) = refl
+named_definitions_end after.End (Some status) = refl
 named_definitions_end after.Rest (Some status) = refl
 
 named_line : (d : Bool) (r : Request) (l : Option Line) → Named (row_name r ∷ end_name d ∷ []) (line_step d r l)
@@ -188,9 +190,9 @@ named_last d n k s None h = tt
 named_last d n k s (Some line.Row) h = h
 named_last d n k s (Some (line.End more)) h = end_named n d
 
-named_prepared : (s : Option StmtPacketWithMetadata) → Named (name.PrepareOk ∷ []) (prepared_step s)
-named_prepared None = tt
-named_prepared (Some s) = refl
+named_prepared : (d : Bool) (s : Option StmtPacketWithMetadata) → Named (name.PrepareOk ∷ []) (prepared_step d s)
+named_prepared d None = tt
+named_prepared d (Some s) = refl
 
 named_acknowledgement : (d : Bool) (l : Option Line) (r : Option Reply) → Named (name.Ok ∷ end_name d ∷ []) (acknowledgement_step d l r)
 named_acknowledgement d (Some (line.End more)) r = end_named name.Ok d
@@ -209,11 +211,11 @@ named_serve a (state.InfileReply r) p = named_infile_reply r (reply_of a p)
 named_serve a (state.Definitions n b) p = refl
 named_serve a (state.DefinitionsEnd b) p = named_definitions_end b (old_end_of a p)
 named_serve a (state.Rows r) p = named_line (deprecates_eof a) r (line_of a (format_of r) p)
-named_serve a state.Prepared p = named_prepared (statement_at a p)
+named_serve a state.Prepared p = named_prepared (deprecates_eof a) (statement_at a p)
 named_serve a state.Fetch p = named_last (deprecates_eof a) name.BinaryRow (kind.Row Binary) state.Fetch (line_of a Binary p) refl
 named_serve a state.Acknowledgement p = named_acknowledgement (deprecates_eof a) (line_of a Text p) (reply_of a p)
 named_serve a state.Text p = refl
-named_serve a state.Fields p = named_last (deprecates_eof a) name.Column kind.Column state.Fields (line_of a Text p) refl
+named_serve a state.Fields p = named_last (deprecates_eof a) name.FieldListColumn kind.FieldListColumn state.Fields (line_of a Text p) refl
 named_serve a state.Events p = named_event (first_is 0 p) (old_end_of a p)
 named_serve a state.Refusal p = tt
 

@@ -7,9 +7,9 @@ use Rattle.mysql_prepared.specs.Stmt.{num_columns, num_params}
 use Rattle.mysql_prepared.specs.StmtWithMetadata.{packet_of}
 use Rattle.mysql_prepared.specs.declared.stmt_with_metadata.StmtPacketWithMetadata.{StmtPacketWithMetadata}
 use Rattle.mysql_conversation.specs.Agreements.{Agreed, deprecates_eof, asks_factors}
-use Rattle.mysql_conversation.specs.Payloads.{first_is, begins_ok, definitions_follow, is_one_byte, is_report, asks_cursor, opens_cursor, has_more}
+use Rattle.mysql_conversation.specs.Payloads.{first_is, definitions_follow, is_one_byte, is_report, asks_cursor, opens_cursor, has_more}
 use Rattle.mysql_conversation.specs.Conversation.{answering, asks, commands, inside, ending, format_of, authentication_kind}
-use Rattle.mysql_conversation.specs.Machine.{entrance, step, take_step, client_step, serve, rests, listens, is_due, error_kind, answers, begun, command_step, infile_step, answer_step, logged_in, authentication_step, reply_step, infile_reply_step, columns_step, definitions_end_step, event_step, line_step, last_step, prepared_by, prepared_step, acknowledgement_step, enter, defined, less, define, counted, ended, reply_of, line_of, old_end_of, statement_at, ok_status}
+use Rattle.mysql_conversation.specs.Machine.{entrance, step, take_step, client_step, serve, rests, listens, is_due, error_kind, answers, begun, command_step, infile_step, answer_step, logged_in, authentication_step, reply_step, infile_reply_step, columns_step, definitions_end_step, event_step, line_step, last_step, prepared_by, prepared_step, column_end, param_end, acknowledgement_step, enter, defined, less, define, counted, ended, reply_of, line_of, old_end_of, statement_at, ok_status}
 use Rattle.mysql_conversation.proofs.Classes.{chosen, some_is}
 use Rattle.mysql_conversation.specs.declared.kind.Format.TheVariants.{Text, Binary}
 use Rattle.mysql_conversation.specs.declared.kind.Kind.{Kind}
@@ -97,6 +97,7 @@ enter_listens : (b : After) → listens (enter b) ≡ false
 enter_listens (after.Rows r) = refl
 enter_listens (after.Columns zero) = refl
 enter_listens (after.Columns (suc n)) = refl
+enter_listens after.End = refl
 enter_listens after.Rest = refl
 
 defined_listens : (d : Bool) (b : After) → listens (defined d b) ≡ false
@@ -156,7 +157,7 @@ fits_status None = tt
 fits_status (Some status) = (refl, refl)
 
 fits_authentication : (a : Agreed) (p : List ℕ) (status : Option StatusFlags) → Fits (authentication_step a p status)
-fits_authentication a p status = fits_cond (begins_ok a p) _ _ (fits_status status) (fits_cond (first_is 0 p) _ _ tt (sym (kind_asks a p), kind_inside a p))
+fits_authentication a p status = fits_cond (first_is 0 p) _ _ (fits_status status) (sym (kind_asks a p), kind_inside a p)
 
 fits_reply : (d : Bool) (r : Request) (x : Option Reply) → Fits (reply_step d r x)
 fits_reply d r None = tt
@@ -178,9 +179,11 @@ fits_columns status Cursor = fits_cond (opens_cursor status) _ _ (ended_listens 
 fits_definitions_end : (b : After) (o : Option StatusFlags) → Fits (definitions_end_step b o)
 fits_definitions_end (after.Rows r) None = tt
 fits_definitions_end (after.Columns n) None = tt
+fits_definitions_end after.End None = tt
 fits_definitions_end after.Rest None = tt
 fits_definitions_end (after.Rows r) (Some status) = fits_columns status r
 fits_definitions_end (after.Columns n) (Some status) = (enter_listens (after.Columns n), refl)
+fits_definitions_end after.End (Some status) = (refl, refl)
 fits_definitions_end after.Rest (Some status) = (refl, refl)
 
 fits_event : (b : Bool) (o : Option StatusFlags) → Fits (event_step b o)
@@ -198,13 +201,23 @@ fits_last d k s None h i = tt
 fits_last d k s (Some line.Row) h i = (h, i)
 fits_last d k s (Some (line.End more)) h i = fits_end d state.Rest refl
 
-prepared_listens : (follow : Bool) (columns params : ℕ) → listens (prepared_by follow columns params) ≡ false
-prepared_listens true columns params = define_listens params (after.Columns columns)
-prepared_listens false columns params = refl
+column_end_listens : (n : ℕ) → listens (column_end n) ≡ false
+column_end_listens zero = refl
+column_end_listens (suc n) = refl
 
-fits_prepared : (s : Option StmtPacketWithMetadata) → Fits (prepared_step s)
-fits_prepared None = tt
-fits_prepared (Some s) = (prepared_listens (definitions_follow s) (num_columns (packet_of s)) (num_params (packet_of s)), refl)
+param_end_listens : (params columns : ℕ) → listens (param_end params columns) ≡ false
+param_end_listens zero columns = column_end_listens columns
+param_end_listens (suc n) zero = refl
+param_end_listens (suc n) (suc m) = refl
+
+prepared_listens : (d follow : Bool) (columns params : ℕ) → listens (prepared_by d follow columns params) ≡ false
+prepared_listens d true columns params = define_listens params (after.Columns columns)
+prepared_listens true false columns params = refl
+prepared_listens false false columns params = param_end_listens params columns
+
+fits_prepared : (d : Bool) (s : Option StmtPacketWithMetadata) → Fits (prepared_step d s)
+fits_prepared d None = tt
+fits_prepared d (Some s) = (prepared_listens d (definitions_follow s) (num_columns (packet_of s)) (num_params (packet_of s)), refl)
 
 fits_acknowledgement : (d : Bool) (l : Option Line) (r : Option Reply) → Fits (acknowledgement_step d l r)
 fits_acknowledgement d (Some (line.End more)) r = fits_end d state.Rest refl
@@ -223,11 +236,11 @@ fits_serve a (state.InfileReply r) p = fits_infile_reply r (reply_of a p)
 fits_serve a (state.Definitions n b) p = (less_listens (deprecates_eof a) n b, refl)
 fits_serve a (state.DefinitionsEnd b) p = fits_definitions_end b (old_end_of a p)
 fits_serve a (state.Rows r) p = fits_line (deprecates_eof a) r (line_of a (format_of r) p)
-fits_serve a state.Prepared p = fits_prepared (statement_at a p)
+fits_serve a state.Prepared p = fits_prepared (deprecates_eof a) (statement_at a p)
 fits_serve a state.Fetch p = fits_last (deprecates_eof a) (kind.Row Binary) state.Fetch (line_of a Binary p) refl refl
 fits_serve a state.Acknowledgement p = fits_acknowledgement (deprecates_eof a) (line_of a Text p) (reply_of a p)
 fits_serve a state.Text p = (refl, refl)
-fits_serve a state.Fields p = fits_last (deprecates_eof a) kind.Column state.Fields (line_of a Text p) refl refl
+fits_serve a state.Fields p = fits_last (deprecates_eof a) kind.FieldListColumn state.Fields (line_of a Text p) refl refl
 fits_serve a state.Events p = fits_event (first_is 0 p) (old_end_of a p)
 fits_serve a state.Refusal p = tt
 

@@ -39,7 +39,8 @@ cursor a Cursor false more = served kind.Eof (λ p. (status : StatusFlags) × Is
 
 abbrev pub following : Agreed → After → Part
 following a (after.Rows r) = many (c.row a (format_of r)) followed_by rows_answer a r
-following a (after.Columns n) = c.definitions a n
+following a (after.Columns n) = c.definitions a true n
+following a after.End = c.definitions_end a false
 following a after.Rest = nothing
 
 -- after a result's definitions
@@ -49,7 +50,8 @@ following_columns a r d = (c.columns_end a r d followed_by following a (after.Ro
 -- after definitions
 abbrev pub following_all : Agreed → Bool → After → Part
 following_all a d (after.Rows r) = following_columns a r d
-following_all a d (after.Columns n) = c.definitions_end a d followed_by c.definitions a n
+following_all a d (after.Columns n) = c.definitions_end a d followed_by c.definitions a true n
+following_all a d after.End = c.definitions_end a d followed_by c.definitions_end a false
 following_all a d after.Rest = c.definitions_end a d
 
 -- one round of authentication
@@ -126,8 +128,9 @@ rest_end a d items rest h = h
 
 pub entered : (a : Agreed) (b : After) (items rest : List Packet) → tail_of a (enter b) items rest → following a b items rest
 entered a (after.Rows f) items rest h = h
-entered a (after.Columns zero) items rest h = h
+entered a (after.Columns zero) items rest h = (items, refl, h)
 entered a (after.Columns (suc n)) items rest h = h
+entered a after.End items rest h = h
 entered a after.Rest items rest h = h
 
 columns_end_none : (a : Agreed) (f : Request) (items rest : List Packet) → following a (after.Rows f) items rest → following_columns a f true items rest
@@ -138,7 +141,8 @@ columns_end_none a Cursor items rest h = inl (items, refl, h)
 -- after the last definition
 pub following_last : (a : Agreed) (d : Bool) (b : After) (items rest : List Packet) → tail_of a (defined d b) items rest → following_all a d b items rest
 following_last a true (after.Rows f) items rest h = columns_end_none a f items rest h
-following_last a true (after.Columns zero) items rest h = (items, refl, h)
+following_last a true (after.Columns zero) items rest h = (items, refl, (items, refl, h))
 following_last a true (after.Columns (suc n)) items rest h = (items, refl, h)
+following_last a true after.End items rest h = (items, refl, h)
 following_last a true after.Rest items rest h = h
 following_last a false b items rest h = h

@@ -5,11 +5,11 @@ use Rattle.std.specs.Prelude.{◌&&◌, not}
 use Rattle.mysql_wire.specs.Form.{bytes, number}
 use Rattle.mysql_wire.specs.Int.{raw, raw_int}
 use Rattle.mysql_wire.specs.LenEnc.{lenenc}
-use Rattle.mysql_replies.specs.ColumnCount.{column_count, says_optional, says_follow}
+use Rattle.mysql_replies.specs.ColumnCount.{column_count, says_follow}
 use Rattle.mysql_replies.specs.declared.column_count.ColumnCount.{ColumnCount}
 use Rattle.mysql_prepared.specs.StmtWithMetadata.{sends_metadata}
-use Rattle.mysql_conversation.specs.Agreements.{Agreed, deprecates_eof, asks_factors, reports_progress, has_optional_metadata}
-use Rattle.mysql_conversation.specs.Payloads.{first_is, begins_ok, is_report, IsOk, IsCount}
+use Rattle.mysql_conversation.specs.Agreements.{Agreed, deprecates_eof, asks_factors, reports_progress}
+use Rattle.mysql_conversation.specs.Payloads.{first_is, is_report, IsOk, IsCount}
 use Rattle.mysql_conversation.specs.Conversation.{ending, format_of}
 use Rattle.mysql_conversation.specs.Machine.{take_step, serve, rests, is_due, error_kind, reply_step, infile_reply_step, definitions_end_step, event_step, line_step, last_step, prepared_step, acknowledgement_step, ended, counted, reply_of, line_of, old_end_of, ok_status}
 use Rattle.mysql_conversation.specs.KindName.{name_of}
@@ -44,11 +44,8 @@ comes_served a s n p k m e f h = (p, k, m, e, rw (no_report a p f, f) h)
 
 -- ---- OK packets, rows and ends
 
-begins : (a : Agreed) → begins_ok a ok_bytes ≡ true
-begins a = ap not (tracks_nothing (has_optional_metadata a))
-
 is_ok : (a : Agreed) → IsOk a false ok_bytes
-is_ok a = (begins a, plain, ok_spelled a, refl)
+is_ok a = (refl, plain, ok_spelled a, refl)
 
 ok_read : (a : Agreed) → ok_status a ok_bytes ≡ Some plain
 ok_read a = ok_status_of a plain ok_bytes (ok_spelled a)
@@ -87,41 +84,33 @@ comes_end a s m f =
 
 -- ---- counts
 
--- so many bytes say whether definitions follow
-count_of : Bool → Bool → ColumnCount
-count_of true true = record { optional_metadata = Some (raw_int 1); count = raw_int 1; metadata_follows = Some (raw_int 1) }
-count_of true false = record { optional_metadata = Some (raw_int 1); count = raw_int 1; metadata_follows = None }
-count_of false true = record { optional_metadata = None; count = raw_int 1; metadata_follows = Some (raw_int 1) }
-count_of false false = record { optional_metadata = None; count = raw_int 1; metadata_follows = None }
+-- a byte says whether definitions follow, or none
+count_of : Bool → ColumnCount
+count_of true = record { count = raw_int 1; metadata_follows = Some (raw_int 1) }
+count_of false = record { count = raw_int 1; metadata_follows = None }
 
-left_of : Bool → Bool → List ℕ
-left_of true true = []
-left_of true false = 1 ∷ []
-left_of false true = 1 ∷ []
-left_of false false = 1 ∷ 1 ∷ []
+left_of : Bool → List ℕ
+left_of true = []
+left_of false = 1 ∷ []
 
 count_bytes : List ℕ
-count_bytes = 1 ∷ 1 ∷ 1 ∷ []
+count_bytes = 1 ∷ 1 ∷ []
 
-count_reads : (a : Agreed) (o f : Bool) → says_optional a ≡ o → says_follow a ≡ f → (column_count.form a).reads count_bytes ≡ Ok (count_of o f, left_of o f)
+count_reads : (a : Agreed) (f : Bool) → says_follow a ≡ f → (column_count.form a).reads count_bytes ≡ Ok (count_of f, left_of f)
 unfolding count_bytes count_of left_of column_count bytes number raw lenenc
-count_reads a true true e g = rw (e, g) refl
-count_reads a true false e g = rw (e, g) refl
-count_reads a false true e g = rw (e, g) refl
-count_reads a false false e g = rw (e, g) refl
+count_reads a true e = rw e refl
+count_reads a false e = rw e refl
 
 some_columns : 0 < 1
 some_columns = ltb-true 0 1 refl
 
-is_count_by : (a : Agreed) (o f : Bool) → says_optional a ≡ o → says_follow a ≡ f → IsCount a 1 true count_bytes
+is_count_by : (a : Agreed) (f : Bool) → says_follow a ≡ f → IsCount a 1 true count_bytes
 unfolding count_bytes count_of
-is_count_by a true true e g = (refl, refl, some_columns, count_of true true, left_of true true, (column_count.form a).found _ count_bytes _ (count_reads a true true e g), refl, refl)
-is_count_by a true false e g = (refl, refl, some_columns, count_of true false, left_of true false, (column_count.form a).found _ count_bytes _ (count_reads a true false e g), refl, refl)
-is_count_by a false true e g = (refl, refl, some_columns, count_of false true, left_of false true, (column_count.form a).found _ count_bytes _ (count_reads a false true e g), refl, refl)
-is_count_by a false false e g = (refl, refl, some_columns, count_of false false, left_of false false, (column_count.form a).found _ count_bytes _ (count_reads a false false e g), refl, refl)
+is_count_by a true e = (refl, refl, some_columns, count_of true, left_of true, (column_count.form a).found _ count_bytes _ (count_reads a true e), refl, refl)
+is_count_by a false e = (refl, refl, some_columns, count_of false, left_of false, (column_count.form a).found _ count_bytes _ (count_reads a false e), refl, refl)
 
 is_count : (a : Agreed) → reply_of a count_bytes ≡ Some (reply.Columns 1 true)
-is_count a = reply_count a 1 true count_bytes (is_count_by a (says_optional a) (says_follow a) refl refl)
+is_count a = reply_count a 1 true count_bytes (is_count_by a (says_follow a) refl)
 
 count_is_no_error : first_is 0xff count_bytes ≡ false
 unfolding count_bytes
@@ -134,6 +123,7 @@ definitions_end (after.Rows Query) = (state.Rows Query, refl)
 definitions_end (after.Rows Execution) = (state.Rows Execution, refl)
 definitions_end (after.Rows Cursor) = (state.Rows Cursor, refl)
 definitions_end (after.Columns n) = (_, refl)
+definitions_end after.End = (_, refl)
 definitions_end after.Rest = (state.Rest, refl)
 
 also : {A B : Type 0} → A → B → A × B
@@ -155,13 +145,13 @@ comes_asked a b false e =
 comes_prepared : (a : Agreed) → Comes a state.Prepared Server name.PrepareOk
 comes_prepared a =
     let s = statement_is a (sends_metadata a.mysql) refl in
-    comes_served a state.Prepared name.PrepareOk statement_bytes _ _ refl refl (ap prepared_step (statement_at_of a s.0 statement_bytes s.1 s.2))
+    comes_served a state.Prepared name.PrepareOk statement_bytes _ _ refl refl (ap (prepared_step (deprecates_eof a)) (statement_at_of a s.0 statement_bytes s.1 s.2))
 
 each_served : (a : Agreed) (s : State) → All (Comes a s Server) (served_names a s)
 unfolding row_bytes
 each_served a state.Rest = tt
 each_served a (state.Authentication b) =
-    also (comes_served a (state.Authentication b) name.Ok ok_bytes kind.Ok state.Rest refl refl (rw (begins a, ok_read a) refl))
+    also (comes_served a (state.Authentication b) name.Ok ok_bytes kind.Ok state.Rest refl refl (rw (ok_read a) refl))
     (comes_asked a b (asks_factors a) refl)
 each_served a (state.Reply r) =
     also (comes_served a (state.Reply r) name.Ok ok_bytes kind.Ok (ended r false) refl refl (ap (reply_step (deprecates_eof a) r) (ok_reply a)))
@@ -194,8 +184,8 @@ each_served a state.Acknowledgement =
     tt)
 each_served a state.Text = (comes_served a state.Text name.Statistics [] kind.Statistics state.Rest refl refl refl, tt)
 each_served a state.Fields =
-    also (comes_served a state.Fields name.Column row_bytes kind.Column state.Fields refl refl (ap (last_step (deprecates_eof a) kind.Column state.Fields) (is_row a Text)))
-    (also (comes_end a state.Fields state.Rest (λ p t b. ap (last_step (deprecates_eof a) kind.Column state.Fields) t))
+    also (comes_served a state.Fields name.FieldListColumn row_bytes kind.FieldListColumn state.Fields refl refl (ap (last_step (deprecates_eof a) kind.FieldListColumn state.Fields) (is_row a Text)))
+    (also (comes_end a state.Fields state.Rest (λ p t b. ap (last_step (deprecates_eof a) kind.FieldListColumn state.Fields) t))
     tt)
 each_served a state.Events =
     also (comes_served a state.Events name.BinlogEvent row_bytes kind.BinlogEvent state.Events refl refl refl)

@@ -1,6 +1,6 @@
 -- What both sides agreed on, as conversations depend on it.
 use Rattle.std.specs.Prelude.{ℕ, Bool, ◌||◌, bit_and, if◌then◌else◌}
-use Rattle.mysql_wire.specs.FlagMasks.{CLIENT_LONG_PASSWORD, CLIENT_COMPRESS, CLIENT_ZSTD_COMPRESSION_ALGORITHM, CLIENT_DEPRECATE_EOF, CLIENT_OPTIONAL_RESULTSET_METADATA, CLIENT_PROGRESS_OBSOLETE, MULTI_FACTOR_AUTHENTICATION, MARIADB_CLIENT_PROGRESS}
+use Rattle.mysql_wire.specs.FlagMasks.{CLIENT_LONG_PASSWORD, CLIENT_COMPRESS, CLIENT_ZSTD_COMPRESSION_ALGORITHM, CLIENT_DEPRECATE_EOF, CLIENT_PROGRESS_OBSOLETE, MULTI_FACTOR_AUTHENTICATION, MARIADB_CLIENT_PROGRESS}
 use Rattle.mysql_wire.specs.Flags.{has}
 use Rattle.mysql_replies.specs.declared.session_capabilities.SessionCapabilities.{SessionCapabilities}
 
@@ -11,10 +11,6 @@ Agreed = SessionCapabilities
 -- rows end with an OK packet, and definitions with none
 abbrev pub deprecates_eof : Agreed → Bool
 deprecates_eof a = has a.mysql.0 CLIENT_DEPRECATE_EOF
-
--- a byte that says whether definitions follow stands before a count of columns, and after a prepared statement
-abbrev pub has_optional_metadata : Agreed → Bool
-has_optional_metadata a = has a.mysql.0 CLIENT_OPTIONAL_RESULTSET_METADATA
 
 -- reports of progress may come
 abbrev pub reports_progress : Agreed → Bool

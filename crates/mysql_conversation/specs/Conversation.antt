@@ -72,9 +72,9 @@ definition = served kind.Column (λ p. Unit {0})
 abbrev pub prepared_ok : Agreed → ℕ → ℕ → Bool → Part
 prepared_ok a columns params follow = served (kind.PrepareOk columns params follow) (IsPrepared a columns params follow)
 
--- the definition of a field, which begins as no end does
+-- the definition of a field with its default value, which begins as no end does
 abbrev pub field : Agreed → Part
-field a = served kind.Column (IsRow a Text)
+field a = served kind.FieldListColumn (IsRow a Text)
 
 abbrev pub text : Part
 text = served kind.Statistics (λ p. Unit {0})
@@ -102,10 +102,15 @@ columns_end a Execution deprecates = definitions_end a deprecates
 columns_end a Cursor true = nothing
 columns_end a Cursor false = served kind.Eof (λ p. (status : StatusFlags) × IsOldEnd a status p × (opens_cursor status ≡ false))
 
--- definitions of so many columns or parameters. Of none there is nothing, not even an end
-abbrev pub definitions : Agreed → ℕ → Part
-definitions a zero = nothing
-definitions a (suc n) = times (suc n) definition followed_by definitions_end a (deprecates_eof a)
+-- the end of the definitions of so many columns or parameters; of none there is none
+abbrev pub definitions_end_of : Agreed → Bool → ℕ → Part
+definitions_end_of a deprecates zero = nothing
+definitions_end_of a deprecates (suc n) = definitions_end a deprecates
+
+-- definitions of so many columns or parameters, and their end; where the definitions are left out, the end alone
+abbrev pub definitions : Agreed → Bool → ℕ → Part
+definitions a true n = times n definition followed_by definitions_end_of a (deprecates_eof a) n
+definitions a false n = definitions_end_of a (deprecates_eof a) n
 
 -- a local file: the server asks for it, the client sends it, and then an empty packet
 abbrev pub loaded : Part
@@ -139,12 +144,12 @@ results a request = many (result a request true) followed_by result a request fa
 
 -- ---- the other answers
 
--- a prepared statement, and where they follow the definitions of its parameters and of its columns
+-- a prepared statement, and the definitions of its parameters and of its columns, which follow or are left out
+abbrev pub statement : Agreed → ℕ → ℕ → Bool → Part
+statement a columns params follow = prepared_ok a columns params follow followed_by definitions a follow params followed_by definitions a follow columns
+
 abbrev pub prepared : Agreed → Part
-prepared a =
-    for_some (λ columns. for_some (λ params.
-    (prepared_ok a columns params true followed_by definitions a params followed_by definitions a columns)
-    or prepared_ok a columns params false))
+prepared a = for_some (λ columns. for_some (λ params. statement a columns params true or statement a columns params false))
 
 abbrev pub any_ok : Agreed → Part
 any_ok a = ok a true or ok a false

@@ -29,7 +29,8 @@ after_at s =
     if s.after == 0 then Some after.Rest
     else (if s.after == 1 then option_map after.Rows (request_at s.request)
     else (if s.after == 2 then Some (after.Columns s.columns)
-    else None))
+    else (if s.after == 3 then Some after.End
+    else None)))
 
 -- the state of these numbers, where they are of one
 abbrev pub state_at : ConversationState → Option State

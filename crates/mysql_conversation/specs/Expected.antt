@@ -61,7 +61,7 @@ served_names a state.Prepared = name.PrepareOk ∷ []
 served_names a state.Fetch = name.BinaryRow ∷ end_name (deprecates_eof a) ∷ []
 served_names a state.Acknowledgement = name.Ok ∷ end_name (deprecates_eof a) ∷ []
 served_names a state.Text = name.Statistics ∷ []
-served_names a state.Fields = name.Column ∷ end_name (deprecates_eof a) ∷ []
+served_names a state.Fields = name.FieldListColumn ∷ end_name (deprecates_eof a) ∷ []
 served_names a state.Events = name.BinlogEvent ∷ name.Eof ∷ []
 served_names a state.Refusal = []
 

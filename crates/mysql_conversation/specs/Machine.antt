@@ -11,7 +11,7 @@ use Rattle.mysql_prepared.specs.StmtWithMetadata.{stmt_with_metadata, packet_of}
 use Rattle.mysql_prepared.specs.declared.stmt_with_metadata.StmtPacketWithMetadata.{StmtPacketWithMetadata}
 use Rattle.mysql_conversation.specs.Agreements.{Agreed, deprecates_eof}
 use Rattle.mysql_conversation.specs.Runs.{Runs}
-use Rattle.mysql_conversation.specs.Payloads.{has_more, opens_cursor, first_is, begins_ok, definitions_follow, ok_form, terminator_form, old_end_form, looks_like_end, is_report, asks_cursor}
+use Rattle.mysql_conversation.specs.Payloads.{has_more, opens_cursor, first_is, definitions_follow, ok_form, terminator_form, old_end_form, looks_like_end, is_report, asks_cursor}
 use Rattle.mysql_conversation.specs.Conversation.{Packet, answering, authentication_kind, ending, format_of}
 use Rattle.mysql_conversation.specs.declared.state.After.{After}
 use Rattle.mysql_conversation.specs.declared.state.After.TheVariants as after
@@ -71,7 +71,7 @@ columns_of (Some c) = if nat_lt 0 (count c) then Some (reply.Columns (count c) (
 
 abbrev pub reply_of : Agreed → List ℕ → Option Reply
 reply_of a p =
-    if begins_ok a p then ok_of (ok_status a p)
+    if first_is 0 p then ok_of (ok_status a p)
     else (if first_is 0xfb p then Some reply.Infile
     else columns_of (count_at a p))
 
@@ -111,6 +111,7 @@ abbrev pub enter : After → State
 enter (after.Rows r) = state.Rows r
 enter (after.Columns zero) = state.Rest
 enter (after.Columns (suc n)) = state.Definitions n after.Rest
+enter after.End = state.DefinitionsEnd after.Rest
 enter after.Rest = state.Rest
 
 -- after the last of some definitions
@@ -201,9 +202,8 @@ logged_in (Some status) = Some (kind.Ok, state.Rest)
 
 abbrev pub authentication_step : Agreed → List ℕ → Option StatusFlags → Option (Kind × State)
 authentication_step a p status =
-    if begins_ok a p then logged_in status
-    else (if first_is 0 p then None
-    else Some (authentication_kind a p, state.Authentication true))
+    if first_is 0 p then logged_in status
+    else Some (authentication_kind a p, state.Authentication true)
 
 abbrev pub reply_step : Bool → Request → Option Reply → Option (Kind × State)
 reply_step deprecates r None = None
@@ -227,6 +227,7 @@ abbrev pub definitions_end_step : After → Option StatusFlags → Option (Kind 
 definitions_end_step b None = None
 definitions_end_step (after.Rows r) (Some status) = columns_step status r
 definitions_end_step (after.Columns n) (Some status) = Some (kind.Eof, enter (after.Columns n))
+definitions_end_step after.End (Some status) = Some (kind.Eof, enter after.End)
 definitions_end_step after.Rest (Some status) = Some (kind.Eof, state.Rest)
 
 abbrev pub line_step : Bool → Request → Option Line → Option (Kind × State)
@@ -240,17 +241,29 @@ last_step deprecates k s None = None
 last_step deprecates k s (Some line.Row) = Some (k, s)
 last_step deprecates k s (Some (line.End more)) = Some (ending deprecates, state.Rest)
 
--- where the definitions of a statement follow, or do not
-abbrev pub prepared_by : Bool → ℕ → ℕ → State
-prepared_by true columns params = define params (after.Columns columns)
-prepared_by false columns params = state.Rest
+-- where the definitions of so many columns are left out: the EOF packet after them is not
+abbrev pub column_end : ℕ → State
+column_end zero = state.Rest
+column_end (suc n) = state.DefinitionsEnd after.Rest
 
-abbrev pub prepared_step : Option StmtPacketWithMetadata → Option (Kind × State)
-prepared_step None = None
-prepared_step (Some s) =
+-- and those of so many parameters before them
+abbrev pub param_end : (params columns : ℕ) → State
+param_end zero columns = column_end columns
+param_end (suc n) zero = state.DefinitionsEnd after.Rest
+param_end (suc n) (suc m) = state.DefinitionsEnd after.End
+
+-- where the definitions of a statement follow, or do not; where EOF packets are deprecated, nothing comes in their place
+abbrev pub prepared_by : Bool → Bool → ℕ → ℕ → State
+prepared_by deprecates true columns params = define params (after.Columns columns)
+prepared_by true false columns params = state.Rest
+prepared_by false false columns params = param_end params columns
+
+abbrev pub prepared_step : Bool → Option StmtPacketWithMetadata → Option (Kind × State)
+prepared_step deprecates None = None
+prepared_step deprecates (Some s) =
     Some (
       kind.PrepareOk (num_columns (packet_of s)) (num_params (packet_of s)) (definitions_follow s),
-      prepared_by (definitions_follow s) (num_columns (packet_of s)) (num_params (packet_of s)),
+      prepared_by deprecates (definitions_follow s) (num_columns (packet_of s)) (num_params (packet_of s)),
     )
 
 abbrev pub acknowledgement_step : Bool → Option Line → Option Reply → Option (Kind × State)
@@ -271,11 +284,11 @@ serve a (state.InfileReply r) p = infile_reply_step r (reply_of a p)
 serve a (state.Definitions n b) p = Some (kind.Column, less (deprecates_eof a) n b)
 serve a (state.DefinitionsEnd b) p = definitions_end_step b (old_end_of a p)
 serve a (state.Rows r) p = line_step (deprecates_eof a) r (line_of a (format_of r) p)
-serve a state.Prepared p = prepared_step (statement_at a p)
+serve a state.Prepared p = prepared_step (deprecates_eof a) (statement_at a p)
 serve a state.Fetch p = last_step (deprecates_eof a) (kind.Row Binary) state.Fetch (line_of a Binary p)
 serve a state.Acknowledgement p = acknowledgement_step (deprecates_eof a) (line_of a Text p) (reply_of a p)
 serve a state.Text p = Some (kind.Statistics, state.Rest)
-serve a state.Fields p = last_step (deprecates_eof a) kind.Column state.Fields (line_of a Text p)
+serve a state.Fields p = last_step (deprecates_eof a) kind.FieldListColumn state.Fields (line_of a Text p)
 serve a state.Events p = event_step (first_is 0 p) (old_end_of a p)
 serve a state.Refusal p = None
 

@@ -14,7 +14,7 @@ use Rattle.mysql_replies.specs.declared.ok_kind.OldEofPacket.{OldEofPacket}
 use Rattle.mysql_prepared.specs.Stmt.{num_columns, num_params}
 use Rattle.mysql_prepared.specs.StmtWithMetadata.{stmt_with_metadata, packet_of, metadata_of}
 use Rattle.mysql_prepared.specs.declared.stmt_with_metadata.StmtPacketWithMetadata.{StmtPacketWithMetadata}
-use Rattle.mysql_conversation.specs.Agreements.{Agreed, deprecates_eof, has_optional_metadata, reports_progress}
+use Rattle.mysql_conversation.specs.Agreements.{Agreed, deprecates_eof, reports_progress}
 use Rattle.mysql_conversation.specs.declared.kind.Format.{Format}
 use Rattle.mysql_conversation.specs.declared.kind.Format.TheVariants.{Text, Binary}
 
@@ -29,11 +29,6 @@ opens_cursor status = has status.0 SERVER_STATUS_CURSOR_EXISTS && not (has_more 
 abbrev pub first_is : ℕ → List ℕ → Bool
 first_is b [] = false
 first_is b (x ∷ xs) = x == b
-
--- It begins as an OK packet: with 00, and under optional metadata in seven bytes at least, which each OK packet has. What is
--- shorter there is a count whose definitions are left out.
-abbrev pub begins_ok : Agreed → List ℕ → Bool
-begins_ok a p = first_is 0 p && not (has_optional_metadata a && nat_lt (length p) 7)
 
 -- ---- OK packets and ends, as the forms of the packets spell them
 
@@ -52,7 +47,7 @@ SpelledWith {T} form status p = (ok : OkPacketDeserializer T) × (rest : List �
 
 -- the payload is an OK packet, whose status says that more results come or not
 abbrev pub IsOk : Agreed → Bool → List ℕ → Type 0
-IsOk a more p = (begins_ok a p ≡ true) × (status : StatusFlags) × SpelledWith (ok_form a) status p × (has_more status ≡ more)
+IsOk a more p = (first_is 0 p ≡ true) × (status : StatusFlags) × SpelledWith (ok_form a) status p × (has_more status ≡ more)
 
 -- fe, and fewer bytes than a row has that begins so
 abbrev pub end_below : Bool → ℕ
@@ -84,7 +79,7 @@ IsInfileRequest p = first_is 0xfb p ≡ true
 -- a count of columns, of which there is one at least, and whether their definitions follow
 abbrev pub IsCount : Agreed → ℕ → Bool → List ℕ → Type 0
 IsCount a n follow p =
-    (begins_ok a p ≡ false) × (first_is 0xfb p ≡ false) × (0 < n)
+    (first_is 0 p ≡ false) × (first_is 0xfb p ≡ false) × (0 < n)
     × (c : ColumnCount) × (rest : List ℕ) × (column_count.form a).Spells c p rest × (count c ≡ n) × (metadata_follows c ≡ follow)
 
 -- a row of text begins as no end does, and one in binary with 00

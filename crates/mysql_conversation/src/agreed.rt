@@ -32,16 +32,6 @@ pub(crate) fn deprecates_eof(agreed: SessionCapabilities) -> bool
     agreed.mysql.contains(CapabilityFlags::CLIENT_DEPRECATE_EOF)
 }
 
-/// Whether a byte stands before a count of columns: `CLIENT_OPTIONAL_RESULTSET_METADATA`.
-#[inline(always)]
-pub(crate) fn has_optional_metadata(agreed: SessionCapabilities) -> bool
-    ensures { result ≡ spec.has_optional_metadata agreed }
-{
-    agreed
-        .mysql
-        .contains(CapabilityFlags::CLIENT_OPTIONAL_RESULTSET_METADATA)
-}
-
 /// Whether reports of progress may come: `CLIENT_PROGRESS_OBSOLETE`, or MariaDB's own `MARIADB_CLIENT_PROGRESS`.
 #[inline(always)]
 pub(crate) fn reports_progress(agreed: SessionCapabilities) -> bool

@@ -70,6 +70,7 @@ fn at_definitions(opening: Opening, place: u8, definitions: u64, after: After) -
             state.after = 2;
             state.columns = columns;
         }
+        After::End => state.after = 3,
     }
     state
 }
@@ -127,6 +128,7 @@ fn after_at(numbers: &ConversationState) -> Option<After>
         0 => Some(After::Rest),
         1 => request_at(numbers.request).map(After::Rows),
         2 => Some(After::Columns(numbers.columns)),
+        3 => Some(After::End),
         _ => None,
     }
 }

@@ -81,7 +81,7 @@ fn is_served(agreed: SessionCapabilities, state: &State, name: KindName) -> bool
         State::Fetch => matches!(name, KindName::BinaryRow) || ends,
         State::Acknowledgement => matches!(name, KindName::Ok) || ends,
         State::Text => matches!(name, KindName::Statistics),
-        State::Fields => matches!(name, KindName::Column) || ends,
+        State::Fields => matches!(name, KindName::FieldListColumn) || ends,
         State::Events => matches!(name, KindName::BinlogEvent | KindName::Eof),
     }
 }

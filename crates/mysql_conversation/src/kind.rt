@@ -59,6 +59,8 @@ pub enum Kind {
     ColumnCount(u64, bool),
     /// The definition of a column or a parameter.
     Column,
+    /// The definition of a column that answers `COM_FIELD_LIST`, with its default value.
+    FieldListColumn,
     /// An EOF packet: the end of definitions and of rows, and of a stream of events under any capabilities.
     Eof,
     /// The end of rows as an OK packet, under `CLIENT_DEPRECATE_EOF`.

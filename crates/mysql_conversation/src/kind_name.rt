@@ -28,6 +28,7 @@ pub enum KindName {
     InfileEnd,
     ColumnCount,
     Column,
+    FieldListColumn,
     Eof,
     OkTerminator,
     TextRow,
@@ -40,7 +41,7 @@ pub enum KindName {
 
 impl KindName {
     /// Each of them.
-    pub const ALL: [KindName; 27] = [
+    pub const ALL: [KindName; 28] = [
         KindName::Handshake,
         KindName::SslRequest,
         KindName::Login,
@@ -60,6 +61,7 @@ impl KindName {
         KindName::InfileEnd,
         KindName::ColumnCount,
         KindName::Column,
+        KindName::FieldListColumn,
         KindName::Eof,
         KindName::OkTerminator,
         KindName::TextRow,
@@ -102,6 +104,7 @@ impl KindName {
             KindName::InfileEnd => "infile_end",
             KindName::ColumnCount => "column_count",
             KindName::Column => "column",
+            KindName::FieldListColumn => "field_list_column",
             KindName::Eof => "eof",
             KindName::OkTerminator => "ok_terminator",
             KindName::TextRow => "text_row",
@@ -139,6 +142,7 @@ impl Kind {
             Kind::InfileEnd => KindName::InfileEnd,
             Kind::ColumnCount(_, _) => KindName::ColumnCount,
             Kind::Column => KindName::Column,
+            Kind::FieldListColumn => KindName::FieldListColumn,
             Kind::Eof => KindName::Eof,
             Kind::OkTerminator => KindName::OkTerminator,
             Kind::Row(Format::Text) => KindName::TextRow,

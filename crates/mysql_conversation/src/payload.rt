@@ -7,7 +7,7 @@ ghost use Rattle.mysql_conversation.specs.Conversation as grammar;
 ghost use Rattle.mysql_conversation.specs.Payloads as payloads;
 ghost use Rattle.mysql_conversation.specs.Standing as standing;
 
-use crate::agreed::{asks_factors, deprecates_eof, has_optional_metadata, reports_progress};
+use crate::agreed::{asks_factors, deprecates_eof, reports_progress};
 use crate::kind::{Format, Kind};
 use crate::state::{Answer, Command, Line, Reply, Request};
 use bitflags::Flags;
@@ -68,15 +68,6 @@ pub(crate) fn is_report(agreed: SessionCapabilities, payload: &[u8]) -> bool
             [first, second, third, ..] => *first == 0xff && *second == 0xff && *third == 0xff,
             _ => false,
         }
-}
-
-/// Whether it begins as an OK packet: with 00, and under optional metadata in seven bytes at least. A shorter payload is a count
-/// whose definitions are left out.
-#[inline(always)]
-pub(crate) fn begins_ok(agreed: SessionCapabilities, payload: &[u8]) -> bool
-    ensures { result ≡ payloads.begins_ok agreed payload.now }
-{
-    first_is(0, payload) && !(has_optional_metadata(agreed) && payload.len() < 7)
 }
 
 #[inline(always)]
@@ -183,7 +174,7 @@ pub(crate) fn statement_at(
 pub(crate) fn reply_of(alloc: Global, agreed: SessionCapabilities, payload: &[u8]) -> Option<Reply>
     ensures { result ≡ spec.reply_of agreed payload.now }
 {
-    if begins_ok(agreed, payload) {
+    if first_is(0, payload) {
         return Some(Reply::Ok(has_more(ok_status(alloc, agreed, payload)?)));
     }
     if first_is(0xfb, payload) {

@@ -1,11 +1,13 @@
 //! Results: the kind of a packet that is no error, and the state after it.
 
 ghost use Rattle.std.specs.Prelude.{◌≡◌, IfSome, IfNone, Some, None};
+ghost use Rattle.mysql_conversation.specs.Agreements as agreements;
 ghost use Rattle.mysql_conversation.specs.Conversation as grammar;
 ghost use Rattle.mysql_conversation.specs.Machine as spec;
 ghost use Rattle.mysql_conversation.specs.Payloads as payloads;
 ghost use Rattle.mysql_conversation.specs.declared.state.State.TheVariants as spec_state;
 
+use crate::agreed::deprecates_eof;
 use crate::kind::Kind;
 use crate::payload::{first_is, has_more, old_end_of, opens_cursor, statement_at};
 use crate::state::{After, Line, Reply, Request, State, format_of};
@@ -25,6 +27,7 @@ fn enter(after: After) -> State
             Some(left) => State::Definitions(left, After::Rest),
             None => State::Rest,
         },
+        After::End => State::DefinitionsEnd(After::Rest),
         After::Rest => State::Rest,
     }
 }
@@ -162,7 +165,7 @@ pub(crate) fn definitions_end_step(
     let status = status?;
     match after {
         After::Rows(request) => Some(columns_step(state, status, request)),
-        After::Columns(_) => {
+        After::Columns(_) | After::End => {
             *state = enter(after);
             Some(Kind::Eof)
         }
@@ -245,6 +248,32 @@ fn definitions_follow(statement: &StmtPacketWithMetadata) -> bool
     }
 }
 
+/// Where the definitions of so many columns are left out, and EOF packets are not.
+#[inline(always)]
+fn column_end(columns: u16) -> State
+    ensures { result ≡ spec.column_end columns }
+{
+    match columns.checked_sub(1) {
+        Some(_left) => State::DefinitionsEnd(After::Rest),
+        None => State::Rest,
+    }
+}
+
+/// Where those of so many parameters before them are left out too: an EOF packet comes after the parameters and one after the columns,
+/// where there are any (`THD::send_result_metadata` in MySQL's `sql/sql_class.cc`).
+#[inline(always)]
+fn param_end(params: u16, columns: u16) -> State
+    ensures { result ≡ spec.param_end params columns }
+{
+    match params.checked_sub(1) {
+        Some(_left) => match columns.checked_sub(1) {
+            Some(_more) => State::DefinitionsEnd(After::End),
+            None => State::DefinitionsEnd(After::Rest),
+        },
+        None => column_end(columns),
+    }
+}
+
 /// What answers a statement to be prepared.
 #[inline(always)]
 pub(crate) fn prepared_step(
@@ -253,8 +282,8 @@ pub(crate) fn prepared_step(
     state: &mut State,
     payload: &[u8],
 ) -> Option<Kind>
-    ensures some { IfSome result (λ kind. spec.prepared_step (spec.statement_at agreed payload.now) ≡ Some (kind, state.new)) }
-    ensures none { IfNone result ((spec.prepared_step (spec.statement_at agreed payload.now) ≡ None) × (state.new ≡ state.old)) }
+    ensures some { IfSome result (λ kind. spec.prepared_step (agreements.deprecates_eof agreed) (spec.statement_at agreed payload.now) ≡ Some (kind, state.new)) }
+    ensures none { IfNone result ((spec.prepared_step (agreements.deprecates_eof agreed) (spec.statement_at agreed payload.now) ≡ None) × (state.new ≡ state.old)) }
 {
     let statement = statement_at(alloc, agreed, payload)?;
     let columns = statement.packet().num_columns();
@@ -262,8 +291,10 @@ pub(crate) fn prepared_step(
     let follow = definitions_follow(&statement);
     *state = if follow {
         define(u64::from(params), After::Columns(u64::from(columns)))
-    } else {
+    } else if deprecates_eof(agreed) {
         State::Rest
+    } else {
+        param_end(params, columns)
     };
     Some(Kind::PrepareOk(columns, params, follow))
 }

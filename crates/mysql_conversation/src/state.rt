@@ -55,6 +55,8 @@ pub(crate) enum After {
     Rows(Request),
     /// The definitions of so many columns.
     Columns(u64),
+    /// The EOF packet of columns whose definitions are left out.
+    End,
     /// Nothing.
     Rest,
 }

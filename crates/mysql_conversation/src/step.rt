@@ -8,8 +8,8 @@ ghost use Rattle.mysql_conversation.specs.declared.kind.Side.TheVariants.{Client
 use crate::agreed::deprecates_eof;
 use crate::kind::{Format, Kind, Opening, Side, Unexpected};
 use crate::payload::{
-    authentication_kind, begins_ok, command_of, first_is, is_report, is_row_by_first, line_of,
-    ok_status, old_end_of, reply_of,
+    authentication_kind, command_of, first_is, is_report, is_row_by_first, line_of, ok_status,
+    old_end_of, reply_of,
 };
 use crate::results::{
     acknowledgement_step, definitions_end_step, event_step, infile_reply_step, last_step, less,
@@ -130,7 +130,7 @@ fn authentication_step(
     ensures some { IfSome result (λ kind. spec.authentication_step agreed payload.now (spec.ok_status agreed payload.now) ≡ Some (kind, state.new)) }
     ensures none { IfNone result ((spec.authentication_step agreed payload.now (spec.ok_status agreed payload.now) ≡ None) × (state.new ≡ state.old)) }
 {
-    if begins_ok(agreed, payload) {
+    if first_is(0, payload) {
         return match ok_status(alloc, agreed, payload) {
             Some(_) => {
                 *state = State::Rest;
@@ -138,9 +138,6 @@ fn authentication_step(
             }
             None => None,
         };
-    }
-    if first_is(0, payload) {
-        return None;
     }
     *state = State::Authentication(true);
     Some(authentication_kind(agreed, payload))
@@ -200,7 +197,7 @@ fn serve(
         State::Fields => last_step(
             state,
             deprecates,
-            Kind::Column,
+            Kind::FieldListColumn,
             line_of(alloc, agreed, Format::Text, payload),
         ),
         State::Events => event_step(alloc, agreed, state, payload),

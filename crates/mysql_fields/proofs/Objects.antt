@@ -8,7 +8,7 @@ use Rattle.serde_json.specs.Data.{Data, string, array, Members, no_members, memb
 use Rattle.serde_json.specs.View.{items_of}
 use Rattle.mysql_values.specs.Value.{Content}
 use Rattle.mysql_values.specs.Value as value
-use Rattle.mysql_fields.specs.Fields.{Held, Number, Bytes, Digits, Word, Flag, Value, Absent, Said, is_float, have_float, value_is_float}
+use Rattle.mysql_fields.specs.Fields.{Held, Number, Bytes, Digits, Word, Flag, Value, WithOffset, Absent, Said, is_float, have_float, value_is_float}
 use Rattle.mysql_fields.specs.FieldObject.{bytes_data, digits_data, value_data, held_data, is_item, has_name, with_members, items_named, with_items, with_list, with_lists, object_of}
 use Rattle.serde_json.specs.Written.{has_float, items_have_float, members_have_float}
 
@@ -37,6 +37,7 @@ held-none (Digits bytes) h = refl
 held-none (Word word) h = refl
 held-none (Flag flag) h = refl
 held-none (Value v) h = value-none v h
+held-none (WithOffset date) h = refl
 held-none Absent h = refl
 
 put-at : (o : Ordering) (k l : List ℕ) (d e : Data) (ms : Members) → has_float d ≡ false → has_float e ≡ false → members_have_float ms ≡ false → members_have_float (put k d ms) ≡ false

@@ -8,8 +8,8 @@ use Rattle.serde_json.specs.View.{items_of}
 use Rattle.serde_json.specs.Written.{compact_text}
 use Rattle.mysql_values.specs.Value.{Content}
 use Rattle.mysql_values.specs.Value as value
-use Rattle.mysql_fields.specs.Fields.{Held, Number, Bytes, Digits, Word, Flag, Value, Absent, Said}
-use Rattle.mysql_fields.specs.FieldText.{date_text, time_text}
+use Rattle.mysql_fields.specs.Fields.{Held, Number, Bytes, Digits, Word, Flag, Value, WithOffset, Absent, Said}
+use Rattle.mysql_fields.specs.FieldText.{date_text, offset_date_text, time_text}
 
 -- digits, as the one member of an object
 abbrev pub digits_data : List ℕ → Data
@@ -37,6 +37,7 @@ held_data (Digits bytes) = string (encode_lower bytes)
 held_data (Word word) = string word
 held_data (Flag flag) = boolean flag
 held_data (Value value) = value_data value
+held_data (WithOffset date) = string (offset_date_text date)
 held_data Absent = null
 
 abbrev pub has_name : List ℕ → Said → Bool

@@ -1,13 +1,14 @@
 -- Fields as lines.
-use Rattle.std.specs.Prelude.{ℕ, ◌^◌, ◌-◌, Bool, true, false, List, [], ◌++◌, codes, decimal, map}
+use Rattle.std.specs.Prelude.{ℕ, ℤ, pos, negsuc, suc, ◌^◌, ◌-◌, ◌/◌, ◌%◌, Bool, true, false, List, [], ◌++◌, codes, decimal, map}
 use Rattle.std.specs.Fmt.{padded_integral, format_spec, signed_decimal}
 use Rattle.std.specs.List.{concat}
 use Rattle.hex.specs.Hex.{encode_lower}
-use Rattle.mysql_values.specs.Value.{Content}
+use Rattle.mysql_values.specs.Value.{Content, date_of}
+use Rattle.mysql_values.specs.declared.date_time_with_offset.DateTimeWithOffset.{DateTimeWithOffset}
 use Rattle.mysql_values.specs.Value as value
 use Rattle.mysql_values.specs.declared.temporal.DateTime.{DateTime}
 use Rattle.mysql_values.specs.declared.temporal.TimeSpan.{TimeSpan}
-use Rattle.mysql_fields.specs.Fields.{Held, Number, Bytes, Digits, Word, Flag, Value, Absent, Said}
+use Rattle.mysql_fields.specs.Fields.{Held, Number, Bytes, Digits, Word, Flag, Value, WithOffset, Absent, Said}
 
 -- bytes: digits after an x
 abbrev pub prefixed : List ℕ → List ℕ
@@ -34,6 +35,19 @@ sign_text false = []
 abbrev pub time_text : TimeSpan → List ℕ
 time_text time = sign_text time.is_negative ++ (decimal time.days ++ (codes " " ++ clock_text time.clock.hour time.clock.minute time.clock.second time.micros))
 
+-- minutes as hours and minutes, after a sign
+abbrev pub minutes_text : (sign : List ℕ) → ℕ → List ℕ
+minutes_text sign minutes = sign ++ (wide 2 (minutes / 60) ++ (codes ":" ++ wide 2 (minutes % 60)))
+
+-- an offset from UTC: its sign, hours and minutes
+abbrev pub offset_text : ℤ → List ℕ
+offset_text (pos minutes) = minutes_text (codes "+") minutes
+offset_text (negsuc n) = minutes_text (codes "-") (suc n)
+
+-- a date and a time with its offset
+abbrev pub offset_date_text : DateTimeWithOffset → List ℕ
+offset_date_text d = date_text (date_of d.year d.month d.day d.hour d.minute d.second d.micros) ++ offset_text d.offset_minutes
+
 -- what stands for a value that is no float
 abbrev pub value_text : Content → List ℕ
 value_text value.NULL = codes "NULL"
@@ -56,6 +70,7 @@ held_text (Digits bytes) = prefixed bytes
 held_text (Word word) = word
 held_text (Flag flag) = flag_text flag
 held_text (Value value) = value_text value
+held_text (WithOffset date) = offset_date_text date
 held_text Absent = codes "none"
 
 -- a name and what the field holds

@@ -2,7 +2,10 @@
 use Rattle.std.specs.Prelude.{ℕ, ◌||◌, List, [], ◌∷◌, Bool, true, false, Option, option_map, unwrap_or}
 use Rattle.mysql_values.specs.Value.{Content}
 use Rattle.mysql_values.specs.Value as value
+use Rattle.mysql_values.specs.ParamValue.{ParamContent}
+use Rattle.mysql_values.specs.ParamValue as param
 use Rattle.mysql_values.specs.ValueRef.{ref_content}
+use Rattle.mysql_values.specs.declared.date_time_with_offset.DateTimeWithOffset.{DateTimeWithOffset}
 use Rattle.mysql_fields.specs.declared.field.Shown.{Shown}
 use Rattle.mysql_fields.specs.declared.field.Shown.TheVariants as shows
 
@@ -14,6 +17,7 @@ pub data Held : Type 0 where
   Word : List ℕ → Held
   Flag : Bool → Held
   Value : Content → Held
+  WithOffset : DateTimeWithOffset → Held
   Absent : Held
 
 -- a field: its name, and what it holds
@@ -31,7 +35,13 @@ held_of (shows.Digits bytes) = Digits bytes.now
 held_of (shows.Word word) = Word word.now
 held_of (shows.Flag flag) = Flag flag
 held_of (shows.Value value) = Value (ref_content value)
+held_of (shows.DateTimeWithOffset date) = WithOffset date
 held_of shows.Absent = Absent
+
+-- a value of a parameter or an attribute
+abbrev pub param_held : ParamContent → Held
+param_held (param.Plain value) = Value value
+param_held (param.WithOffset date) = WithOffset date
 
 -- what may be absent
 abbrev pub optional : {A : Type 0} → (A → Held) → Option A → Held

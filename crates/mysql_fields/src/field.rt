@@ -1,10 +1,11 @@
 //! What a packet says, field by field.
 
 ghost use Rattle.std.specs.Prelude.{◌≡◌, option_map};
+ghost use Rattle.mysql_values.specs.ParamValue.{param_content};
 ghost use Rattle.mysql_values.specs.ValueRef.{ref_content};
 ghost use Rattle.mysql_fields.specs.Fields as spec;
 
-use mysql_values::ValueRef;
+use mysql_values::{DateTimeWithOffset, ParamValue, ValueRef};
 use std::marker::Model;
 
 /// What a field holds.
@@ -22,6 +23,8 @@ pub(crate) enum Shown<'a> {
     Flag(bool),
     /// A value of a row or a parameter.
     Value(ValueRef<'a>),
+    /// A date and a time with an offset from UTC, of a parameter or an attribute.
+    DateTimeWithOffset(DateTimeWithOffset),
     /// Nothing: the packet has no such field.
     Absent,
 }
@@ -104,6 +107,19 @@ impl<'a> Field<'a> {
         Field {
             name,
             shown: Shown::Value(value),
+        }
+    }
+
+    /// A value of a parameter or an attribute.
+    pub fn param(name: &'static str, value: ParamValue<'a>) -> Self
+        ensures value { result ≡ spec.said name.now (spec.param_held (param_content value.entry)) }
+    {
+        match value {
+            ParamValue::Value(value) => Field::value(name, value),
+            ParamValue::DateTimeWithOffset(date) => Field {
+                name,
+                shown: Shown::DateTimeWithOffset(date),
+            },
         }
     }
 

@@ -12,7 +12,7 @@ ghost use Rattle.mysql_fields.specs.Fields.{have_float, held_of, is_float, value
 
 use crate::field::{Field, Shown};
 use crate::float::{double_of, float_of};
-use crate::text::temporal_text;
+use crate::text::{offset_date_text, temporal_text};
 use mysql_values::ValueRef;
 use serde_json::{Map, Value, put};
 use std::alloc::{AllocError, Global};
@@ -146,6 +146,7 @@ fn value_of(alloc: Global, shown: &Shown<'_>) -> Result<Value, AllocError>
         Shown::Word(word) => Ok(Value::String(String::from_str(alloc, word)?)),
         Shown::Flag(flag) => Ok(Value::Bool(*flag)),
         Shown::Value(value) => column_value(alloc, value),
+        Shown::DateTimeWithOffset(date) => Ok(Value::String(offset_date_text(alloc, date)?)),
         Shown::Absent => Ok(Value::Null),
     }
 }

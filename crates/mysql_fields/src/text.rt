@@ -9,7 +9,7 @@ ghost use Rattle.mysql_fields.specs.Fields.{have_float, is_float, is_temporal, v
 
 use crate::field::{Field, Shown};
 use crate::float::{double_of, float_of};
-use mysql_values::ValueRef;
+use mysql_values::{DateTimeWithOffset, ValueRef};
 use std::alloc::{AllocError, Global};
 
 /// Appends a line for each field: `name: value`, with bytes as `x` and digits, a flag as `yes` or `no`, and `none` for what is absent.
@@ -41,6 +41,10 @@ fn append_line(alloc: Global, out: &mut String, field: &Field<'_>) -> Result<(),
         Shown::Flag(false) => write!(out, "{name}: no\n"),
         Shown::Value(value) => {
             let text = value_text(alloc, &value)?;
+            write!(out, "{name}: {text}\n")
+        }
+        Shown::DateTimeWithOffset(date) => {
+            let text = offset_date_text(alloc, &date)?;
             write!(out, "{name}: {text}\n")
         }
         Shown::Absent => write!(out, "{name}: none\n"),
@@ -93,6 +97,48 @@ pub(crate) fn temporal_text(alloc: Global, value: &ValueRef<'_>) -> Result<Strin
         }
         _ => String::from_str(alloc, "none"),
     }
+}
+
+/// A date and a time with its offset from UTC: `2011-02-03 04:05:06.123456+12:34`.
+pub(crate) fn offset_date_text(
+    alloc: Global,
+    date: &DateTimeWithOffset,
+) -> Result<String, AllocError>
+    ensures text { IfOk result (λ text. string_bytes text ≡ spec.offset_date_text date.now) }
+{
+    let local = ValueRef::Date(
+        date.year,
+        date.month,
+        date.day,
+        date.hour,
+        date.minute,
+        date.second,
+        date.micros,
+    );
+    let text = temporal_text(alloc, &local)?;
+    let offset = offset_text(alloc, date.offset_minutes)?;
+    format!(in alloc; "{text}{offset}")
+}
+
+/// An offset from UTC in minutes: its sign, the hours and the minutes.
+fn offset_text(alloc: Global, minutes: i16) -> Result<String, AllocError>
+    ensures text { IfOk result (λ text. string_bytes text ≡ spec.offset_text minutes) }
+{
+    let magnitude = minutes.unsigned_abs();
+    if minutes < 0 {
+        minutes_text(alloc, "-", magnitude)
+    } else {
+        minutes_text(alloc, "+", magnitude)
+    }
+}
+
+/// Minutes as hours and minutes, after a sign.
+fn minutes_text(alloc: Global, sign: &str, minutes: u16) -> Result<String, AllocError>
+    ensures text { IfOk result (λ text. string_bytes text ≡ spec.minutes_text sign.now minutes) }
+{
+    let hours = minutes / 60;
+    let rest = minutes % 60;
+    format!(in alloc; "{sign}{hours:02}:{rest:02}")
 }
 
 /// Hours, minutes, seconds and microseconds.

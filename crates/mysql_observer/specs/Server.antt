@@ -14,6 +14,7 @@ use Rattle.mysql_repl.specs.BinlogStreamEvent.{stream_event}
 use Rattle.mysql_replies.specs.ColumnCount.{column_count}
 use Rattle.mysql_replies.specs.ErrPacket.{err_packet}
 use Rattle.mysql_replies.specs.ExtendedColumn.{extended_column}
+use Rattle.mysql_replies.specs.FieldListColumn.{field_list_column}
 use Rattle.mysql_replies.specs.GreetingError.{greeting_error}
 use Rattle.mysql_replies.specs.LocalInfile.{local_infile}
 use Rattle.mysql_replies.specs.OkKind.{common_ok_body, terminator_body, old_eof_body}
@@ -82,6 +83,7 @@ module _ {C : Type 0} (type_of : C → ColumnType) (unsigned : C → Bool) where
   server_packet c kind.LocalInfile = map variant.LocalInfile (local_infile.form tt)
   server_packet c (kind.ColumnCount n follow) = map variant.ColumnCount (column_count.form (agreed_or_none c.agreed))
   server_packet c kind.Column = map variant.Column (extended_column.form (agreed_or_none c.agreed).mariadb)
+  server_packet c kind.FieldListColumn = map variant.FieldListColumn (field_list_column.form (agreed_or_none c.agreed).mariadb)
   server_packet c kind.Eof = map variant.Eof (eof_form (agreed_or_none c.agreed))
   server_packet c kind.OkTerminator = map variant.OkTerminator (ok_terminator_form (agreed_or_none c.agreed))
   server_packet c (kind.Row Text) = map variant.TextRow (text_row c.column_count)

@@ -8,8 +8,8 @@ use mysql_commands::BytesRef;
 use mysql_prepared::{BinaryRowView, StmtPacketWithMetadata, TextRowView, TypedColumn};
 use mysql_repl::BinlogStreamEvent;
 use mysql_replies::{
-    ColumnCount, ErrPacketRef, ExtendedColumnRef, GreetingErrorRef, LocalInfilePacketRef,
-    OkPacketRef, ProgressReportRef,
+    ColumnCount, ErrPacketRef, ExtendedColumnRef, FieldListColumn, GreetingErrorRef,
+    LocalInfilePacketRef, OkPacketRef, ProgressReportRef,
 };
 use mysql_values::ServerSide;
 
@@ -44,6 +44,8 @@ pub enum ServerPacket<'a, 'c, C: TypedColumn> {
     ColumnCount(ColumnCount),
     /// The definition of a column or a parameter, with MariaDB's extended metadata where these are agreed on.
     Column(ExtendedColumnRef<'a>),
+    /// The definition of a column that answers `COM_FIELD_LIST`, with its default value.
+    FieldListColumn(FieldListColumn<'a>),
     /// An EOF packet: its status and its count of warnings.
     Eof(OkPacketRef<'a>),
     /// The end of rows as an OK packet.

@@ -107,6 +107,7 @@ fn read_of_kind<'s, 'a, 'c, C: TypedColumn>(
         Kind::LocalInfile => Ok(ServerPacket::LocalInfile(buf.parse(())?)),
         Kind::ColumnCount(_, _) => Ok(ServerPacket::ColumnCount(buf.parse(agreed)?)),
         Kind::Column => Ok(ServerPacket::Column(buf.parse(agreed.mariadb)?)),
+        Kind::FieldListColumn => Ok(ServerPacket::FieldListColumn(buf.parse(agreed.mariadb)?)),
         Kind::Eof => Ok(ServerPacket::Eof(read_eof(agreed, buf)?)),
         Kind::OkTerminator => Ok(ServerPacket::OkTerminator(read_ok_terminator(agreed, buf)?)),
         Kind::Row(Format::Text) => {
@@ -124,8 +125,7 @@ fn read_of_kind<'s, 'a, 'c, C: TypedColumn>(
 
 /// Reads the packet of this kind from the front of the bytes.
 ///
-/// What follows the record is left, as the default value after a column that answers `COM_FIELD_LIST`. A row has all bytes, since its
-/// values are read later: [`TextRowView::rest`] and [`BinaryRowView::rest`] answer what follows them.
+/// What follows the record is left. A row has all bytes, since its values are read later: [`TextRowView::rest`] and [`BinaryRowView::rest`] answer what follows them.
 ///
 /// A fault is that of the kind's reader. A binary row is not refused where its first byte and its bitmap of NULLs are there: a fault of
 /// a value is [`BinaryRowView::next_value`]'s. A kind of the client's packets is `InvalidInput`. After a refusal the bytes are as they

@@ -65,9 +65,11 @@ pub use Rattle.mysql_wire.specs.Writing
 pub use Rattle.mysql_values.specs.ByContent
 pub use Rattle.mysql_values.specs.Cells
 pub use Rattle.mysql_values.specs.ContentEq
+pub use Rattle.mysql_values.specs.DateTimeWithOffset
 pub use Rattle.mysql_values.specs.FromValue
 pub use Rattle.mysql_values.specs.FromValueRef
 pub use Rattle.mysql_values.specs.ParamType
+pub use Rattle.mysql_values.specs.ParamValue as BoundParamValue
 pub use Rattle.mysql_values.specs.Params
 pub use Rattle.mysql_values.specs.ReadingBack
 pub use Rattle.mysql_values.specs.SentType
@@ -90,6 +92,7 @@ pub use Rattle.mysql_replies.specs.ColumnFields
 pub use Rattle.mysql_replies.specs.ColumnNames
 pub use Rattle.mysql_replies.specs.ErrPacket
 pub use Rattle.mysql_replies.specs.ExtendedColumn
+pub use Rattle.mysql_replies.specs.FieldListColumn
 pub use Rattle.mysql_replies.specs.GreetingError
 pub use Rattle.mysql_replies.specs.LocalInfile
 pub use Rattle.mysql_replies.specs.OkKind as OkBody
@@ -102,7 +105,9 @@ pub use Rattle.mysql_replies.specs.ServerError
 pub use Rattle.mysql_replies.specs.SessionStateChanges
 pub use Rattle.mysql_replies.specs.SessionStateInfo
 pub use Rattle.mysql_replies.specs.SqlState
+pub use Rattle.mysql_prepared.specs.Attributes as QueryAttributesRead
 pub use Rattle.mysql_prepared.specs.BinaryRow
+pub use Rattle.mysql_prepared.specs.BindFront
 pub use Rattle.mysql_prepared.specs.Bitmap
 pub use Rattle.mysql_prepared.specs.Close
 pub use Rattle.mysql_prepared.specs.ComQuery
@@ -119,15 +124,15 @@ pub use Rattle.mysql_prepared.specs.NullMarks
 pub use Rattle.mysql_prepared.specs.Payload
 pub use Rattle.mysql_prepared.specs.PlainExecution
 pub use Rattle.mysql_prepared.specs.ReadAgain
+pub use Rattle.mysql_prepared.specs.SentNulls
+pub use Rattle.mysql_prepared.specs.SentParam
+pub use Rattle.mysql_prepared.specs.SentTypes
 pub use Rattle.mysql_prepared.specs.Row
 pub use Rattle.mysql_prepared.specs.RowForm
 pub use Rattle.mysql_prepared.specs.RowView
 pub use Rattle.mysql_prepared.specs.Stmt
 pub use Rattle.mysql_prepared.specs.StmtWithMetadata
 pub use Rattle.mysql_prepared.specs.TextRow
-pub use Rattle.mysql_prepared.specs.TypedExecution
-pub use Rattle.mysql_prepared.specs.TypedReadAgain
-pub use Rattle.mysql_prepared.specs.WrittenExecution
 pub use Rattle.mysql_cuts.specs.Cut
 pub use Rattle.mysql_cuts.specs.Fewest
 pub use Rattle.mysql_bulk.specs.Builder

@@ -1,8 +1,9 @@
 //! The values of statements and rows.
 
 pub use mysql_values::{
-    BinValue, ClientSide, ParamType, SerializationSide, ServerSide, TextValue, TypedValue, Value,
-    ValueDeserializer, ValueRef, read_bin_cell, read_bin_ref, read_text_ref,
+    BinValue, ClientSide, DateTimeWithOffset, InvalidOffsetDateLength, ParamType, ParamValue,
+    SerializationSide, ServerSide, TextValue, TypedValue, Value, ValueDeserializer, ValueRef,
+    read_bin_cell, read_bin_ref, read_text_ref,
 };
 
 /// Conversions of values.

@@ -5,31 +5,39 @@ use Rattle.mysql_wire.specs.declared.fault.FaultKind.{FaultKind}
 use Rattle.mysql_wire.specs.declared.fault.FaultKind.TheVariants as kind
 use Rattle.mysql_wire.specs.declared.fault.FaultOf.{FaultOf}
 use Rattle.mysql_wire.specs.declared.fault.FaultOf.TheVariants as fault
-use Rattle.mysql_wire.specs.Reading.{Reading, Faults}
-use Rattle.mysql_prepared.specs.ExecuteRead.{Gives, HasNoParam, IsExecution, ParamsBytes, ParamsLeft, bound_left, RefusesParam, TypedParam, execute_params, front, left_of, params_of, params_to}
-use Rattle.mysql_prepared.proofs.ParamViews.{no-param, none-bound}
+use Rattle.mysql_wire.specs.Each.{each}
+use Rattle.mysql_wire.specs.Flags.{CapabilityFlags}
+use Rattle.mysql_wire.specs.Form.{Form}
+use Rattle.mysql_wire.specs.Reading.{Reading, Faults, then_read}
+use Rattle.mysql_values.specs.ParamValue.{ParamContent}
+use Rattle.mysql_prepared.specs.Attributes.{Attribute, AttributesLeft, attribute, attributes_left, attributes_read}
+use Rattle.mysql_prepared.specs.ExecuteHead.{cursor_flags, stmt_id}
+use Rattle.mysql_prepared.specs.ExecuteRead.{AttributesAhead, Gives, HasNoParam, ParamsBytes, ParamsLeft, RefusesParam, StandsAfter, TypedParam, attributes_at, execution, execution_front, execution_of, left_of, params_of, params_to}
+use Rattle.mysql_prepared.specs.SentTypes.{NamedType}
+use Rattle.mysql_prepared.proofs.ParamViews.{no-param}
 use Rattle.mysql_prepared.specs.declared.execute_head.ComStmtExecuteHead.{ComStmtExecuteHead}
 use Rattle.mysql_prepared.specs.declared.execute_view.BoundParam.{BoundParam}
 use Rattle.mysql_packets_c.specs.Code.{fault_code, kind_code}
-use Rattle.mysql_packets_c.specs.Value.{value_content}
-use Rattle.mysql_packets_c.specs.Execution.{ExecutionInto, FillsParams, HoldsExecution, HoldsParams, ParamsInto, TakesParams, bound_list, bound_of, content_of, contents_of, last_left, sends_types, type_held, types_of}
+use Rattle.mysql_packets_c.specs.Input.{used_of}
+use Rattle.mysql_packets_c.specs.Value.{param_content}
+use Rattle.mysql_packets_c.specs.Execution.{ExecutionInto, FillsParams, HoldsExecution, HoldsParams, KeepsRest, ParamsInto, TakesParams, bound_list, bound_of, content_of, contents_of, last_left, sends_types, type_held, types_of}
 use Rattle.mysql_packets_c.specs.declared.execution.CExecution.{CExecution}
 use Rattle.mysql_packets_c.specs.declared.execution.CParam.{CParam}
 use Rattle.mysql_packets_c.specs.declared.rows.CColumnType.{CColumnType}
 use Rattle.mysql_packets_c.specs.declared.value.CValue.{CValue}
 use Rattle.mysql_packets_c.specs.Rows.{FillsPlaces}
-use Rattle.mysql_packets_c.proofs.FilledRows.{none-filled, one-more, one-set}
+use Rattle.mysql_packets_c.proofs.FilledRows.{none-filled, one-more, one-param-set}
 
 -- ---- one parameter more
 
-pub one-content : (values : List CValue) (place : ℕ) (x : CValue) (read : List TypedParam) (left more : List TypedParam) (p : TypedParam)
-    → contents_of read ≡ map value_content (take place values) ++ contents_of left → left ≡ p ∷ more → value_content x ≡ content_of p.1 → place < length values
-    → contents_of read ≡ map value_content (take (place + 1) (slice_set values place x)) ++ contents_of more
+pub one-content : (values : List CValue) (place : ℕ) (x : CValue) (read left more : List TypedParam) (p : TypedParam)
+    → contents_of read ≡ map param_content (take place values) ++ contents_of left → left ≡ p ∷ more → param_content x ≡ content_of p.param → place < length values
+    → contents_of read ≡ map param_content (take (place + 1) (slice_set values place x)) ++ contents_of more
 one-content values place x read left more p before first is fits =
-    one-more values place x (contents_of read) (contents_of left) (contents_of more) (content_of p.1) before (ap contents_of first) is fits
+    one-more param_content values place x (contents_of read) (contents_of left) (contents_of more) (content_of p.param) before (ap contents_of first) is fits
 
 pub one-type : (types : List CColumnType) (place : ℕ) (x : CColumnType) (read left more : List TypedParam) (p : TypedParam)
-    → types_of read ≡ take place types ++ types_of left → left ≡ p ∷ more → x ≡ type_held p.0 → place < length types
+    → types_of read ≡ take place types ++ types_of left → left ≡ p ∷ more → x ≡ type_held p.named_type.param_type → place < length types
     → types_of read ≡ take (place + 1) (slice_set types place x) ++ types_of more
 one-type types place x read left more p before first is fits =
     let stored = take_more_set types place x fits in
@@ -38,46 +46,51 @@ one-type types place x read left more p before first is fits =
 
 -- ---- all of them
 
-all-held : (old new : ParamsLeft) (values_before values : List CValue) (types_before types : List CColumnType) → FillsParams old new values_before values types_before types → HasNoParam new
+pub all-held : (old new : ParamsLeft) (values_before values : List CValue) (types_before types : List CColumnType) → FillsParams old new values_before values types_before types → HasNoParam new
     → HoldsParams old.params (take old.left values) (take old.left types)
 all-held old new values_before values types_before types fills none =
     let whole : old.left - 0 ≡ old.left = omega arith in
-    let contents : contents_of old.params ≡ map value_content (take (old.left - 0) values) = rw (none.0, none.1, append-nil) at fills.contents in
+    let contents : contents_of old.params ≡ map param_content (take (old.left - 0) values) = rw (none.0, none.1, append-nil) at fills.contents in
     let held : types_of old.params ≡ take (old.left - 0) types = rw (none.0, none.1, append-nil) at fills.types in
     record {
-      contents = sym (subst (λ (n : ℕ). contents_of old.params ≡ map value_content (take n values)) whole contents);
+      contents = sym (subst (λ (n : ℕ). contents_of old.params ≡ map param_content (take n values)) whole contents);
       types = sym (subst (λ (n : ℕ). types_of old.params ≡ take n types) whole held);
     }
 
-front-sends : (params : List BoundParam) (bytes : List ℕ) (view : ParamsLeft) → IsExecution params bytes view → sends_types ((front params).reads bytes) ≡ (if view.sends_types then 1 else 0)
-front-sends params bytes view (f, after, reads, is) = rw (reads, is) refl
+one-later : {A : Type 0} (r : Reading (List A)) (x : A) (n : ℕ) → ((xs : List A) (rest : List ℕ) → r ≡ Ok (xs, rest) → length xs ≡ n)
+    → (xs : List A) (rest : List ℕ) → then_read r (λ ys rest. Ok (x ∷ ys, rest)) ≡ Ok (xs, rest) → length xs ≡ n + 1
+one-later {A = A} (Ok y) x n h xs rest e =
+    let same : (x ∷ y.0, y.1) ≡ (xs, rest) = cc in
+    let len : length y.0 ≡ n = h y.0 y.1 refl in
+    let all = ap (λ (p : List A × List ℕ). length p.0) same in
+    omega (arith, all, len)
+one-later (Err k) x n h xs rest e = absurd cc
 
-pub all-taken : (params : List BoundParam) (bytes rest : List ℕ) (sends : Bool) (old new : ParamsLeft) (values_before values : List CValue) (types_before types : List CColumnType)
-    → old.left ≡ length params → params_of old ≡ (execute_params params).reads bytes → IsExecution params bytes old → sends ≡ old.sends_types
-    → FillsParams old new values_before values types_before types → HasNoParam new → (new.left ≡ 0 → new.end ≡ Ok rest)
-    → TakesParams params (Ok (sends, rest)) (take (length params) values) (take (length params) types) bytes
-all-taken params bytes rest sends old new values_before values types_before types left read execution is fills none end =
-    let ended : old.end ≡ Ok rest = sym fills.end ∙ end none.0 in
-    let held = all-held old new values_before values types_before types fills none in (
-      old.params,
-      sym read ∙ ap (params_to old.params) ended,
-      subst (λ (n : ℕ). HoldsParams old.params (take n values) (take n types)) left held,
-      front-sends params bytes old execution ∙ ap (λ (b : Bool). if b then 1 else 0) (sym is),
-    )
+-- as many are read as there are forms
+several : {A : Type 0} (r : Reading A) (next : List ℕ → Reading (List A)) (n : ℕ) → ((bytes : List ℕ) (xs : List A) (rest : List ℕ) → next bytes ≡ Ok (xs, rest) → length xs ≡ n)
+    → (xs : List A) (rest : List ℕ) → then_read r (λ x mid. then_read (next mid) (λ ys rest. Ok (x ∷ ys, rest))) ≡ Ok (xs, rest) → length xs ≡ n + 1
+several (Ok x) next n h xs rest e = one-later (next x.1) x.0 n (h x.1) xs rest e
+several (Err k) next n h xs rest e = absurd cc
 
--- a fault comes after any parameters
-fault-after : (ps : List TypedParam) (end : Result (List ℕ) FaultKind) (e : FaultOf) → Faults false e (params_to [] end) → Faults false e (params_to ps end)
-fault-after ps (Err k) e h = h
-fault-after ps (Ok rest) fault.UnexpectedEof h = absurd cc
-fault-after ps (Ok rest) (fault.InvalidData text) h = absurd cc
-fault-after ps (Ok rest) (fault.InvalidInput text) h = absurd cc
-fault-after ps (Ok rest) fault.Memory h = absurd cc
+read-each : {A C : Type 0} (form : ℕ → C → Form A) (place : ℕ) (cs : List C) (bytes : List ℕ) (xs : List A) (rest : List ℕ) → (each form place cs).reads bytes ≡ Ok (xs, rest) → length xs ≡ length cs
+unfolding each
+read-each {A = A} form place [] bytes xs rest e = let same : ([], bytes) ≡ (xs, rest) = cc in sym (ap (λ (p : List A × List ℕ). length p.0) same)
+read-each form place (c ∷ cs) bytes xs rest e =
+    several ((form place c).reads bytes) (λ mid. (each form (place + 1) cs).reads mid) (length cs) (λ mid. read-each form (place + 1) cs mid) xs rest e ∙ omega arith
 
-pub one-refused : (read : Reading (List TypedParam)) (old new : ParamsLeft) (values_before values : List CValue) (types_before types : List CColumnType) (e : FaultOf)
-    → params_of old ≡ read → FillsParams old new values_before values types_before types → RefusesParam e new → Faults false e read
-one-refused read old new values_before values types_before types e is fills refused =
-    let at_end : Faults false e (params_to [] old.end) = rw (refused.0, fills.end) at refused.1 in
-    subst (λ (r : _). Faults false e r) is (fault-after old.params old.end e at_end)
+-- the attributes that follow, as many as there are types
+pub counted-attributes : (view : AttributesLeft) (nulls : List ℕ) (place : ℕ) (types : List NamedType) (bytes rest : List ℕ) → view ≡ attributes_left nulls place types bytes
+    → view.all ≡ Ok (attributes_read view.all, rest) → length (attributes_read view.all) ≡ view.left
+counted-attributes view nulls place types bytes rest is read =
+    let here : (each (attribute nulls) place types).reads bytes ≡ Ok (attributes_read view.all, rest) = sym (ap (λ (v : AttributesLeft). v.all) is) ∙ read in
+    read-each (attribute nulls) place types bytes (attributes_read view.all) rest here ∙ sym (ap (λ (v : AttributesLeft). v.left) is)
+
+-- a fault ends all
+pub then-fault : {A B : Type 0} (r : Reading A) (next : A → List ℕ → Reading B) (e : FaultOf) → Faults false e r → Faults false e (then_read r next)
+then-fault r next fault.UnexpectedEof h = rw h refl
+then-fault r next (fault.InvalidData text) h = rw h refl
+then-fault r next (fault.InvalidInput text) h = rw h refl
+then-fault r next fault.Memory h = absurd cc
 
 -- ---- places
 
@@ -108,41 +121,6 @@ not-memory (fault.InvalidData text) read h = λ is. absurd cc
 not-memory (fault.InvalidInput text) read h = λ is. absurd cc
 not-memory fault.Memory read h = absurd cc
 
--- ---- the whole execution
-
-pub into-execution : (packet : List ℕ) (params : List BoundParam) (h : ComStmtExecuteHead) (after rest : List ℕ) (read : Reading ComStmtExecuteHead) (sends : Bool) (values : List CValue) (types : List CColumnType) (old new : CExecution)
-    → read ≡ Ok (h, after) → TakesParams params (Ok (sends, rest)) values types after → HoldsExecution packet h (if sends then 1 else 0) rest new → ExecutionInto packet params read values types 0 old new
-into-execution packet params h after rest read sends values types old new e (list, reads, held, sent) is =
-    let filled : HoldsExecution packet h (sends_types ((front params).reads after)) rest new = subst (λ (n : ℕ). HoldsExecution packet h n rest new) (sym sent) is in
-    let into : ParamsInto ((execute_params params).reads after) values types (HoldsExecution packet h (sends_types ((front params).reads after))) 0 old new =
-    subst (λ (r : Reading (List TypedParam)). ParamsInto r values types (HoldsExecution packet h (sends_types ((front params).reads after))) 0 old new) (sym reads) (refl, held, filled) in
-    subst (λ (r : Reading ComStmtExecuteHead). ExecutionInto packet params r values types 0 old new) (sym e) into
-
-head-fault : (packet : List ℕ) (params : List BoundParam) (values : List CValue) (types : List CColumnType) (old : CExecution) (k : FaultKind) (read : Reading ComStmtExecuteHead)
-    → read ≡ Err k → ExecutionInto packet params read values types (kind_code k) old old
-head-fault packet params values types old k read h = subst (λ (r : Reading ComStmtExecuteHead). ExecutionInto packet params r values types (kind_code k) old old) (sym h) (refl, refl)
-
-pub fault-of-head : (packet : List ℕ) (params : List BoundParam) (values : List CValue) (types : List CColumnType) (old : CExecution) (e : FaultOf) (read : Reading ComStmtExecuteHead)
-    → Faults false e read → ExecutionInto packet params read values types (fault_code e) old old
-fault-of-head packet params values types old fault.UnexpectedEof read h = head-fault packet params values types old kind.UnexpectedEof read h
-fault-of-head packet params values types old (fault.InvalidData text) read h = head-fault packet params values types old kind.InvalidData read h
-fault-of-head packet params values types old (fault.InvalidInput text) read h = head-fault packet params values types old kind.InvalidInput read h
-fault-of-head packet params values types old fault.Memory read h = absurd cc
-
-params-fault : (packet : List ℕ) (params : List BoundParam) (values : List CValue) (types : List CColumnType) (old : CExecution) (h : ComStmtExecuteHead) (after : List ℕ) (k : FaultKind) (read : Reading ComStmtExecuteHead)
-    → read ≡ Ok (h, after) → (execute_params params).reads after ≡ Err k → ExecutionInto packet params read values types (kind_code k) old old
-params-fault packet params values types old h after k read e f =
-    let into : ParamsInto ((execute_params params).reads after) values types (HoldsExecution packet h (sends_types ((front params).reads after))) (kind_code k) old old =
-    subst (λ (r : Reading (List TypedParam)). ParamsInto r values types (HoldsExecution packet h (sends_types ((front params).reads after))) (kind_code k) old old) (sym f) (refl, refl) in
-    subst (λ (r : Reading ComStmtExecuteHead). ExecutionInto packet params r values types (kind_code k) old old) (sym e) into
-
-pub fault-of-params : (packet : List ℕ) (params : List BoundParam) (values : List CValue) (types : List CColumnType) (old : CExecution) (h : ComStmtExecuteHead) (after : List ℕ) (e : FaultOf) (read : Reading ComStmtExecuteHead)
-    → read ≡ Ok (h, after) → Faults false e ((execute_params params).reads after) → ExecutionInto packet params read values types (fault_code e) old old
-fault-of-params packet params values types old h after fault.UnexpectedEof read is f = params-fault packet params values types old h after kind.UnexpectedEof read is f
-fault-of-params packet params values types old h after (fault.InvalidData text) read is f = params-fault packet params values types old h after kind.InvalidData read is f
-fault-of-params packet params values types old h after (fault.InvalidInput text) read is f = params-fault packet params values types old h after kind.InvalidInput read is f
-fault-of-params packet params values types old h after fault.Memory read is f = absurd cc
-
 -- ---- what the server knows before
 
 list-at : (params : List CParam) (i n : ℕ) → n ≡ i → bound_list (drop i params) ≡ bound_list (drop n params)
@@ -154,14 +132,21 @@ all-left sent params len =
     let none : length params - sent.left ≡ 0 = omega (arith, len) in
     ap (λ (k : ℕ). left_of sent (bound_list (drop k params))) none
 
--- no parameter is left
-pub none-left : (sent : ParamsBytes) (params : List CParam) → sent.left ≡ 0 → HasNoParam (last_left sent params) × ((last_left sent params).end ≡ Ok sent.values)
+-- what is left once no parameter is
+pub record NoneLeft (sent : ParamsBytes) (left : ParamsLeft) : Type 0 where
+  pub none : HasNoParam left
+  pub end : left.end ≡ Ok sent.values
+  pub attributes : left.attributes ≡ record { nulls = sent.nulls; place = sent.place; types = sent.types }
+
+pub none-left : (sent : ParamsBytes) (params : List CParam) → sent.left ≡ 0 → NoneLeft sent (last_left sent params)
 none-left sent params none =
     let n = length params - sent.left in
     let ps = bound_list (drop n params) in
     let empty : length ps ≡ 0 = length-map (drop n params) bound_of ∙ length-drop n params ∙ omega (arith, none) in
-    let past = no-param sent.nulls sent.place (bound_left sent.sends_types ps sent.types) sent.values (none-bound sent.sends_types ps sent.types empty) in
-    ((none, past.0), past.1)
+    let past = no-param sent.sends_types sent.nulls sent.place ps sent.types sent.values empty in
+    let at : sent.place + length ps ≡ sent.place = omega (arith, empty) in
+    let types : drop (length ps) sent.types ≡ sent.types = ap (λ (k : ℕ). drop k sent.types) empty in
+    record { none = (none, past.0); end = past.1; attributes = rw (at, types) refl }
 
 -- those after the parameter at this place
 abbrev pub others_at : List CParam → ℕ → List BoundParam
@@ -182,7 +167,7 @@ module _ (old : ParamsBytes) (params : List CParam) (i : ℕ) (x d : CParam) (y 
 
   pub one-given : (new : ParamsBytes) (pair : TypedParam) → Gives (left_of old (y ∷ others_at params i)) pair (left_of new (others_at params i)) → Gives (last_left old params) pair (last_left new params)
   one-given new pair gives =
-      let at : length params - new.left ≡ i + 1 = omega (arith, left, gives.0) in
+      let at : length params - new.left ≡ i + 1 = omega (arith, left, gives.left) in
       let after : left_of new (others_at params i) ≡ last_left new params = ap (left_of new) (list-at params (i + 1) (length params - new.left) at) in
       let Q : ParamsLeft → Type 0 = λ l. Gives l pair (left_of new (others_at params i)) in
       subst (λ (l : ParamsLeft). Gives (last_left old params) pair l) after (subst Q before-it gives)
@@ -190,6 +175,97 @@ module _ (old : ParamsBytes) (params : List CParam) (i : ℕ) (x d : CParam) (y 
   pub none-given : (e : FaultOf) → RefusesParam e (left_of old (y ∷ others_at params i)) → RefusesParam e (last_left old params)
   none-given e refused = subst (RefusesParam e) before-it refused
 
-pub ruleset fills = (one-content, one-type, one-set)
+-- the parameters are read, and then the attributes
+after-params : (view : ParamsLeft) (bytes : List ℕ) → view.end ≡ Ok bytes
+    → execution_of view ≡ then_read (attributes_at view.attributes bytes).all (λ attributes rest. Ok ((view.params, attributes), rest))
+after-params view bytes end =
+    ap (λ (e : Result (List ℕ) FaultKind). then_read (params_to view.params e) (λ ps after. then_read (attributes_at view.attributes after).all (λ attributes rest. Ok ((ps, attributes), rest)))) end
 
-pub ruleset executions = (all-taken, one-refused, not-memory, into-execution, fault-of-head, fault-of-params, none-filled, some-filled, types-kept)
+module _ (c : CapabilityFlags) (flags : ℕ) (params : List BoundParam) (bytes : List ℕ) (sent after : ParamsBytes) (list : List CParam) (view : AttributesLeft)
+    (is_view : view ≡ attributes_left after.nulls after.place after.types after.values) where
+  abbrev old : ParamsLeft
+  old = last_left sent list
+
+  abbrev new : ParamsLeft
+  new = last_left after list
+
+  module _ (read : execution_of old ≡ (execution c flags params).reads bytes) (rest_kept : KeepsRest old new) (none : after.left ≡ 0) where
+    -- what is read after the parameters
+    then-attributes : (execution c flags params).reads bytes ≡ then_read view.all (λ attributes rest. Ok ((old.params, attributes), rest))
+    then-attributes =
+        let past = none-left after list none in
+        let at_end : old.end ≡ Ok after.values = sym rest_kept.end ∙ past.end in
+        let at_view : (attributes_at old.attributes after.values).all ≡ view.all = ap (λ (a : AttributesAhead). (attributes_at a after.values).all) (sym rest_kept.attributes ∙ past.attributes) ∙ ap (λ (v : AttributesLeft). v.all) (sym is_view) in
+        sym read ∙ after-params old after.values at_end ∙ ap (λ r. then_read r (λ attributes rest. Ok ((old.params, attributes), rest))) at_view
+
+    pub attributes-refused : (e : FaultOf) → Faults false e view.all → Faults false e ((execution c flags params).reads bytes)
+    attributes-refused e h =
+        subst (λ (r : _). Faults false e r) (sym then-attributes) (then-fault view.all (λ attributes rest. Ok ((old.params, attributes), rest)) e h)
+
+    pub all-read : (rest : List ℕ) → view.all ≡ Ok (attributes_read view.all, rest) → (execution c flags params).reads bytes ≡ Ok ((old.params, attributes_read view.all), rest)
+    all-read rest h = then-attributes ∙ ap (λ r. then_read r (λ attributes rest. Ok ((old.params, attributes), rest))) h
+
+-- whether types are sent
+pub front-sends : (c : CapabilityFlags) (flags params : ℕ) (bytes : List ℕ) (b : ParamsBytes) → StandsAfter c flags params bytes b → sends_types ((execution_front c flags params).reads bytes) ≡ (if b.sends_types then 1 else 0)
+front-sends c flags params bytes b (f, after, reads, is) = rw (reads, is) refl
+
+-- a fault comes after any parameters
+fault-after : (ps : List TypedParam) (end : Result (List ℕ) FaultKind) (e : FaultOf) → Faults false e (params_to [] end) → Faults false e (params_to ps end)
+fault-after ps (Err k) e h = h
+fault-after ps (Ok rest) fault.UnexpectedEof h = absurd cc
+fault-after ps (Ok rest) (fault.InvalidData text) h = absurd cc
+fault-after ps (Ok rest) (fault.InvalidInput text) h = absurd cc
+fault-after ps (Ok rest) fault.Memory h = absurd cc
+
+pub one-refused : (old new : ParamsLeft) (e : FaultOf) → KeepsRest old new → RefusesParam e new → Faults false e (execution_of old)
+one-refused old new e kept refused =
+    let at_end : Faults false e (params_to [] old.end) = rw (refused.0, kept.end) at refused.1 in
+    then-fault (params_of old) (λ ps after. then_read (attributes_at old.attributes after).all (λ attributes rest. Ok ((ps, attributes), rest))) e (fault-after old.params old.end e at_end)
+
+-- ---- the whole execution
+
+module _ (c : CapabilityFlags) (packet : List ℕ) (params : List BoundParam) (read : Reading ComStmtExecuteHead) (values : List CValue) (types : List CColumnType) where
+  pub into-execution : (h : ComStmtExecuteHead) (after rest : List ℕ) (sends : Bool) (count : ℕ) (old new : CExecution) → read ≡ Ok (h, after)
+      → TakesParams c (cursor_flags h) params (Ok (sends, count, rest)) values types after
+      → new.statement_id ≡ stmt_id h → new.flags ≡ cursor_flags h → new.sends_types ≡ (if sends then 1 else 0) → new.attributes ≡ count → new.used ≡ used_of packet rest
+      → ExecutionInto c packet params read values types 0 old new
+  into-execution h after rest sends count old new e (list, attributes, reads, held, counted, sent) id flags sends_is count_is used =
+      let front = sends_types ((execution_front c (cursor_flags h) (length params)).reads after) in
+      let holds : HoldsExecution packet h front attributes rest new = record {
+        statement_id = id;
+        flags = flags;
+        sends_types = sends_is ∙ sym sent;
+        attributes = count_is ∙ sym counted;
+        used = used;
+      } in
+      let into : ParamsInto ((execution c (cursor_flags h) params).reads after) values types (HoldsExecution packet h front) 0 old new =
+      subst (λ (r : Reading (List TypedParam × List Attribute)). ParamsInto r values types (HoldsExecution packet h front) 0 old new) (sym reads) (refl, held, holds) in
+      subst (λ (r : Reading ComStmtExecuteHead). ExecutionInto c packet params r values types 0 old new) (sym e) into
+
+  head-fault : (old : CExecution) (k : FaultKind) → read ≡ Err k → ExecutionInto c packet params read values types (kind_code k) old old
+  head-fault old k h = subst (λ (r : Reading ComStmtExecuteHead). ExecutionInto c packet params r values types (kind_code k) old old) (sym h) (refl, refl)
+
+  pub fault-of-head : (old : CExecution) (e : FaultOf) → Faults false e read → ExecutionInto c packet params read values types (fault_code e) old old
+  fault-of-head old fault.UnexpectedEof h = head-fault old kind.UnexpectedEof h
+  fault-of-head old (fault.InvalidData text) h = head-fault old kind.InvalidData h
+  fault-of-head old (fault.InvalidInput text) h = head-fault old kind.InvalidInput h
+  fault-of-head old fault.Memory h = absurd cc
+
+  params-fault : (old : CExecution) (h : ComStmtExecuteHead) (after : List ℕ) (k : FaultKind) → read ≡ Ok (h, after) → (execution c (cursor_flags h) params).reads after ≡ Err k
+      → ExecutionInto c packet params read values types (kind_code k) old old
+  params-fault old h after k e f =
+      let front = sends_types ((execution_front c (cursor_flags h) (length params)).reads after) in
+      let into : ParamsInto ((execution c (cursor_flags h) params).reads after) values types (HoldsExecution packet h front) (kind_code k) old old =
+      subst (λ (r : Reading (List TypedParam × List Attribute)). ParamsInto r values types (HoldsExecution packet h front) (kind_code k) old old) (sym f) (refl, refl) in
+      subst (λ (r : Reading ComStmtExecuteHead). ExecutionInto c packet params r values types (kind_code k) old old) (sym e) into
+
+  pub fault-of-params : (old : CExecution) (h : ComStmtExecuteHead) (after : List ℕ) (e : FaultOf) → read ≡ Ok (h, after) → Faults false e ((execution c (cursor_flags h) params).reads after)
+      → ExecutionInto c packet params read values types (fault_code e) old old
+  fault-of-params old h after fault.UnexpectedEof is f = params-fault old h after kind.UnexpectedEof is f
+  fault-of-params old h after (fault.InvalidData text) is f = params-fault old h after kind.InvalidData is f
+  fault-of-params old h after (fault.InvalidInput text) is f = params-fault old h after kind.InvalidInput is f
+  fault-of-params old h after fault.Memory is f = absurd cc
+
+pub ruleset fills = (one-content, one-type, one-param-set)
+
+pub ruleset executions = (not-memory, into-execution, fault-of-head, fault-of-params, none-filled, some-filled, types-kept)

@@ -1,5 +1,5 @@
 -- What filling places gives of a row.
-use Rattle.std.proofs.Common.{◌≡◌, ◌-◌, ◌++◌, ◌∷◌, ◌+◌, ◌<◌, ℕ, List, [], get_or, refl, slice_set, Option, Result, Ok, Err, length, map, take, drop, false, sym, subst, ap, ◌∙◌, arith}
+use Rattle.std.proofs.Common.{◌≡◌, ◌-◌, ◌++◌, ◌∷◌, ◌+◌, ◌<◌, ℕ, List, [], get_or, refl, slice_set, Option, Result, Ok, Err, length, map, take, drop, false, sym, subst, ap, ◌∙◌, arith, ◌==◌, Bool, if◌then◌else◌}
 use Rattle.std.proofs.lemmas.List.{append-nil, append_assoc, drop-drop, drop-set-lt, get_or-drop, length-set, map-append, take_more, take_more_set}
 use Rattle.std.proofs.lemmas.List.Elements.{AllZip-push}
 use Rattle.std.specs.List.{AllZip}
@@ -7,10 +7,11 @@ use Rattle.mysql_wire.specs.declared.fault.FaultKind.{FaultKind}
 use Rattle.mysql_wire.specs.declared.fault.FaultOf.{FaultOf}
 use Rattle.mysql_wire.specs.declared.fault.FaultOf.TheVariants as fault
 use Rattle.mysql_wire.specs.Reading.{Reading, Faults}
-use Rattle.mysql_values.specs.Value.{Content}
+use Rattle.mysql_values.specs.ParamValue.{ParamContent, Plain, WithOffset}
+use Rattle.mysql_values.specs.Value.{Content, NULL, Bytes, Int, UInt, Float, Double, Date, Time}
 use Rattle.mysql_prepared.specs.RowView.{Gives, RowLeft, IsDone, RefusesNext, read_to, read_of}
 use Rattle.mysql_packets_c.specs.Rows.{Fills, FillsPlaces, values_held}
-use Rattle.mysql_packets_c.specs.Value.{IsSet, Sets, value_content}
+use Rattle.mysql_packets_c.specs.Value.{IsSet, Sets, SetsParam, date_with_offset_of, kind_of, param_content, value_content}
 use Rattle.mysql_packets_c.specs.declared.value.CValue.{CValue}
 
 -- what stands in the places so far
@@ -25,27 +26,53 @@ SoFar first row before values place = record {
 }
 
 -- one value more stands in its place
-pub one-more : (values : List CValue) (place : ℕ) (x : CValue) (read left more : List Content) (c : Content) → read ≡ map value_content (take place values) ++ left → left ≡ c ∷ more
-    → value_content x ≡ c → place < length values → read ≡ map value_content (take (place + 1) (slice_set values place x)) ++ more
-one-more values place x read left more c before first is fits =
-    let stored = ap (map value_content) (take_more_set values place x fits) ∙ map-append value_content (take place values) (x ∷ []) in
-    before ∙ ap (λ vs. map value_content (take place values) ++ vs) (first ∙ ap (λ v. v ∷ more) (sym is))
-    ∙ sym (ap (λ vs. vs ++ more) stored ∙ append_assoc (map value_content (take place values)) (value_content x ∷ []) more)
+pub one-more : {C : Type 0} (held : CValue → C) (values : List CValue) (place : ℕ) (x : CValue) (read left more : List C) (c : C) → read ≡ map held (take place values) ++ left → left ≡ c ∷ more
+    → held x ≡ c → place < length values → read ≡ map held (take (place + 1) (slice_set values place x)) ++ more
+one-more held values place x read left more c before first is fits =
+    let stored = ap (map held) (take_more_set values place x fits) ∙ map-append held (take place values) (x ∷ []) in
+    before ∙ ap (λ vs. map held (take place values) ++ vs) (first ∙ ap (λ v. v ∷ more) (sym is))
+    ∙ sym (ap (λ vs. vs ++ more) stored ∙ append_assoc (map held (take place values)) (held x ∷ []) more)
 
 -- one place more is set
-pub one-set : (before values : List CValue) (place : ℕ) (x z : CValue) (c : Content) → AllZip IsSet (take place before) (take place values) → drop place values ≡ drop place before
-    → length values ≡ length before → place < length values → value_content x ≡ c → Sets c (get_or values place z) x
+pub one-param-set : (before values : List CValue) (place : ℕ) (x z : CValue) (c : ParamContent) → AllZip IsSet (take place before) (take place values) → drop place values ≡ drop place before
+    → length values ≡ length before → place < length values → param_content x ≡ c → SetsParam c (get_or values place z) x
     → AllZip IsSet (take (place + 1) before) (take (place + 1) (slice_set values place x))
-one-set before values place x z c set others len fits content sets =
+one-param-set before values place x z c set others len fits content sets =
     let whole : place + 0 ≡ place = omega arith in
     let here : get_or values place z ≡ get_or before place z =
     ap (λ n. get_or values n z) (sym whole) ∙ sym (get_or-drop place values 0 z) ∙ ap (λ xs. get_or xs 0 z) others ∙ get_or-drop place before 0 z ∙ ap (λ n. get_or before n z) whole in
     let fits_before : place < length before = omega arith in
-    let own : IsSet (get_or values place z) x = subst (λ (v : Content). Sets v (get_or values place z) x) (sym content) sets in
+    let own : IsSet (get_or values place z) x = subst (λ (v : ParamContent). SetsParam v (get_or values place z) x) (sym content) sets in
     let is_set : IsSet (get_or before place z) x = subst (λ (d : CValue). IsSet d x) here own in
     let pushed : AllZip IsSet (take place before ++ get_or before place z ∷ []) (take place values ++ x ∷ []) = AllZip-push IsSet (take place before) (take place values) (get_or before place z) x set is_set in
     subst (λ xs. AllZip IsSet (take (place + 1) before) xs) (sym (take_more_set values place x fits))
     (subst (λ ys. AllZip IsSet ys (take place values ++ x ∷ [])) (sym (take_more before place z fits_before)) pushed)
+
+kind-of-eight : (c : Content) → (kind_of c == 8) ≡ false
+kind-of-eight NULL = refl
+kind-of-eight (Bytes bytes) = refl
+kind-of-eight (Int n) = refl
+kind-of-eight (UInt n) = refl
+kind-of-eight (Float bits) = refl
+kind-of-eight (Double bits) = refl
+kind-of-eight (Date fields) = refl
+kind-of-eight (Time fields) = refl
+
+plain-kind : (x : CValue) (n : ℕ) → x.kind ≡ n → (n == 8) ≡ false → param_content x ≡ Plain (value_content x)
+unfolding param_content
+plain-kind x n kind not_eight =
+    ap (λ (k : ℕ). if k == 8 then WithOffset (date_with_offset_of x) else Plain (value_content x)) kind
+    ∙ ap (λ (b : Bool). if b then WithOffset (date_with_offset_of x) else Plain (value_content x)) not_eight
+
+-- as a parameter it holds the same
+plain-held : (c : Content) (old x : CValue) → value_content x ≡ c → Sets c old x → param_content x ≡ Plain c
+plain-held c old x is sets = plain-kind x (kind_of c) sets.kind (kind-of-eight c) ∙ ap Plain is
+
+pub one-set : (before values : List CValue) (place : ℕ) (x z : CValue) (c : Content) → AllZip IsSet (take place before) (take place values) → drop place values ≡ drop place before
+    → length values ≡ length before → place < length values → value_content x ≡ c → Sets c (get_or values place z) x
+    → AllZip IsSet (take (place + 1) before) (take (place + 1) (slice_set values place x))
+one-set before values place x z c set others len fits content sets =
+    one-param-set before values place x z (Plain c) set others len fits (plain-held c (get_or values place z) x content sets) sets
 
 -- the places after it are as they were
 pub others-kept : {X : Type 0} (before values : List X) (place : ℕ) (x : X) → drop place values ≡ drop place before → drop (place + 1) (slice_set values place x) ≡ drop (place + 1) before
@@ -59,7 +86,7 @@ pub one-filled : (first row after : RowLeft) (before values : List CValue) (plac
     → SoFar first after before (slice_set values place x) (place + 1)
 one-filled first row after before values place x z c so_far gives content sets fits = record {
   count = omega (arith, so_far.count, gives.0);
-  good = one-more values place x first.values row.values after.values c so_far.good gives.1 content fits;
+  good = one-more value_content values place x first.values row.values after.values c so_far.good gives.1 content fits;
   end = gives.2 ∙ so_far.end;
   set = one-set before values place x z c so_far.set so_far.others so_far.len fits content sets;
   others = others-kept before values place x so_far.others;

@@ -28,9 +28,4 @@ pub mod SetTexts
 pub mod SidsTexts
 pub mod SidsRead
 pub mod QueryAttributes
-pub mod NullMarks
-pub mod SentValues
-pub mod SentAttributes
-pub mod ExecutionOptions
-pub mod QueryWithAttributes
-pub mod TypedExecutions
+pub mod WrittenExecutions

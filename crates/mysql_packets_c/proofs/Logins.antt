@@ -2,14 +2,17 @@
 use Rattle.std.proofs.Common.{◌≡◌, ◌≢◌, ◌==◌, ◌&&◌, ℕ, Bool, true, false, not, List, [], ◌++◌, Option, Some, None, if◌then◌else◌, append_assoc, refl, subst, sym, ap, ◌∙◌}
 use Rattle.std.proofs.lemmas.Bool.{ne_eqb}
 use Rattle.std.proofs.lemmas.List.{append-nil}
+use Rattle.std.specs.Option.{option_map}
 use Rattle.mysql_auth.proofs.ResponseEnds.{response-ends}
 use Rattle.mysql_auth.specs.Attributes.{Attribute, attributes}
 use Rattle.mysql_auth.specs.ComChangeUser.{change_of, change_user, last_part, more_data, more_data_of, sent_attributes}
-use Rattle.mysql_auth.specs.HandshakeResponse.{before_attributes, connect_attributes, handshake_response}
+use Rattle.mysql_auth.specs.HandshakeResponse.{before_attributes, connect_attributes, handshake_response, level_bytes, zstd_level}
 use Rattle.mysql_auth.specs.declared.auth_plugin.AuthPlugin.{AuthPlugin}
 use Rattle.mysql_auth.specs.declared.com_change_user_more_data.ComChangeUserMoreData.{ComChangeUserMoreData}
 use Rattle.mysql_auth.specs.declared.handshake_response.HandshakeResponse.{HandshakeResponse}
 use Rattle.mysql_wire.specs.FlagMasks.{CLIENT_CONNECT_ATTRS}
+use Rattle.mysql_wire.specs.Int.{raw_int}
+use Rattle.mysql_wire.specs.declared.int.RawInt.{RawInt}
 use Rattle.mysql_wire.specs.Flags.{has}
 use Rattle.mysql_packets_c.specs.Attributes.{merged_pairs}
 use Rattle.mysql_packets_c.specs.ChangeUser.{change_with, named_plugin, sends_attributes, change_of as sent_change}
@@ -51,11 +54,18 @@ pub ruleset changes = (change-ends, change-without)
 set-is : (n : ℕ) → n ≢ 0 → is_set n ≡ true
 set-is n some = ap not (ne_eqb n 0 some)
 
-pub login-ends : (c : CLogin) (given : List CAttribute) (p : HandshakeResponse) → c.has_attributes ≢ 0
-    → before_attributes p ++ (attributes.bytes (merged_pairs given) ++ []) ≡ handshake_response.bytes (with_attributes c given p)
-login-ends c given p some =
+-- a level that is the same number is the same
+same_level : (a b : Option (RawInt ℕ ℕ)) → option_map (λ n. n.0) a ≡ option_map (λ n. n.0) b → a ≡ b
+same_level None None e = refl
+same_level None (Some n) e = absurd cc
+same_level (Some m) None e = absurd cc
+same_level (Some m) (Some n) e = let h : m.0 ≡ n.0 = cc in ap (λ (k : ℕ). Some (record { 0 = k; 1 = record {} })) h
+
+pub login-ends : (c : CLogin) (given : List CAttribute) (p : HandshakeResponse) (level : Option (RawInt ℕ ℕ)) → c.has_attributes ≢ 0 → option_map (λ n. n.0) level ≡ zstd_level p
+    → before_attributes p ++ (attributes.bytes (merged_pairs given) ++ (level_bytes level ++ [])) ≡ handshake_response.bytes (with_attributes c given p)
+login-ends c given p level some is =
     let pairs = merged_pairs given in
-    ap (λ (l : List ℕ). before_attributes p ++ l) (append-nil (attributes.bytes pairs)) ∙ sym (response-ends p pairs)
+    ap (λ (l : List ℕ). before_attributes p ++ (attributes.bytes pairs ++ l)) (append-nil (level_bytes level) ∙ ap level_bytes (same_level level p.zstd_level is)) ∙ sym (response-ends p pairs)
     ∙ ap (λ (b : Bool). handshake_response.bytes (record p { connect_attributes = if b then Some pairs else None })) (sym (set-is c.has_attributes some))
 
 pub login-without : (c : CLogin) (given : List CAttribute) (p : HandshakeResponse) → c.has_attributes ≡ 0 → connect_attributes p ≡ if_set c.has_attributes []
@@ -63,5 +73,10 @@ pub login-without : (c : CLogin) (given : List CAttribute) (p : HandshakeRespons
 login-without c given p none is =
     let empty : connect_attributes p ≡ None = is ∙ ap (λ (n : ℕ). if_set n []) none in
     ap (λ (a : Option (List Attribute)). record p { connect_attributes = a }) (ap (λ (n : ℕ). if_set n (merged_pairs given)) none ∙ sym empty)
+
+-- a level that is set is that
+pub level-held : (level : Option ℕ) → option_map (λ (n : RawInt ℕ ℕ). n.0) (option_map raw_int level) ≡ level
+level-held None = refl
+level-held (Some n) = refl
 
 pub ruleset logins = (login-ends, login-without)

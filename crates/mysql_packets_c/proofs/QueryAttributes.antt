@@ -1,12 +1,11 @@
 -- The attributes of a query, one by one.
 use Rattle.std.proofs.Common.{◌≡◌, ℕ, zero, suc, ◌<◌, ◌-◌, List, [], ◌∷◌, Option, Some, None, Ok, Err, false, refl, sym, subst, ap, ◌∙◌, arith}
-use Rattle.mysql_commands.specs.QueryAttributes.{Attribute, AttributesLeft, IsGood, attributes_read, more}
-use Rattle.mysql_commands.specs.declared.query.ComQueryRef.{ComQueryRef}
+use Rattle.mysql_prepared.specs.Attributes.{Attribute, AttributesLeft, IsGood, attributes_read, more}
 use Rattle.mysql_wire.specs.declared.fault.FaultOf.{FaultOf}
 use Rattle.mysql_wire.specs.declared.fault.FaultOf.TheVariants as fault
 use Rattle.mysql_wire.specs.Reading.{Reading, Faults}
 use Rattle.mysql_packets_c.specs.Code.{fault_code}
-use Rattle.mysql_packets_c.specs.QueryAttribute.{AttributeInto, Gives, at, attributes_of}
+use Rattle.mysql_packets_c.specs.QueryAttribute.{AttributeInto, Gives, at}
 use Rattle.mysql_packets_c.specs.declared.query_attribute.CQueryAttribute.{CQueryAttribute}
 
 good-later : (later : Reading (List Attribute)) (a : Attribute) (items : List Attribute) (rest : List ℕ) → more a later ≡ Ok (items, rest)
@@ -46,15 +45,15 @@ pub at-none : (list : List Attribute) (n : ℕ) → list ≡ [] → at list n �
 at-none list n e = rw e refl
 
 -- what is answered
-pub attribute-into : (i : ℕ) (read : Reading ComQueryRef) (q : ComQueryRef) (rest : List ℕ) (x : Option Attribute) (code : ℕ) (old new : CQueryAttribute)
-    → read ≡ Ok (q, rest) → at (attributes_of q) i ≡ x → Gives x code old new → AttributeInto i read code old new
-attribute-into i read q rest x code old new e is h =
-    subst (λ (r : _). AttributeInto i r code old new) (sym e) (subst (λ (o : Option Attribute). Gives o code old new) (sym is) h)
+pub attribute-into : {A : Type 0} (attributes : A → List Attribute) (i : ℕ) (read : Reading A) (a : A) (rest : List ℕ) (x : Option Attribute) (code : ℕ) (old new : CQueryAttribute)
+    → read ≡ Ok (a, rest) → at (attributes a) i ≡ x → Gives x code old new → AttributeInto attributes i read code old new
+attribute-into attributes i read a rest x code old new e is h =
+    subst (λ (r : _). AttributeInto attributes i r code old new) (sym e) (subst (λ (o : Option Attribute). Gives o code old new) (sym is) h)
 
-pub attribute-fault : (i : ℕ) (read : Reading ComQueryRef) (e : FaultOf) (old : CQueryAttribute) → Faults false e read → AttributeInto i read (fault_code e) old old
-attribute-fault i read fault.UnexpectedEof old h = subst (λ (r : _). AttributeInto i r 1 old old) (sym h) (refl, refl)
-attribute-fault i read (fault.InvalidData text) old h = subst (λ (r : _). AttributeInto i r 2 old old) (sym h) (refl, refl)
-attribute-fault i read (fault.InvalidInput text) old h = subst (λ (r : _). AttributeInto i r 3 old old) (sym h) (refl, refl)
-attribute-fault i read fault.Memory old h = absurd cc
+pub attribute-fault : {A : Type 0} (attributes : A → List Attribute) (i : ℕ) (read : Reading A) (e : FaultOf) (old : CQueryAttribute) → Faults false e read → AttributeInto attributes i read (fault_code e) old old
+attribute-fault attributes i read fault.UnexpectedEof old h = subst (λ (r : _). AttributeInto attributes i r 1 old old) (sym h) (refl, refl)
+attribute-fault attributes i read (fault.InvalidData text) old h = subst (λ (r : _). AttributeInto attributes i r 2 old old) (sym h) (refl, refl)
+attribute-fault attributes i read (fault.InvalidInput text) old h = subst (λ (r : _). AttributeInto attributes i r 3 old old) (sym h) (refl, refl)
+attribute-fault attributes i read fault.Memory old h = absurd cc
 
 pub ruleset attributes = (next-first, next-good, none-first, good-fault, at-later, at-first, at-none, attribute-into, attribute-fault)

@@ -1,6 +1,6 @@
 -- The count of columns that a result begins with, as C has it.
-use Rattle.std.specs.Prelude.{◌≡◌, ◌||◌, Bool, if◌then◌else◌, ℕ, List}
-use Rattle.mysql_replies.specs.ColumnCount.{columns, count, metadata_follows, says_follow, says_optional, with_metadata_follows, with_optional_metadata}
+use Rattle.std.specs.Prelude.{◌≡◌, if◌then◌else◌, ℕ, List}
+use Rattle.mysql_replies.specs.ColumnCount.{columns, count, metadata_follows, says_follow, with_metadata_follows}
 use Rattle.mysql_replies.specs.declared.column_count.ColumnCount.{ColumnCount}
 use Rattle.mysql_replies.specs.declared.session_capabilities.SessionCapabilities.{SessionCapabilities}
 use Rattle.mysql_packets_c.specs.Given.{is_set}
@@ -20,18 +20,6 @@ session_with capabilities mariadb = record { mysql = record { 0 = capabilities; 
 abbrev pub session_of : ℕ → SessionCapabilities
 session_of bits = session_with 0 bits
 
--- a byte says whether definitions follow
-abbrev pub is_said : SessionCapabilities → Bool
-is_said capabilities = says_optional capabilities || says_follow capabilities
-
--- the count with a byte before it, and with one after it, where the flags ask for them
-abbrev pub with_optional : SessionCapabilities → Bool → ColumnCount → ColumnCount
-with_optional capabilities follows c = if says_optional capabilities then with_optional_metadata follows c else c
-
-abbrev pub with_cached : SessionCapabilities → Bool → ColumnCount → ColumnCount
-with_cached capabilities follows c = if says_follow capabilities then with_metadata_follows follows c else c
-
 -- the count of these fields: where a byte says it, 1 says that definitions follow, and 0 that none do
 abbrev pub count_given : SessionCapabilities → CColumnCount → ColumnCount
-count_given capabilities c =
-    with_cached capabilities (is_set c.metadata_follows) (with_optional capabilities (is_set c.metadata_follows) (columns c.count))
+count_given capabilities c = if says_follow capabilities then with_metadata_follows (is_set c.metadata_follows) (columns c.count) else columns c.count

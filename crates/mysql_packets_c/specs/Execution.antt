@@ -2,26 +2,28 @@
 use Rattle.std.specs.List.{AllZip}
 use Rattle.std.specs.Option.{unwrap_or}
 use Rattle.std.specs.Prelude.{◌≡◌, ℕ, ◌-◌, ◌==◌, ◌++◌, Bool, false, not, if◌then◌else◌, List, drop, length, map, take, Result, Ok, Err, ◌<◌, ◌↔◌, IsTrue}
+use Rattle.mysql_prepared.specs.Attributes.{Attribute}
+use Rattle.mysql_prepared.specs.BindFront.{BindFront}
 use Rattle.mysql_prepared.specs.ExecuteHead as head
 use Rattle.mysql_prepared.specs.ExecuteParam.{Param, Sent, SentAhead}
-use Rattle.mysql_prepared.specs.Payload.{max_payload}
-use Rattle.mysql_prepared.specs.ExecuteRead.{Front, ParamsBytes, ParamsLeft, TypedParam, execute_params, front, left_of}
-use Rattle.mysql_prepared.specs.WrittenExecution.{IsExecutionBytes, execution_size}
+use Rattle.mysql_prepared.specs.ExecuteRead.{ParamsBytes, ParamsLeft, TypedParam, execution, execution_front, left_of}
+use Rattle.mysql_prepared.specs.SentParam.{type_of_param}
+use Rattle.mysql_prepared.specs.SentTypes.{NamedType}
 use Rattle.mysql_prepared.specs.declared.execute_head.ComStmtExecuteHead.{ComStmtExecuteHead}
 use Rattle.mysql_prepared.specs.declared.execute_view.BoundParam.{BoundParam}
 use Rattle.mysql_values.specs.ParamType.{typed}
-use Rattle.mysql_values.specs.Value.{Content, NULL}
+use Rattle.mysql_values.specs.ParamValue.{ParamContent, Plain}
+use Rattle.mysql_values.specs.Value.{NULL}
 use Rattle.mysql_values.specs.declared.param_type.ParamType.{ParamType}
 use Rattle.mysql_wire.specs.ColumnType.{column_type_code, column_type_of}
 use Rattle.mysql_wire.specs.FlagMasks.{UNSIGNED}
-use Rattle.mysql_wire.specs.Flags.{has}
+use Rattle.mysql_wire.specs.Flags.{CapabilityFlags, has}
 use Rattle.mysql_wire.specs.Reading.{Reading, Faults}
 use Rattle.mysql_wire.specs.declared.codes.column_type.ColumnType.TheVariants as column_type
 use Rattle.mysql_wire.specs.declared.fault.FaultOf.{FaultOf}
 use Rattle.mysql_packets_c.specs.Code.{kind_code}
 use Rattle.mysql_packets_c.specs.Input.{used_of}
-use Rattle.mysql_packets_c.specs.Output.{PutsSuch}
-use Rattle.mysql_packets_c.specs.Value.{IsSet, value_content, is_value}
+use Rattle.mysql_packets_c.specs.Value.{IsSet, is_value, param_content, value_content}
 use Rattle.mysql_packets_c.specs.declared.execution.CExecution.{CExecution}
 use Rattle.mysql_packets_c.specs.declared.execution.CExecutionHead.{CExecutionHead}
 use Rattle.mysql_packets_c.specs.declared.execution.CParam.{CParam}
@@ -32,6 +34,7 @@ use Rattle.mysql_packets_c.specs.declared.value.CValue.{CValue}
 
 pub record IsHead (packet : List ℕ) (h : ComStmtExecuteHead) (rest : List ℕ) (out : CExecutionHead) : Type 0 where
   pub statement_id : out.statement_id ≡ head.stmt_id h
+  pub iteration_count : out.iteration_count ≡ head.iteration_count h
   pub flags : out.flags ≡ head.cursor_flags h
   pub used : out.used ≡ used_of packet rest
 
@@ -57,69 +60,76 @@ last_left sent params = left_of sent (bound_list (drop (length params - sent.lef
 -- ---- what is answered
 
 -- what was sent ahead is answered as NULL
-abbrev pub content_of : Param → Content
+abbrev pub content_of : Param → ParamContent
 content_of (Sent content) = content
-content_of SentAhead = NULL
+content_of SentAhead = Plain NULL
 
 abbrev pub type_held : ParamType → CColumnType
 type_held t = record { column_type = column_type_code t.column_type; is_unsigned = if has t.flags.0 UNSIGNED then 1 else 0 }
 
-abbrev pub contents_of : List TypedParam → List Content
-contents_of params = map (λ p. content_of p.1) params
+abbrev pub contents_of : List TypedParam → List ParamContent
+contents_of params = map (λ p. content_of p.param) params
 
 abbrev pub types_of : List TypedParam → List CColumnType
-types_of params = map (λ p. type_held p.0) params
+types_of params = map (λ p. type_held p.named_type.param_type) params
+
+-- what follows the parameters that are left is as it was
+pub record KeepsRest (old new : ParamsLeft) : Type 0 where
+  pub end : new.end ≡ old.end
+  pub attributes : new.attributes ≡ old.attributes
 
 -- the parameters that were read stand in the first places, and the types that they have; the other places are as they were
 pub record FillsParams (old new : ParamsLeft) (values_before value_places : List CValue) (types_before type_places : List CColumnType) : Type 0 where
-  pub contents : contents_of old.params ≡ map value_content (take (old.left - new.left) value_places) ++ contents_of new.params
+  pub contents : contents_of old.params ≡ map param_content (take (old.left - new.left) value_places) ++ contents_of new.params
   pub types : types_of old.params ≡ take (old.left - new.left) type_places ++ types_of new.params
-  pub end : new.end ≡ old.end
+  pub rest : KeepsRest old new
   pub set : AllZip IsSet (take (old.left - new.left) values_before) (take (old.left - new.left) value_places)
   pub other_values : drop (old.left - new.left) value_places ≡ drop (old.left - new.left) values_before
   pub other_types : drop (old.left - new.left) type_places ≡ drop (old.left - new.left) types_before
 
 -- whether the bytes say that types are sent
-abbrev pub sends_types : Reading Front → ℕ
+abbrev pub sends_types : Reading BindFront → ℕ
 sends_types (Ok f) = if f.0.sends_types then 1 else 0
 sends_types (Err k) = 0
 
-pub record HoldsExecution (packet : List ℕ) (h : ComStmtExecuteHead) (types_sent : ℕ) (rest : List ℕ) (out : CExecution) : Type 0 where
+-- the parameters and their types, which the first places hold
+pub record HoldsParams (params : List TypedParam) (value_places : List CValue) (type_places : List CColumnType) : Type 0 where
+  pub contents : map param_content value_places ≡ contents_of params
+  pub types : type_places ≡ types_of params
+
+pub record HoldsExecution (packet : List ℕ) (h : ComStmtExecuteHead) (types_sent : ℕ) (list : List Attribute) (rest : List ℕ) (out : CExecution) : Type 0 where
   pub statement_id : out.statement_id ≡ head.stmt_id h
   pub flags : out.flags ≡ head.cursor_flags h
   pub sends_types : out.sends_types ≡ types_sent
+  pub attributes : out.attributes ≡ length list
   pub used : out.used ≡ used_of packet rest
 
--- the parameters and their types, of which the first places hold these; or the code of the first fault
-pub record HoldsParams (params : List TypedParam) (value_places : List CValue) (type_places : List CColumnType) : Type 0 where
-  pub contents : map value_content value_places ≡ contents_of params
-  pub types : type_places ≡ types_of params
-
-abbrev pub ParamsInto : Reading (List TypedParam) → List CValue → List CColumnType → (List ℕ → CExecution → Type 0) → (code : ℕ) (old new : CExecution) → Type 0
-ParamsInto (Ok x) values types Holds code old new = (code ≡ 0) × HoldsParams x.0 values types × Holds x.1 new
+-- the parameters and their types, of which the first places hold these, and what else is answered; or the code of the first fault
+abbrev pub ParamsInto : Reading (List TypedParam × List Attribute) → List CValue → List CColumnType → (List Attribute → List ℕ → CExecution → Type 0) → (code : ℕ) (old new : CExecution) → Type 0
+ParamsInto (Ok x) values types Holds code old new = (code ≡ 0) × HoldsParams x.0.0 values types × Holds x.0.1 x.1 new
 ParamsInto (Err k) values types Holds code old new = (code ≡ kind_code k) × (new ≡ old)
 
--- the head, and after it the parameters
-abbrev pub ExecutionInto : List ℕ → List BoundParam → Reading ComStmtExecuteHead → List CValue → List CColumnType → (code : ℕ) (old new : CExecution) → Type 0
-ExecutionInto packet params (Ok h) values types code old new =
-    ParamsInto ((execute_params params).reads h.1) values types (HoldsExecution packet h.0 (sends_types ((front params).reads h.1))) code old new
-ExecutionInto packet params (Err k) values types code old new = (code ≡ kind_code k) × (new ≡ old)
+-- the head, and after it the parameters and the attributes
+abbrev pub ExecutionInto : CapabilityFlags → List ℕ → List BoundParam → Reading ComStmtExecuteHead → List CValue → List CColumnType → (code : ℕ) (old new : CExecution) → Type 0
+ExecutionInto capabilities packet params (Ok h) values types code old new =
+    ParamsInto ((execution capabilities (head.cursor_flags h.0) params).reads h.1) values types
+    (HoldsExecution packet h.0 (sends_types ((execution_front capabilities (head.cursor_flags h.0) (length params)).reads h.1))) code old new
+ExecutionInto capabilities packet params (Err k) values types code old new = (code ≡ kind_code k) × (new ≡ old)
 
--- the parameters are what reading gives, and these bytes are left; or reading gives the fault
-abbrev pub TakesParams : List BoundParam → Result (Bool × List ℕ) FaultOf → List CValue → List CColumnType → (bytes : List ℕ) → Type 0
-TakesParams params (Ok x) values types bytes =
-    (list : List TypedParam) × ((execute_params params).reads bytes ≡ Ok (list, x.1)) × HoldsParams list values types
-    × (sends_types ((front params).reads bytes) ≡ (if x.0 then 1 else 0))
-TakesParams params (Err e) values types bytes = Faults false e ((execute_params params).reads bytes)
+-- the parameters are what reading gives, so many attributes follow, and these bytes are left; or reading gives the fault
+abbrev pub TakesParams : CapabilityFlags → (flags : ℕ) → List BoundParam → Result (Bool × ℕ × List ℕ) FaultOf → List CValue → List CColumnType → (bytes : List ℕ) → Type 0
+TakesParams capabilities flags params (Ok x) values types bytes =
+    (list : List TypedParam) × (attributes : List Attribute) × ((execution capabilities flags params).reads bytes ≡ Ok ((list, attributes), x.2))
+    × HoldsParams list values types × (length attributes ≡ x.1)
+    × (sends_types ((execution_front capabilities flags (length params)).reads bytes) ≡ (if x.0 then 1 else 0))
+TakesParams capabilities flags params (Err e) values types bytes = Faults false e ((execution capabilities flags params).reads bytes)
+
+-- ---- what is written
 
 -- the parameter that a value is. What is no value would be sent as NULL, and is refused before
 abbrev pub param : CValue → Param
-param v = Sent (if is_value v then value_content v else NULL)
+param v = Sent (Plain (if is_value v then value_content v else NULL))
 
--- an execution of the statement with these values is written, and whether it leaves byte strings out is answered
-pub record Executes (statement_id : ℕ) (values : List CValue) (code : ℕ) (old new : List ℕ) (written as_long_data : ℕ) : Type 0 where
-  pub is_long : Bool
-  -- byte strings are left out where the request with them is past one packet
-  pub where_long : IsTrue is_long ↔ (max_payload < execution_size param values false)
-  pub puts : PutsSuch (IsExecutionBytes param statement_id values is_long) (execution_size param values is_long) code old new written
-  pub leaves_out : as_long_data ≡ (if is_long then 1 else 0)
+-- it is sent as the type of its kind, without a name
+abbrev pub own_type : CValue → NamedType
+own_type v = type_of_param (param v)

@@ -23,6 +23,7 @@ pub record IsLogin (c : CLogin) (given : List CAttribute) (p : HandshakeResponse
   pub database : response.db_name p ≡ if_set c.has_database c.database.now
   pub auth_plugin : response.auth_plugin p ≡ if_set c.has_auth_plugin_name (plugin_of c.auth_plugin_name.now)
   pub attributes : response.connect_attributes p ≡ if_set c.has_attributes (merged_pairs given)
+  pub zstd_level : response.zstd_level p ≡ if_set c.has_zstd_level c.zstd_level
   pub max_packet_size : response.max_packet_size p ≡ c.max_packet_size
   pub collation : response.collation p ≡ c.collation
   pub mariadb_capabilities : (response.mariadb_ext_capabilities p).0 ≡ c.mariadb_capabilities
@@ -45,6 +46,7 @@ pub record HoldsLogin (packet : List ℕ) (p : HandshakeResponse) (rest : List �
   pub has_auth_plugin_name : SaysSent out.has_auth_plugin_name out.auth_plugin_name.now
   pub attributes : option_map attributes_in (if_set out.has_attributes out.attributes.now) ≡ response.connect_attributes p
   pub has_attributes : SaysSent out.has_attributes out.attributes.now
+  pub zstd_level : if_set out.has_zstd_level out.zstd_level ≡ response.zstd_level p
   pub capabilities : out.capabilities ≡ (response.capabilities p).0
   pub mariadb_capabilities : out.mariadb_capabilities ≡ (response.mariadb_ext_capabilities p).0
   pub max_packet_size : out.max_packet_size ≡ response.max_packet_size p

@@ -3,7 +3,7 @@ use Rattle.std.specs.Prelude.{ℕ, List, [], ◌∷◌, Some, None, if◌then◌
 use Rattle.mysql_wire.specs.Flags.{CapabilityFlags}
 use Rattle.mysql_commands.specs.AsSent.{sent_of}
 use Rattle.mysql_commands.specs.Query.{query_of, sends_attributes}
-use Rattle.mysql_commands.specs.QueryAttributes.{Attribute}
+use Rattle.mysql_prepared.specs.Attributes.{Attribute}
 use Rattle.mysql_commands.specs.declared.as_sent.AsSent.{AsSent}
 use Rattle.mysql_commands.specs.declared.query.ComQueryRef.{ComQueryRef}
 

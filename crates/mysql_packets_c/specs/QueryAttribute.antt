@@ -1,17 +1,17 @@
--- An attribute of a query, as C has it.
-use Rattle.std.specs.Prelude.{◌≡◌, ℕ, zero, suc, List, [], ◌∷◌, Option, Some, None, Ok, Err, if◌then◌else◌}
+-- An attribute of a query or an execution, as C has it.
+use Rattle.std.specs.Prelude.{◌≡◌, ℕ, zero, suc, List, [], ◌∷◌, Option, Some, None, Result, Ok, Err, false, if◌then◌else◌}
 use Rattle.mysql_commands.specs.AsSent as sent
 use Rattle.mysql_commands.specs.Query.{sent_attributes}
-use Rattle.mysql_commands.specs.QueryAttributes.{Attribute, AttributesLeft, attributes_read, name, type_of_attribute}
+use Rattle.mysql_prepared.specs.Attributes.{Attribute, AttributesLeft, IsGood, attributes_read}
 use Rattle.mysql_commands.specs.declared.as_sent.AsSent.{AsSent}
 use Rattle.mysql_commands.specs.declared.query.ComQueryRef.{ComQueryRef}
-use Rattle.mysql_values.specs.ParamType.{type_column, type_flags}
 use Rattle.mysql_wire.specs.ColumnType.{column_type_code}
 use Rattle.mysql_wire.specs.FlagMasks.{UNSIGNED}
 use Rattle.mysql_wire.specs.Flags.{has}
-use Rattle.mysql_wire.specs.Reading.{Reading}
+use Rattle.mysql_wire.specs.Reading.{Reading, Faults}
+use Rattle.mysql_wire.specs.declared.fault.FaultOf.{FaultOf}
 use Rattle.mysql_packets_c.specs.Code.{kind_code}
-use Rattle.mysql_packets_c.specs.Value.{Sets, value_content}
+use Rattle.mysql_packets_c.specs.Value.{SetsParam, param_content}
 use Rattle.mysql_packets_c.specs.declared.query_attribute.CQueryAttribute.{CQueryAttribute}
 
 -- the item at a place, the first being 0
@@ -29,23 +29,28 @@ abbrev pub attributes_of : ComQueryRef → List Attribute
 attributes_of q = listed (sent_attributes q)
 
 pub record IsQueryAttribute (a : Attribute) (old new : CQueryAttribute) : Type 0 where
-  pub name : new.name.now ≡ name a
-  pub content : value_content new.value ≡ a.value
-  pub value : Sets a.value old.value new.value
-  pub column_type : new.column_type ≡ column_type_code (type_column (type_of_attribute a))
-  pub is_unsigned : new.is_unsigned ≡ (if has (type_flags (type_of_attribute a)).0 UNSIGNED then 1 else 0)
+  pub name : new.name.now ≡ a.named_type.name
+  pub content : param_content new.value ≡ a.value
+  pub value : SetsParam a.value old.value new.value
+  pub column_type : new.column_type ≡ column_type_code a.named_type.param_type.column_type
+  pub is_unsigned : new.is_unsigned ≡ (if has a.named_type.param_type.flags.0 UNSIGNED then 1 else 0)
 
 -- 0 and that attribute; or 7, and the struct is as it was
 abbrev pub Gives : Option Attribute → ℕ → (old new : CQueryAttribute) → Type 0
 Gives (Some a) code old new = (code ≡ 0) × IsQueryAttribute a old new
 Gives None code old new = (code ≡ 7) × (new ≡ old)
 
--- the attribute at a place of the query; or the code of the first fault, and the struct is as it was
-abbrev pub AttributeInto : ℕ → Reading ComQueryRef → ℕ → (old new : CQueryAttribute) → Type 0
-AttributeInto i (Ok x) code old new = Gives (at (attributes_of x.0) i) code old new
-AttributeInto i (Err k) code old new = (code ≡ kind_code k) × (new ≡ old)
+-- the attribute at a place of those that were read; or the code of the first fault, and the struct is as it was
+abbrev pub AttributeInto : {A : Type 0} → (attributes : A → List Attribute) → ℕ → Reading A → ℕ → (old new : CQueryAttribute) → Type 0
+AttributeInto attributes i (Ok x) code old new = Gives (at (attributes x.0) i) code old new
+AttributeInto attributes i (Err k) code old new = (code ≡ kind_code k) × (new ≡ old)
 
 -- the first of what is left; or nothing is left
 abbrev pub TakesFirst : AttributesLeft → Option Attribute → AttributesLeft → Type 0
 TakesFirst old (Some a) new = attributes_read old.all ≡ a ∷ attributes_read new.all
 TakesFirst old None new = attributes_read old.all ≡ []
+
+-- the attributes that reading gives, all of them good; or its fault
+abbrev pub AttributesAre : Reading (List Attribute) → Result AttributesLeft FaultOf → Type 0
+AttributesAre read (Ok view) = IsGood view × (rest : List ℕ) × (read ≡ Ok (attributes_read view.all, rest))
+AttributesAre read (Err e) = Faults false e read

@@ -3,6 +3,8 @@ use Rattle.std.specs.Prelude.{◌≡◌, ◌<◌, ◌^◌, ℕ, Bool, ◌==◌, 
 use Rattle.std.specs.List.{AllZip}
 use Rattle.std.specs.Int.{w64, cast_signed}
 use Rattle.mysql_values.specs.Value.{Content, NULL, Bytes, Int, UInt, Float, Double, Date, Time, date_of, time_of}
+use Rattle.mysql_values.specs.ParamValue.{ParamContent, Plain, WithOffset}
+use Rattle.mysql_values.specs.declared.date_time_with_offset.DateTimeWithOffset.{DateTimeWithOffset}
 use Rattle.mysql_packets_c.specs.declared.value.CValue.{CValue}
 
 -- what the value holds; a kind that is none holds nothing
@@ -16,6 +18,23 @@ value_content v =
     else if v.kind == 6 then Date (date_of v.days v.month v.day v.hour v.minute v.second v.micros)
     else if v.kind == 7 then Time (time_of (not (v.is_negative == 0)) v.days v.hour v.minute v.second v.micros)
     else NULL
+
+-- the date of a value, with its offset from UTC, which is the number
+abbrev pub date_with_offset_of : CValue → DateTimeWithOffset
+date_with_offset_of v = record {
+  year = v.days;
+  month = v.month;
+  day = v.day;
+  hour = v.hour;
+  minute = v.minute;
+  second = v.second;
+  micros = v.micros;
+  offset_minutes = cast_signed w64 v.number;
+}
+
+-- what the value holds as a parameter, which may be a date with an offset
+unfoldable pub param_content : CValue → ParamContent
+param_content v = if v.kind == 8 then WithOffset (date_with_offset_of v) else Plain (value_content v)
 
 -- its kind is one, and its number fits the kind: 4 bytes of a float, 2 of a year
 abbrev pub is_value : CValue → Bool
@@ -72,8 +91,20 @@ pub record Sets (content : Content) (old new : CValue) : Type 0 where
   pub others : KeepsOthers content old new
   pub reserved : new.reserved ≡ old.reserved
 
+-- the fields of a date with an offset
+pub record SetsDate (old new : CValue) : Type 0 where
+  pub kind : new.kind ≡ 8
+  pub bytes : new.bytes.now ≡ []
+  pub is_negative : new.is_negative ≡ 0
+  pub reserved : new.reserved ≡ old.reserved
+
+-- its fields are those of a parameter of this content
+abbrev pub SetsParam : ParamContent → (old new : CValue) → Type 0
+SetsParam (Plain content) old new = Sets content old new
+SetsParam (WithOffset date) old new = SetsDate old new
+
 abbrev pub IsSet : (old new : CValue) → Type 0
-IsSet old new = Sets (value_content new) old new
+IsSet old new = SetsParam (param_content new) old new
 
 -- the first places are set, and the others are as they were
 pub record SetsFirst (count : ℕ) (before after : List CValue) : Type 0 where

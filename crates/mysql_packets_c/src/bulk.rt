@@ -173,7 +173,7 @@ impl ItemForm<CColumnType> for AsDeclaredTypes {
 
 /// Writes a value after its indicator, for which there is capacity.
 #[inline(always)]
-#[tactic(auto, using(mysql_wire::proofs::After::after), unfolding(mysql_wire::specs::Writing::le_bytes))]
+#[tactic(auto, using(mysql_wire::proofs::After::after, mysql_prepared::proofs::SentBytes::plain), unfolding(mysql_wire::specs::Writing::le_bytes))]
 fn append_cell<O: Buffer>(value: &CValue<'_>, out: &mut O)
     requires { length (O.held out.old) + length (spec.cell_bytes value.now) ≤ O.capacity out.old }
     ensures items { O.held out.new ≡ O.held out.old ++ spec.cell_bytes value.now }

@@ -2,9 +2,9 @@
 #![tactic(auto, using(crate::proofs::Codes::codes))]
 
 ghost use Rattle.std.specs.Prelude.{◌≡◌, ◌≢◌, ◌<◌, false, true};
-ghost use Rattle.mysql_replies.specs.ColumnCount.{column_count, says_follow, says_optional};
+ghost use Rattle.mysql_replies.specs.ColumnCount.{column_count, says_follow};
 ghost use Rattle.mysql_packets_c.specs.Code.{ReadsInto};
-ghost use Rattle.mysql_packets_c.specs.ColumnCount.{IsCount, count_given, is_said, session_of, session_with, with_cached, with_optional};
+ghost use Rattle.mysql_packets_c.specs.ColumnCount.{IsCount, count_given, session_of, session_with};
 ghost use Rattle.mysql_packets_c.specs.Output.{PutsUnlessTooLong};
 
 use crate::code::{INVALID_INPUT, OK, code_of};
@@ -87,48 +87,16 @@ fn session_of(capabilities: u32, mariadb_capabilities: u32) -> SessionCapabiliti
     }
 }
 
-/// Whether a byte before the count says that definitions follow.
-fn says_optional(capabilities: SessionCapabilities) -> bool
-    ensures value { result ≡ says_optional capabilities }
-{
-    capabilities
-        .mysql
-        .contains(CapabilityFlags::CLIENT_OPTIONAL_RESULTSET_METADATA)
-}
-
-/// Whether a byte after it does.
+/// Whether a byte says that definitions follow.
 fn says_follow(capabilities: SessionCapabilities) -> bool
     ensures value { result ≡ says_follow capabilities }
 {
     capabilities
-        .mariadb
-        .contains(MariadbCapabilities::MARIADB_CLIENT_CACHE_METADATA)
-}
-
-/// The count with a byte before it, where the flags ask for one.
-fn with_optional(
-    capabilities: SessionCapabilities,
-    follows: bool,
-    count: ColumnCount,
-) -> ColumnCount
-    ensures value { result ≡ with_optional capabilities follows count }
-{
-    if says_optional(capabilities) {
-        count.with_optional_metadata(follows)
-    } else {
-        count
-    }
-}
-
-/// The count with a byte after it, where the flags ask for one.
-fn with_cached(capabilities: SessionCapabilities, follows: bool, count: ColumnCount) -> ColumnCount
-    ensures value { result ≡ with_cached capabilities follows count }
-{
-    if says_follow(capabilities) {
-        count.with_metadata_follows(follows)
-    } else {
-        count
-    }
+        .mysql
+        .contains(CapabilityFlags::CLIENT_OPTIONAL_RESULTSET_METADATA)
+        || capabilities
+            .mariadb
+            .contains(MariadbCapabilities::MARIADB_CLIENT_CACHE_METADATA)
 }
 
 /// Writes the count of the caller's fields, by the flags of both sides.
@@ -138,17 +106,20 @@ fn put_count(
     out: &mut [u8],
     written: &mut usize,
 ) -> u32
-    ensures refused { columns.now.metadata_follows ≡ 0 → is_said capabilities ≡ false → (result ≡ 3) × (out.new ≡ out.old) × (written.new ≡ 0) }
+    ensures refused { columns.now.metadata_follows ≡ 0 → says_follow capabilities ≡ false → (result ≡ 3) × (out.new ≡ out.old) × (written.new ≡ 0) }
     ensures follow { columns.now.metadata_follows ≢ 0 → PutsUnlessTooLong (column_count.bytes (count_given capabilities columns.now)) result out.old out.new written.new }
-    ensures said { is_said capabilities ≡ true → PutsUnlessTooLong (column_count.bytes (count_given capabilities columns.now)) result out.old out.new written.new }
+    ensures said { says_follow capabilities ≡ true → PutsUnlessTooLong (column_count.bytes (count_given capabilities columns.now)) result out.old out.new written.new }
 {
     let follows = columns.metadata_follows != 0;
-    if !follows && !says_optional(capabilities) && !says_follow(capabilities) {
-        *written = 0;
-        return INVALID_INPUT;
+    let count = ColumnCount::new(columns.count);
+    if says_follow(capabilities) {
+        return put_packet(&count.with_metadata_follows(follows), out, written);
     }
-    let count = with_optional(capabilities, follows, ColumnCount::new(columns.count));
-    put_packet(&with_cached(capabilities, follows, count), out, written)
+    if follows {
+        return put_packet(&count, out, written);
+    }
+    *written = 0;
+    INVALID_INPUT
 }
 
 /// Writes how many columns a result has, without `CLIENT_OPTIONAL_RESULTSET_METADATA`: 0; 5, and how many bytes it takes; or 3,
@@ -177,9 +148,9 @@ pub extern "C" fn myp_write_column_count_with_metadata(
     out: &mut [u8],
     written: &mut usize,
 ) -> u32
-    ensures refused { columns.now.metadata_follows ≡ 0 → is_said (session_with capabilities mariadb_capabilities) ≡ false → (result ≡ 3) × (out.new ≡ out.old) × (written.new ≡ 0) }
+    ensures refused { columns.now.metadata_follows ≡ 0 → says_follow (session_with capabilities mariadb_capabilities) ≡ false → (result ≡ 3) × (out.new ≡ out.old) × (written.new ≡ 0) }
     ensures follow { columns.now.metadata_follows ≢ 0 → PutsUnlessTooLong (column_count.bytes (count_given (session_with capabilities mariadb_capabilities) columns.now)) result out.old out.new written.new }
-    ensures said { is_said (session_with capabilities mariadb_capabilities) ≡ true → PutsUnlessTooLong (column_count.bytes (count_given (session_with capabilities mariadb_capabilities) columns.now)) result out.old out.new written.new }
+    ensures said { says_follow (session_with capabilities mariadb_capabilities) ≡ true → PutsUnlessTooLong (column_count.bytes (count_given (session_with capabilities mariadb_capabilities) columns.now)) result out.old out.new written.new }
 {
     put_count(
         columns,

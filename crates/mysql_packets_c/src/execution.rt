@@ -1,27 +1,27 @@
 //! The execution of a prepared statement.
 #![tactic(auto, using(crate::proofs::Codes::codes, crate::proofs::Executions::executions))]
 
-ghost use Rattle.std.specs.List.{list_all};
 ghost use Rattle.std.specs.Prelude.{◌≡◌, ◌≢◌, ◌<◌, ◌≤◌, ◌⊎◌, Ok, Err, IfErr, IfOk, IsOk, OnOk, drop, length, take, false, true};
-ghost use Rattle.mysql_prepared.specs.ExecuteHead.{execute_head};
 ghost use Rattle.mysql_prepared.specs.ExecuteParam.{param_of};
+ghost use Rattle.mysql_prepared.specs.Attributes.{attributes_left};
+ghost use Rattle.mysql_prepared.specs.ExecuteHead.{cursor_flags, execute_head};
 ghost use Rattle.mysql_prepared.specs.ExecuteRead.{HasNoParam, RefusesParam};
 ghost use Rattle.mysql_packets_c.specs.Code.{ReadsInto};
 ghost use Rattle.mysql_packets_c.specs.Execution as spec;
-ghost use Rattle.mysql_packets_c.specs.Execution.{Executes};
 ghost use Rattle.mysql_packets_c.specs.Rows.{FillsPlaces};
-ghost use Rattle.mysql_packets_c.specs.Value.{Sets, value_content, is_value};
+ghost use Rattle.mysql_packets_c.specs.Value.{SetsParam, param_content};
 
-use crate::code::{BUFFER_TOO_SMALL, INVALID_INPUT, OK, code_of};
+use crate::code::{BUFFER_TOO_SMALL, OK, code_of};
+use crate::flags::capabilities_of;
 use crate::input::read;
-use crate::output::answer_count;
 use crate::rows::CColumnType;
-use crate::value::{CValue, are_values, put_ref};
-use mysql_stmt::{
-    BoundParam, ComStmtExecuteHead, ComStmtExecuteRequestBuilder, ExecuteParam, ExecuteParamsBytes,
-};
+use crate::value::{CValue, put_date_with_offset, put_ref};
+use mysql_prepared::QueryAttributesView;
+use mysql_stmt::{BoundParam, ComStmtExecuteHead, ExecuteParam, ExecuteParamsBytes};
 use mysql_values::{ParamType, ValueRef};
-use mysql_wire::{ColumnType, ConstValue, Fault, Flags, ParseBuf, StmtExecuteParamFlags};
+use mysql_wire::{
+    CapabilityFlags, ColumnType, ConstValue, Fault, Flags, ParseBuf, StmtExecuteParamFlags,
+};
 use std::alloc::Global;
 
 /// `myp_execution_head`.
@@ -30,6 +30,7 @@ use std::alloc::Global;
 pub struct CExecutionHead {
     pub used: usize,
     pub statement_id: u32,
+    pub iteration_count: u32,
     pub flags: u8,
 }
 
@@ -47,6 +48,7 @@ pub struct CParam {
 #[derive(Drop)]
 pub struct CExecution {
     pub used: usize,
+    pub attributes: usize,
     pub statement_id: u32,
     pub flags: u8,
     pub sends_types: u8,
@@ -65,6 +67,7 @@ pub extern "C" fn myp_read_execution_head(
         Ok((head, used)) => {
             out.used = used;
             out.statement_id = head.stmt_id();
+            out.iteration_count = head.iteration_count();
             out.flags = head.flags().0;
             OK
         }
@@ -73,7 +76,7 @@ pub extern "C" fn myp_read_execution_head(
 }
 
 /// The parameter, as the library has it.
-fn bound_of(param: &CParam) -> BoundParam
+pub(crate) fn bound_of(param: &CParam) -> BoundParam
     ensures value { result ≡ spec.bound_of param.now }
 {
     let column_type = match ColumnType::from_code(param.column_type) {
@@ -92,12 +95,13 @@ fn bound_of(param: &CParam) -> BoundParam
 }
 
 /// Puts a parameter into a value of the caller's. What was sent ahead is NULL.
-fn put_param<'a>(place: &mut CValue<'a>, param: ExecuteParam<'a>)
-    ensures content { value_content place.new ≡ spec.content_of (param_of param.entry) }
-    ensures set { Sets (spec.content_of (param_of param.entry)) place.old place.new }
+pub(crate) fn put_param<'a>(place: &mut CValue<'a>, param: ExecuteParam<'a>)
+    ensures content { param_content place.new ≡ spec.content_of (param_of param.entry) }
+    ensures set { SetsParam (spec.content_of (param_of param.entry)) place.old place.new }
 {
     match param {
         ExecuteParam::Value(value) => put_ref(place, value),
+        ExecuteParam::DateTimeWithOffset(date) => put_date_with_offset(place, date),
         ExecuteParam::SentAhead => put_ref(place, ValueRef::NULL),
     }
 }
@@ -129,36 +133,49 @@ fn fill_params<'a>(
 {
     let mut place = 0;
     for param in params {
-        let (param_type, value) = sent.next_param(bound_of(param))?;
-        put_param(&mut values[place], value);
-        types[place] = type_held(param_type);
+        let it = sent.next_param(bound_of(param))?;
+        put_param(&mut values[place], it.param);
+        types[place] = type_held(it.param_type);
         place += 1;
     }
     Ok(())
 }
 
-/// Reads parameters into the first places, and answers whether types are sent, and the bytes after them.
+/// The attributes, which stand after the parameters: none of these is left.
+pub(crate) fn attributes_of<'a>(sent: &ExecuteParamsBytes<'a>) -> QueryAttributesView<'a>
+    requires { sent.now.left ≡ 0 }
+    ensures { result ≡ attributes_left sent.now.nulls sent.now.place sent.now.types sent.now.values }
+{
+    sent.attributes().unwrap()
+}
+
+/// Reads parameters into the first places, and answers whether types are sent, how many attributes follow, and the bytes after them.
 fn params_into<'a>(
+    capabilities: CapabilityFlags,
+    head: &ComStmtExecuteHead,
     params: &[CParam],
     buf: ParseBuf<'a>,
     values: &mut [CValue<'a>],
     types: &mut [CColumnType],
-) -> Result<(bool, ParseBuf<'a>), Fault>
+) -> Result<(bool, usize, ParseBuf<'a>), Fault>
     requires values { length params.now ≤ length values.old }
     requires types { length params.now ≤ length types.old }
-    ensures value { spec.TakesParams (spec.bound_list params.now) result (take (length params.now) values.new) (take (length params.now) types.new) buf.entry }
+    ensures value { spec.TakesParams capabilities (cursor_flags head.now) (spec.bound_list params.now) result (take (length params.now) values.new) (take (length params.now) types.new) buf.entry }
     ensures places { FillsPlaces (length params.now) (IsOk result) values.old values.new }
     ensures other_types { drop (length params.now) types.new ≡ drop (length params.now) types.old }
 {
-    let mut sent = ExecuteParamsBytes::new(params.len(), buf)?;
+    let mut sent = ExecuteParamsBytes::new(capabilities, head, params.len(), buf)?;
     let sends_types = sent.sends_types();
     fill_params(&mut sent, params, values, types)?;
-    Ok((sends_types, sent.rest()))
+    let attributes = attributes_of(&sent);
+    let rest = attributes.pass()?;
+    Ok((sends_types, attributes.left(), rest))
 }
 
 /// Reads an execution of these parameters into the first places.
 fn execution_into<'a>(
     buf: &mut ParseBuf<'a>,
+    capabilities: CapabilityFlags,
     params: &[CParam],
     values: &mut [CValue<'a>],
     types: &mut [CColumnType],
@@ -167,7 +184,7 @@ fn execution_into<'a>(
     requires values { length params.now ≤ length values.old }
     requires types { length params.now ≤ length types.old }
     ensures code { result ≢ 4 }
-    ensures value { spec.ExecutionInto buf.old (spec.bound_list params.now) ((execute_head.form tt).reads buf.old) (take (length params.now) values.new) (take (length params.now) types.new) result out.old out.new }
+    ensures value { spec.ExecutionInto capabilities buf.old (spec.bound_list params.now) ((execute_head.form tt).reads buf.old) (take (length params.now) values.new) (take (length params.now) types.new) result out.old out.new }
     ensures places { FillsPlaces (length params.now) (result ≡ 0) values.old values.new }
     ensures other_types { drop (length params.now) types.new ≡ drop (length params.now) types.old }
 {
@@ -176,9 +193,10 @@ fn execution_into<'a>(
         Ok(head) => head,
         Err(fault) => return code_of(&fault),
     };
-    match params_into(params, buf.rest(), values, types) {
-        Ok((sends_types, rest)) => {
+    match params_into(capabilities, &head, params, buf.rest(), values, types) {
+        Ok((sends_types, attributes, rest)) => {
             out.used = len.saturating_sub(rest.len());
+            out.attributes = attributes;
             out.statement_id = head.stmt_id();
             out.flags = head.flags().0;
             out.sends_types = if sends_types { 1 } else { 0 };
@@ -188,7 +206,7 @@ fn execution_into<'a>(
     }
 }
 
-/// Reads `COM_STMT_EXECUTE` into values and types, one of each parameter.
+/// Reads `COM_STMT_EXECUTE` by what both sides can do, into values and types, one of each parameter.
 ///
 /// 0; 5 where there are fewer places than parameters; or 1 or 2, and the values and types before the faulty one are set. Places
 /// after those of the parameters are as they were.
@@ -196,6 +214,7 @@ fn execution_into<'a>(
 pub extern "C" fn myp_read_execution<'a>(
     alloc: Global,
     packet: &'a [u8],
+    capabilities: u32,
     params: &[CParam],
     values: &mut [CValue<'a>],
     types: &mut [CColumnType],
@@ -203,7 +222,7 @@ pub extern "C" fn myp_read_execution<'a>(
 ) -> u32
     ensures no_memory { result ≢ 4 }
     ensures small { (length values.old < length params.now) ⊎ (length types.old < length params.now) → (result ≡ 5) × (values.new ≡ values.old) × (types.new ≡ types.old) × (out.new ≡ out.old) }
-    ensures value { length params.now ≤ length values.old → length params.now ≤ length types.old → spec.ExecutionInto packet.now (spec.bound_list params.now) ((execute_head.form tt).reads packet.now) (take (length params.now) values.new) (take (length params.now) types.new) result out.old out.new }
+    ensures value { length params.now ≤ length values.old → length params.now ≤ length types.old → spec.ExecutionInto (record { 0 = capabilities; 1 = record {} }) packet.now (spec.bound_list params.now) ((execute_head.form tt).reads packet.now) (take (length params.now) values.new) (take (length params.now) types.new) result out.old out.new }
     ensures places { length params.now ≤ length values.old → length params.now ≤ length types.old → FillsPlaces (length params.now) (result ≡ 0) values.old values.new }
     ensures other_types { length params.now ≤ length values.old → length params.now ≤ length types.old → drop (length params.now) types.new ≡ drop (length params.now) types.old }
 {
@@ -211,28 +230,12 @@ pub extern "C" fn myp_read_execution<'a>(
         return BUFFER_TOO_SMALL;
     }
     let mut buf = ParseBuf::new(alloc, packet);
-    execution_into(&mut buf, params, values, types, out)
-}
-
-/// Writes `COM_STMT_EXECUTE` with the values: 0; 5, and how many bytes it takes; 4; or 3 where one of them is no value, and then
-/// `as_long_data` is as it was.
-#[unsafe(no_mangle)]
-pub extern "C" fn myp_write_execution(
-    statement_id: u32,
-    values: &[CValue<'_>],
-    out: &mut [u8],
-    written: &mut usize,
-    as_long_data: &mut u8,
-) -> u32
-    ensures refused { list_all is_value values.now ≡ false → (result ≡ 3) × (out.new ≡ out.old) × (written.new ≡ 0) × (as_long_data.new ≡ as_long_data.old) }
-    ensures value { list_all is_value values.now ≡ true → Executes statement_id values.now result out.old out.new written.new as_long_data.new }
-{
-    if !are_values(values) {
-        *written = 0;
-        return INVALID_INPUT;
-    }
-    let request = ComStmtExecuteRequestBuilder::new(statement_id);
-    let (len, leaves_out) = request.write_to_slice(values, out);
-    *as_long_data = leaves_out as u8;
-    answer_count(len, out.len(), written)
+    execution_into(
+        &mut buf,
+        capabilities_of(capabilities),
+        params,
+        values,
+        types,
+        out,
+    )
 }

@@ -7,7 +7,7 @@ ghost use Rattle.mysql_wire.specs.ColumnType.{column_type_of};
 ghost use Rattle.mysql_wire.specs.declared.codes.column_type.ColumnType.{ColumnType};
 ghost use Rattle.mysql_packets_c.specs.Code.{ReadsInto};
 ghost use Rattle.mysql_packets_c.specs.ExtendedColumn as spec;
-ghost use Rattle.mysql_packets_c.specs.ExtendedColumn.{IsExtended};
+ghost use Rattle.mysql_packets_c.specs.ExtendedColumn.{HoldsExtended, IsExtended};
 ghost use Rattle.mysql_packets_c.specs.Given.{if_set};
 ghost use Rattle.mysql_packets_c.specs.Output.{PutsUnlessTooLong};
 
@@ -31,17 +31,32 @@ pub struct CExtendedColumn<'a> {
     pub has_metadata: u8,
 }
 
-/// The metadata, and whether there are any.
+/// The bytes, and whether there are any.
 #[inline(always)]
-fn metadata_places<'a>(metadata: Option<&'a [u8]>) -> (&'a [u8], u8)
-    ensures value { if_set result.1 result.0.now ≡ option_map (λ m. m.now) metadata.entry }
-    ensures bytes { result.0.now ≡ attribute_bytes (option_map (λ m. m.now) metadata.entry) }
+pub(crate) fn places_of<'a>(bytes: Option<&'a [u8]>) -> (&'a [u8], u8)
+    ensures value { if_set result.1 result.0.now ≡ option_map (λ m. m.now) bytes.entry }
+    ensures bytes { result.0.now ≡ attribute_bytes (option_map (λ m. m.now) bytes.entry) }
     ensures flag { result.1 < 2 }
 {
-    match metadata {
-        Some(metadata) => (metadata, 1),
+    match bytes {
+        Some(bytes) => (bytes, 1),
         None => (&[], 0),
     }
+}
+
+/// Puts a column into a struct of the caller's, and how many bytes were read of it.
+#[inline(always)]
+pub(crate) fn put_extended<'a>(
+    found: &ExtendedColumnRef<'a>,
+    used: usize,
+    out: &mut CExtendedColumn<'a>,
+)
+    ensures value { HoldsExtended found.now used out.new }
+{
+    put_column(found.column(), used, &mut out.column);
+    let (metadata, has_metadata) = places_of(found.metadata());
+    out.metadata = metadata;
+    out.has_metadata = has_metadata;
 }
 
 /// Reads a column by MariaDB's flags of both sides, with extended metadata where they have it: 0; or 1 or 2, and the struct is as it
@@ -58,10 +73,7 @@ pub extern "C" fn myp_read_extended_column<'a>(
     let capabilities = mariadb_of(mariadb_capabilities);
     match read::<ExtendedColumnRef<'a>>(alloc, packet, capabilities) {
         Ok((found, used)) => {
-            put_column(found.column(), used, &mut out.column);
-            let (metadata, has_metadata) = metadata_places(found.metadata());
-            out.metadata = metadata;
-            out.has_metadata = has_metadata;
+            put_extended(&found, used, out);
             OK
         }
         Err(fault) => code_of(&fault),
@@ -70,7 +82,7 @@ pub extern "C" fn myp_read_extended_column<'a>(
 
 /// A column whose names and metadata are the caller's. In a clause it is that column.
 #[derive(Drop)]
-struct SentExtendedColumn<'a> {
+pub(crate) struct SentExtendedColumn<'a> {
     column: SentColumn<'a>,
     metadata: Option<RawBytes<'a, LenEnc>>,
 }
@@ -107,6 +119,19 @@ fn metadata_of<'a>(column: &CExtendedColumn<'a>) -> Option<RawBytes<'a, LenEnc>>
     }
 }
 
+/// The column of this type, and of the caller's other fields.
+pub(crate) fn sent_extended<'a>(
+    column_type: ColumnType,
+    column: &CExtendedColumn<'a>,
+) -> SentExtendedColumn<'a>
+    ensures value { result ≡ spec.extended_given column_type column.now }
+{
+    SentExtendedColumn {
+        column: sent_column(column_type, &column.column),
+        metadata: metadata_of(column),
+    }
+}
+
 /// Writes a column, with extended metadata where there are any: 0; 5, and how many bytes it takes; 4; or 3 of a type that is none.
 #[unsafe(no_mangle)]
 pub extern "C" fn myp_write_extended_column(
@@ -121,9 +146,5 @@ pub extern "C" fn myp_write_extended_column(
         *written = 0;
         return INVALID_INPUT;
     };
-    let packet = SentExtendedColumn {
-        column: sent_column(column_type, &column.column),
-        metadata: metadata_of(column),
-    };
-    put_packet(&packet, out, written)
+    put_packet(&sent_extended(column_type, column), out, written)
 }

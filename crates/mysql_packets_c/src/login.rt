@@ -22,7 +22,7 @@ use crate::output::put_packet;
 use bitflags::Flags;
 use indexmap::IndexMap;
 use mysql_auth::{AuthPlugin, ConnectAttributesRef, HandshakeResponse, HandshakeResponseRef};
-use mysql_wire::{CapabilityFlags, MariadbCapabilities, parts};
+use mysql_wire::{CapabilityFlags, MariadbCapabilities, RawInt, parts};
 use std::alloc::Global;
 use std::borrow::CowSlice;
 
@@ -43,6 +43,8 @@ pub struct CLogin<'a> {
     pub has_database: u8,
     pub has_auth_plugin_name: u8,
     pub has_attributes: u8,
+    pub has_zstd_level: u8,
+    pub zstd_level: u8,
 }
 
 /// Whether it was sent, and its bytes.
@@ -64,6 +66,38 @@ pub(crate) fn sent_attributes<'a>(attributes: Option<ConnectAttributesRef<'a>>) 
     match attributes {
         Some(attributes) => (1, attributes.as_bytes()),
         None => (0, &[]),
+    }
+}
+
+/// Whether a level of compression was sent, and the level.
+fn sent_level(level: Option<u8>) -> (u8, u8)
+    ensures { if_set result.0 result.1 ≡ level }
+{
+    match level {
+        Some(level) => (1, level),
+        None => (0, 0),
+    }
+}
+
+/// The level of compression, where one is there.
+fn level_of(login: &CLogin<'_>) -> Option<u8>
+    ensures { result ≡ if_set login.now.has_zstd_level login.now.zstd_level }
+{
+    if login.has_zstd_level != 0 {
+        Some(login.zstd_level)
+    } else {
+        None
+    }
+}
+
+/// The same, as it is written.
+fn written_level(login: &CLogin<'_>) -> Option<RawInt<u8>>
+    ensures { option_map (λ n. n.0) result ≡ if_set login.now.has_zstd_level login.now.zstd_level }
+{
+    if login.has_zstd_level != 0 {
+        Some(RawInt::new(login.zstd_level))
+    } else {
+        None
     }
 }
 
@@ -90,6 +124,9 @@ pub extern "C" fn myp_read_login<'a>(alloc: Global, packet: &'a [u8], out: &mut 
             let (has, attributes) = sent_attributes(found.connect_attributes());
             out.has_attributes = has;
             out.attributes = attributes;
+            let (has, level) = sent_level(found.zstd_level());
+            out.has_zstd_level = has;
+            out.zstd_level = level;
             OK
         }
         Err(fault) => code_of(&fault),
@@ -153,6 +190,7 @@ fn response_of<'a>(alloc: Global, login: &CLogin<'a>) -> HandshakeResponse<'a>
             login.mariadb_capabilities,
         ))
         .with_collation(login.collation)
+        .with_zstd_level(level_of(login))
 }
 
 /// Whether the attributes that are sent are UTF-8.
@@ -186,5 +224,6 @@ pub extern "C" fn myp_write_login(
     }
     let before = response.before_attributes();
     let attributes = WrittenAttributes(attributes);
-    put_packet(&parts!(before, attributes), out, written)
+    let level = written_level(login);
+    put_packet(&parts!(before, attributes, level), out, written)
 }

@@ -6,6 +6,7 @@
 ghost use Rattle.std.specs.Prelude.{◌≡◌, ◌≤◌, ◌⊎◌, ◌+◌, ◌++◌, drop, length};
 ghost use Rattle.mysql_prepared.specs.BinaryRow.{bin_in};
 ghost use Rattle.mysql_prepared.specs.ExecuteParam.{Sent, param_bytes, value_of};
+ghost use Rattle.mysql_values.specs.ParamValue.{Plain};
 ghost use Rattle.mysql_values.specs.Value.{Bytes};
 ghost use Rattle.mysql_values.specs.ValueRef.{ref_content};
 ghost use Rattle.mysql_packets_c.specs.Execution as spec;
@@ -32,10 +33,11 @@ fn number<'a>(value: &CValue<'a>) -> ValueRef<'a>
 
 /// Writes a number with the buffer in a variable of its own, so that its bytes are one store.
 #[inline(always)]
+#[tactic(auto, using(mysql_prepared::proofs::SentBytes::plain))]
 fn append_number<O: Buffer>(number: ValueRef<'_>, as_long_data: bool, out: &mut O)
-    requires { length (O.held out.old) + length (param_bytes as_long_data (Sent (ref_content number))) ≤ O.capacity out.old }
-    ensures items { O.held out.new ≡ O.held out.old ++ param_bytes as_long_data (Sent (ref_content number.entry)) }
-    ensures after { O.after out.new ≡ drop (length (param_bytes as_long_data (Sent (ref_content number.entry)))) (O.after out.old) }
+    requires { length (O.held out.old) + length (param_bytes as_long_data (Sent (Plain (ref_content number)))) ≤ O.capacity out.old }
+    ensures items { O.held out.new ≡ O.held out.old ++ param_bytes as_long_data (Sent (Plain (ref_content number.entry))) }
+    ensures after { O.after out.new ≡ drop (length (param_bytes as_long_data (Sent (Plain (ref_content number.entry))))) (O.after out.old) }
     ensures capacity { O.capacity out.old ≤ O.capacity out.new }
     ensures kept { O.kept out.new ≡ O.kept out.old }
 {
@@ -61,10 +63,11 @@ fn append_number_cell<O: Buffer>(number: ValueRef<'_>, column_type: ColumnType, 
 /// Writes a string, for which there is capacity.
 // (by a call too)
 #[inline(never)]
+#[tactic(auto, using(mysql_prepared::proofs::SentBytes::plain))]
 fn append_string<O: Buffer>(string: &[u8], as_long_data: bool, out: &mut O)
-    requires { length (O.held out.old) + length (param_bytes as_long_data (Sent (Bytes string.now))) ≤ O.capacity out.old }
-    ensures items { O.held out.new ≡ O.held out.old ++ param_bytes as_long_data (Sent (Bytes string.now)) }
-    ensures after { O.after out.new ≡ drop (length (param_bytes as_long_data (Sent (Bytes string.now)))) (O.after out.old) }
+    requires { length (O.held out.old) + length (param_bytes as_long_data (Sent (Plain (Bytes string.now)))) ≤ O.capacity out.old }
+    ensures items { O.held out.new ≡ O.held out.old ++ param_bytes as_long_data (Sent (Plain (Bytes string.now))) }
+    ensures after { O.after out.new ≡ drop (length (param_bytes as_long_data (Sent (Plain (Bytes string.now))))) (O.after out.old) }
     ensures capacity { O.capacity out.old ≤ O.capacity out.new }
     ensures kept { O.kept out.new ≡ O.kept out.old }
 {
@@ -74,7 +77,7 @@ fn append_string<O: Buffer>(string: &[u8], as_long_data: bool, out: &mut O)
 /// Writes a value of any kind, for which there is capacity.
 // (by a call, so that what writes numbers stays small enough to be in line)
 #[inline(never)]
-#[tactic(auto, unfolding(crate::specs::Value::value_content))]
+#[tactic(auto, using(mysql_prepared::proofs::SentBytes::plain), unfolding(crate::specs::Value::value_content))]
 fn append_any<O: Buffer>(value: &CValue<'_>, as_long_data: bool, out: &mut O)
     requires { length (O.held out.old) + length (param_bytes as_long_data (spec.param value.now)) ≤ O.capacity out.old }
     ensures items { O.held out.new ≡ O.held out.old ++ param_bytes as_long_data (spec.param value.now) }
@@ -98,11 +101,13 @@ fn append_any_cell<O: Buffer>(value: &CValue<'_>, column_type: ColumnType, out: 
     value.as_execute_param().append_cell(column_type, out);
 }
 
-#[tactic(auto, unfolding(crate::specs::Value::value_content))]
+#[tactic(auto, using(mysql_prepared::proofs::SentBytes::plain), unfolding(crate::specs::Value::value_content))]
 impl AsExecuteParam for CValue<'_> {
-    ghost use Rattle.mysql_packets_c.specs.Execution.{param};
+    ghost use Rattle.mysql_packets_c.specs.Execution.{own_type, param};
 
     ghost param = { param };
+
+    ghost named_type = { own_type };
 
     #[inline(always)]
     fn as_execute_param(&self) -> ExecuteParam<'_> {
@@ -110,6 +115,16 @@ impl AsExecuteParam for CValue<'_> {
             Some(value) => ExecuteParam::Value(value),
             None => ExecuteParam::Value(ValueRef::NULL),
         }
+    }
+
+    #[inline(always)]
+    fn name(&self) -> &[u8] {
+        &[]
+    }
+
+    #[inline(always)]
+    fn is_spelled(&self) -> bool {
+        true
     }
 
     #[inline(always)]

@@ -3,16 +3,21 @@
 
 ghost use Rattle.std.specs.Prelude.{◌≡◌, option_map};
 ghost use Rattle.mysql_commands.specs.Query.{query};
-ghost use Rattle.mysql_commands.specs.QueryAttributes.{IsGood, attributes_read};
+ghost use Rattle.mysql_prepared.specs.Attributes as prepared;
+ghost use Rattle.mysql_prepared.specs.Attributes.{IsGood, attributes_read};
 ghost use Rattle.mysql_packets_c.specs.QueryAttribute as spec;
 ghost use Rattle.mysql_packets_c.specs.QueryAttribute.{AttributeInto, IsQueryAttribute};
+ghost use Rattle.mysql_packets_c.specs.WrittenExecution.{are_attributes};
 
 use crate::code::{END, OK, code_of};
+use crate::execution::put_param;
 use crate::flags::capabilities_of;
 use crate::input::read;
-use crate::value::{CValue, put_ref};
+use crate::value::{CValue, is_value};
 use bitflags::Flags;
-use mysql_commands::{ComQueryRef, QueryAttributeRef, QueryAttributesView};
+use mysql_commands::ComQueryRef;
+use mysql_prepared::{AsExecuteParam, ExecuteParam, QueryAttribute, QueryAttributesView};
+use mysql_values::ParamType;
 use mysql_wire::{ConstValue, StmtExecuteParamFlags};
 use std::alloc::Global;
 
@@ -30,9 +35,9 @@ pub struct CQueryAttribute<'a> {
 }
 
 /// The next attribute of a query that was read, whose attributes are good.
-fn next_of<'a>(view: &mut QueryAttributesView<'a>) -> Option<QueryAttributeRef<'a>>
+fn next_of<'a>(view: &mut QueryAttributesView<'a>) -> Option<QueryAttribute<'a>>
     requires { IsGood view.old }
-    ensures value { spec.TakesFirst view.old result view.new }
+    ensures value { spec.TakesFirst view.old (option_map prepared.attribute_of result) view.new }
     ensures good { IsGood view.new }
 {
     match view.next_attribute() {
@@ -46,12 +51,12 @@ fn next_of<'a>(view: &mut QueryAttributesView<'a>) -> Option<QueryAttributeRef<'
 }
 
 /// The attribute at that place, the first being 0.
-fn attribute_at<'a>(
+pub(crate) fn attribute_at<'a>(
     mut view: QueryAttributesView<'a>,
     place: usize,
-) -> Option<QueryAttributeRef<'a>>
+) -> Option<QueryAttribute<'a>>
     requires { IsGood view }
-    ensures value { result ≡ spec.at (attributes_read view.entry.all) place }
+    ensures value { option_map prepared.attribute_of result ≡ spec.at (attributes_read view.entry.all) place }
 {
     let mut before = place;
     while before > 0 {
@@ -64,19 +69,58 @@ fn attribute_at<'a>(
 }
 
 /// Puts an attribute into a struct of the caller's.
-fn put_attribute<'a>(found: &QueryAttributeRef<'a>, out: &mut CQueryAttribute<'a>)
-    ensures value { IsQueryAttribute found.now out.old out.new }
+pub(crate) fn put_attribute<'a>(found: &QueryAttribute<'a>, out: &mut CQueryAttribute<'a>)
+    ensures value { IsQueryAttribute (prepared.attribute_of found.now) out.old out.new }
 {
-    let param_type = found.param_type();
-    out.name = found.name();
+    let param_type = found.param_type;
+    out.name = found.name;
     out.column_type = param_type.column_type().code();
     out.is_unsigned = u8::from(param_type.flags().contains(StmtExecuteParamFlags::UNSIGNED));
-    put_ref(&mut out.value, found.value());
+    put_param(&mut out.value, ExecuteParam::sent(found.value));
+}
+
+/// An attribute is written as the type of its value's kind.
+#[tactic(auto, using(mysql_prepared::proofs::SentBytes::plain))]
+impl AsExecuteParam for CQueryAttribute<'_> {
+    ghost use Rattle.mysql_packets_c.specs.WrittenExecution.{attribute_param, attribute_type};
+
+    ghost param = { attribute_param };
+
+    ghost named_type = { attribute_type };
+
+    #[inline(always)]
+    fn as_execute_param(&self) -> ExecuteParam<'_> {
+        self.value.as_execute_param()
+    }
+
+    #[inline(always)]
+    fn sent_type(&self) -> ParamType {
+        self.value.sent_type()
+    }
+
+    #[inline(always)]
+    fn name(&self) -> &[u8] {
+        self.name
+    }
+
+    #[inline(always)]
+    fn is_spelled(&self) -> bool {
+        true
+    }
+}
+
+/// Whether the value of each attribute is one.
+pub(crate) fn are_attributes(attributes: &[CQueryAttribute<'_>]) -> bool
+    ensures { result ≡ are_attributes attributes.now }
+{
+    attributes
+        .iter()
+        .all(|attribute| is_value(&attribute.value))
 }
 
 /// The attribute of a query at that place.
-fn attribute_of<'a>(query: &ComQueryRef<'a>, place: usize) -> Option<QueryAttributeRef<'a>>
-    ensures value { result ≡ spec.at (spec.attributes_of query.now) place }
+fn attribute_of<'a>(query: &ComQueryRef<'a>, place: usize) -> Option<QueryAttribute<'a>>
+    ensures value { option_map prepared.attribute_of result ≡ spec.at (spec.attributes_of query.now) place }
 {
     match query.attributes() {
         Some(attributes) => attribute_at(attributes.view(), place),
@@ -93,7 +137,7 @@ pub extern "C" fn myp_read_query_attribute<'a>(
     place: usize,
     out: &mut CQueryAttribute<'a>,
 ) -> u32
-    ensures value { AttributeInto place ((query.form (record { 0 = 0x0800_0000; 1 = record {} })).reads packet.now) result out.old out.new }
+    ensures value { AttributeInto spec.attributes_of place ((query.form (record { 0 = 0x0800_0000; 1 = record {} })).reads packet.now) result out.old out.new }
 {
     let capabilities = capabilities_of(CLIENT_QUERY_ATTRIBUTES);
     match read::<ComQueryRef<'a>>(alloc, packet, capabilities) {

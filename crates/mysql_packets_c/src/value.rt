@@ -1,19 +1,20 @@
 //! Values as C has them.
-#![tactic(auto, unfolding(crate::specs::Value::value_content))]
+#![tactic(auto, unfolding(crate::specs::Value::value_content, crate::specs::Value::param_content))]
 
 ghost use Rattle.std.specs.List.{list_all};
 ghost use Rattle.std.specs.Prelude.{◌≡◌, [], IfSome, is_some};
 ghost use Rattle.mysql_values.specs.ValueRef.{ref_content};
-ghost use Rattle.mysql_packets_c.specs.Value.{KeepsDate, Sets, is_value, value_content};
+ghost use Rattle.mysql_values.specs.ParamValue.{Plain, WithOffset};
+ghost use Rattle.mysql_packets_c.specs.Value.{KeepsDate, Sets, SetsParam, is_value, param_content, value_content};
 
-use mysql_values::ValueRef;
+use mysql_values::{DateTimeWithOffset, ValueRef};
 
 /// A value of a row or of a parameter: `myp_value` in C.
 #[repr(C)]
 #[derive(Clone, Copy, Drop)]
 pub struct CValue<'a> {
     /// 0 NULL, 1 bytes, 2 a signed and 3 an unsigned number, 4 and 5 the bits of floats of 4 and 8 bytes, 6 a date, 7 a
-    /// span of time.
+    /// span of time, 8 a date with an offset from UTC, which parameters and attributes alone have.
     pub kind: u8,
     pub is_negative: u8,
     pub month: u8,
@@ -46,6 +47,7 @@ fn put_number(place: &mut CValue<'_>, kind: u8, number: u64)
 #[inline(always)]
 pub(crate) fn put_ref<'a>(place: &mut CValue<'a>, value: ValueRef<'a>)
     ensures content { value_content place.new ≡ ref_content value.entry }
+    ensures param { param_content place.new ≡ Plain (ref_content value.entry) }
     ensures set { Sets (ref_content value.entry) place.old place.new }
 {
     match value {
@@ -81,6 +83,27 @@ pub(crate) fn put_ref<'a>(place: &mut CValue<'a>, value: ValueRef<'a>)
             place.days = days;
         }
     }
+}
+
+/// Puts a date with its offset from UTC into a value of the caller's: the offset is the number, in minutes.
+pub(crate) fn put_date_with_offset(place: &mut CValue<'_>, date: DateTimeWithOffset)
+    ensures content { param_content place.new ≡ WithOffset date }
+    ensures set { SetsParam (WithOffset date) place.old place.new }
+{
+    put_ref(
+        place,
+        ValueRef::Date(
+            date.year,
+            date.month,
+            date.day,
+            date.hour,
+            date.minute,
+            date.second,
+            date.micros,
+        ),
+    );
+    place.kind = 8;
+    place.number = i64::from(date.offset_minutes).cast_unsigned();
 }
 
 /// The value that C handed in. `None` where it is none: its kind is none, or its number doesn't fit its kind.

@@ -1,8 +1,11 @@
 pub mod Cells
 pub mod RowMemory
 pub mod Nulls
-pub mod OptionLengths
-pub mod OptionBytes
+pub mod PackedBits
+pub mod SentNulls
+pub mod SentBytes
+pub mod ExecutionBytes
+pub mod QueryParts
 pub mod ParamLengths
 pub mod Copies
 pub mod NullBits
@@ -14,14 +17,11 @@ pub mod EqualRows
 pub mod StmtAgain
 pub mod PutCells
 pub mod RowViews
-pub mod PlainOptions
 pub mod TextRowAgain
 pub mod RowBytes
 pub mod BinaryRowAgain
+pub mod SentTypes
+pub mod AttributeViews
 pub mod ParamViews
+pub mod PlainOptions
 pub mod ExecutionAgain
-pub mod BuiltExecution
-mod WrittenExecution
-pub mod QueryParts
-pub mod TypedBytes
-pub mod TypedAgain

@@ -1,49 +1,51 @@
 -- A query that is sent.
-use Rattle.std.specs.Prelude.{ℕ, List, [], ◌++◌, length, map, Option}
+use Rattle.std.specs.Prelude.{◌≡◌, ℕ, true, false, List, [], ◌++◌, length, map, Option, Some}
+use Rattle.std.specs.List.{flat_map}
 use Rattle.std.specs.Option.{option_copied, option_map_or}
 use Rattle.mysql_wire.specs.LenEnc.{lenenc_bytes}
 use Rattle.mysql_wire.specs.ServerCommand.{server_command_code}
 use Rattle.mysql_wire.specs.Writing.{le_bytes}
 use Rattle.mysql_wire.specs.declared.codes.server_command.ServerCommand.TheVariants as name
-use Rattle.mysql_values.specs.Value.{Content}
-use Rattle.mysql_values.specs.ValueRef.{ref_content}
-use Rattle.mysql_prepared.specs.ExecuteParam.{attribute_types, attribute_values}
+use Rattle.mysql_prepared.specs.ExecuteParam.{Param, value_of}
 use Rattle.mysql_prepared.specs.ExecuteParams.{where_some}
-use Rattle.mysql_prepared.specs.Execution.{list_of}
+use Rattle.mysql_prepared.specs.NullMarks.{bitmap_of}
+use Rattle.mysql_prepared.specs.SentParam.{first_unspelled, list_of, sent_params, type_bytes, value_bytes}
+use Rattle.mysql_prepared.specs.ExecuteRead.{TypedParam}
 use Rattle.mysql_prepared.specs.declared.com_query.ComQuery.{ComQuery}
-use Rattle.mysql_prepared.specs.declared.execute_param.QueryAttribute.{QueryAttribute}
+use Rattle.mysql_prepared.specs.SentTypes.{NamedType}
+use Rattle.mysql_prepared.specs.declared.typed_param.TypedExecutionError.{TypedExecutionError}
+use Rattle.mysql_prepared.specs.declared.typed_param.TypedExecutionError.TheVariants as refusal
 
-abbrev pub text : ComQuery → List ℕ
-text q = q.text.now
+module _ {A : Type 0} where
+  abbrev pub text : ComQuery A → List ℕ
+  text q = q.text.now
 
-abbrev pub attributes : ComQuery → Option (List QueryAttribute)
-attributes q = option_copied q.attributes
+  abbrev pub attributes : ComQuery A → Option (List A)
+  attributes q = option_copied q.attributes
 
--- the attributes, none where the query can have none
-abbrev pub listed : ComQuery → List QueryAttribute
-listed q = list_of (attributes q)
+  -- the attributes, none where the query can have none
+  abbrev pub listed : ComQuery A → List A
+  listed q = list_of (attributes q)
 
-abbrev pub bitmap : ComQuery → List ℕ
-bitmap q = q.bitmap.bytes
+  -- how many there are, where attributes can be
+  abbrev pub count_bytes : Option (List A) → List ℕ
+  count_bytes attributes = option_map_or (λ l. lenenc_bytes (length l)) attributes []
 
--- what attributes hold
-abbrev pub attribute_contents : List QueryAttribute → List Content
-attribute_contents attributes = map (λ a. ref_content a.value) attributes
+  -- one set of them
+  abbrev pub set_bytes : Option (List A) → List ℕ
+  set_bytes attributes = option_map_or (λ l. le_bytes 1 1) attributes []
 
--- how many there are, where attributes can be
-abbrev pub count_bytes : Option (List QueryAttribute) → List ℕ
-count_bytes attributes = option_map_or (λ l. lenenc_bytes (length l)) attributes []
-
--- one set of them
-abbrev pub set_bytes : Option (List QueryAttribute) → List ℕ
-set_bytes attributes = option_map_or (λ l. le_bytes 1 1) attributes []
-
--- the bitmap, a byte that says that types follow, these with the names, and the values
-abbrev pub some_bytes : (nulls : List ℕ) → List QueryAttribute → List ℕ
-some_bytes nulls l = nulls ++ le_bytes 1 1 ++ attribute_types l ++ attribute_values l
+-- the bitmap of NULLs, a byte that says that types follow, these with the names, and the values
+abbrev pub some_bytes : List TypedParam → List ℕ
+some_bytes l = bitmap_of (map (λ p. value_of p.param) l) ++ (le_bytes 1 1 ++ (flat_map (type_bytes true) l ++ flat_map (value_bytes false) l))
 
 -- 03; how many attributes and sets where both sides have CLIENT_QUERY_ATTRIBUTES; where there are any, they; and the text to the end
-unfoldable pub query_bytes : ComQuery → List ℕ
-query_bytes q =
+unfoldable pub query_bytes : {A : Type 0} → (attribute : A → Param) (attribute_type : A → NamedType) → ComQuery A → List ℕ
+query_bytes attribute attribute_type q =
     le_bytes 1 (server_command_code name.COM_QUERY) ++ count_bytes (attributes q) ++ set_bytes (attributes q)
-    ++ where_some (listed q) (some_bytes (bitmap q) (listed q)) ++ text q
+    ++ where_some (listed q) (some_bytes (sent_params attribute attribute_type (listed q))) ++ text q
+
+-- why attributes are refused: the type of one does not spell its value, and it is the first
+abbrev pub RefusesAttribute : List TypedParam → TypedExecutionError → Type 0
+RefusesAttribute attributes (refusal.UnspelledAttribute place) = first_unspelled attributes ≡ Some place
+RefusesAttribute attributes _ = ⊥

@@ -1,5 +1,6 @@
 -- One execution of a prepared statement.
 use Rattle.std.specs.Prelude.{ℕ, Bool, List, ◌++◌}
+use Rattle.mysql_wire.specs.Int.{raw_int}
 use Rattle.mysql_values.specs.declared.value.Value.{Value}
 use Rattle.mysql_prepared.specs.ExecuteHead.{execute_head}
 use Rattle.mysql_prepared.specs.ExecuteParams.{params_bytes}
@@ -30,7 +31,7 @@ as_long_data r = r.params.as_long_data
 
 -- what stands before the parameters
 abbrev pub head_of : ComStmtExecuteRequest → ComStmtExecuteHead
-head_of r = record { header = r.header; stmt_id = r.stmt_id; flags = r.flags; iteration_count = r.iteration_count }
+head_of r = record { header = r.header; stmt_id = r.stmt_id; flags = r.flags; iteration_count = raw_int 1 }
 
 -- that, and the parameters
 abbrev pub execute_bytes : ComStmtExecuteRequest → List ℕ

@@ -1,77 +1,83 @@
--- The parameters of an execution, as a server reads them.
-use Rattle.std.specs.Prelude.{◌≡◌, ℕ, suc, ◌+◌, ◌==◌, Bool, false, not, if◌then◌else◌, List, [], ◌∷◌, length, Option, Some, None, Result, Ok, Err}
+-- The parameters and the attributes of an execution, as a server reads them.
+use Rattle.std.specs.Prelude.{◌≡◌, ℕ, suc, ◌+◌, ◌≤◌, ◌==◌, Bool, true, false, ◌&&◌, ◌||◌, not, nat_lt, List, [], ◌∷◌, length, drop, Option, Some, None, Result, Ok, Err, if◌then◌else◌}
 use Rattle.mysql_wire.specs.declared.fault.FaultOf.{FaultOf}
 use Rattle.mysql_wire.specs.declared.fault.FaultKind.{FaultKind}
-use Rattle.mysql_wire.specs.FlagMasks.{UNSIGNED}
-use Rattle.mysql_wire.specs.Flags.{has}
-use Rattle.mysql_wire.specs.Reading.{Reading, Faults}
-use Rattle.mysql_wire.specs.Form.{Form, ◌>>=◌, give, either, map}
+use Rattle.mysql_wire.specs.FlagMasks.{CLIENT_QUERY_ATTRIBUTES, PARAMETER_COUNT_AVAILABLE}
+use Rattle.mysql_wire.specs.Flags.{CapabilityFlags, has}
+use Rattle.mysql_wire.specs.Reading.{Reading, Faults, then_read}
+use Rattle.mysql_wire.specs.Form.{Form, ◌>>=◌, decode, give, either, map}
 use Rattle.mysql_wire.specs.Each.{each}
-use Rattle.mysql_wire.specs.Int.{byte}
-use Rattle.mysql_wire.specs.Seq.{counted}
-use Rattle.mysql_values.specs.Value.{NULL}
-use Rattle.mysql_values.specs.ValueDeserializer.{bin_value}
-use Rattle.mysql_values.specs.ParamType.{param_type}
+use Rattle.mysql_wire.specs.LenEnc.{lenenc}
 use Rattle.mysql_values.specs.declared.param_type.ParamType.{ParamType}
+use Rattle.mysql_prepared.specs.Attributes.{Attribute, AttributesLeft, attributes_left, value_of, values}
+use Rattle.mysql_prepared.specs.BindFront.{BindFront, HasFront, bind_front}
 use Rattle.mysql_prepared.specs.Bitmap.{cell}
-use Rattle.mysql_prepared.specs.NullBitmap.{null_bitmap}
 use Rattle.mysql_prepared.specs.ExecuteParam.{Param, Sent, SentAhead, param_of}
+use Rattle.mysql_prepared.specs.SentTypes.{NamedType, under_types, unnamed}
 use Rattle.mysql_prepared.specs.declared.execute_param.ExecuteParam.{ExecuteParam}
 use Rattle.mysql_prepared.specs.declared.execute_view.BoundParam.{BoundParam}
+use Rattle.mysql_prepared.specs.declared.typed_param.TypedExecuteParam.{TypedExecuteParam}
 
--- a parameter, and the type that it has
-abbrev pub TypedParam : Type 0
-TypedParam = ParamType × Param
+-- a parameter: its type and its name, and what is sent of it
+pub record TypedParam : Type 0 where
+  pub named_type : NamedType
+  pub param : Param
 
--- ---- the grammar
+abbrev pub read_as : TypedExecuteParam → TypedParam
+read_as p = record { named_type = record { param_type = p.param_type; name = p.name.now }; param = param_of p.param }
+
+-- ---- the grammar: the count
+
+abbrev pub has_attributes : CapabilityFlags → Bool
+has_attributes capabilities = has capabilities.0 CLIENT_QUERY_ATTRIBUTES
+
+-- under CLIENT_QUERY_ATTRIBUTES a count stands there where the statement has parameters, or PARAMETER_COUNT_AVAILABLE is set
+abbrev pub has_count : CapabilityFlags → (flags : ℕ) → (params : ℕ) → Bool
+has_count capabilities flags params = has_attributes capabilities && (not (params == 0) || has flags PARAMETER_COUNT_AVAILABLE)
+
+-- a count of no fewer than the statement's parameters
+abbrev pub at_least : ℕ → ℕ → Option ℕ
+at_least params count = if nat_lt count params then None else Some count
+
+-- how many parameters and attributes there are
+abbrev pub count_of : CapabilityFlags → (flags : ℕ) → (params : ℕ) → Form ℕ
+count_of capabilities flags params = either (has_count capabilities flags params) (decode (at_least params) lenenc) (give params)
+
+-- ---- the grammar: a parameter
+
+-- a parameter, with the type that is in force
+pub record BoundType : Type 0 where
+  pub named_type : NamedType
+  pub is_sent_ahead : Bool
 
 -- a parameter of the type: nothing is spelled where it was sent ahead, nor where the bitmap says NULL
-abbrev pub param_value : (is_sent_ahead is_null : Bool) → ParamType → Form Param
-param_value is_sent_ahead is_null t = either is_sent_ahead (give SentAhead) (map Sent (either is_null (give NULL) (bin_value t.column_type (has t.flags.0 UNSIGNED))))
+abbrev pub param_form : (is_sent_ahead is_null : Bool) → ParamType → Form Param
+param_form is_sent_ahead is_null t = either is_sent_ahead (give SentAhead) (map Sent (value_of is_null t))
 
-abbrev pub typed_param : (nulls : List ℕ) → ℕ → BoundParam → Form TypedParam
-typed_param nulls place p = map (λ v. (p.param_type, v)) (param_value p.is_sent_ahead (cell nulls place == 1) p.param_type)
-
--- so many types, of two bytes each
-abbrev pub types : ℕ → Form (List ParamType)
-types count = counted count (param_type.form tt)
-
--- the same, of which it is asked alone whether they are there
-abbrev pub passed_types : ℕ → Form (Unit {0})
-passed_types count = map (λ ts. tt) (types count)
-
--- the parameters under other types
-abbrev pub under_types : List BoundParam → List ParamType → List BoundParam
-under_types [] ts = []
-under_types (p ∷ ps) [] = []
-under_types (p ∷ ps) (t ∷ ts) = record { param_type = t; is_sent_ahead = p.is_sent_ahead } ∷ under_types ps ts
+abbrev pub typed_param : (nulls : List ℕ) → ℕ → BoundType → Form TypedParam
+typed_param nulls place p = map (λ v. record { named_type = p.named_type; param = v }) (param_form p.is_sent_ahead (cell nulls place == 1) p.named_type.param_type)
 
 -- the parameters under the types that are sent, else under those of an earlier execution
-abbrev pub bound_params : (sends_types : Bool) → List BoundParam → Form (List BoundParam)
-bound_params sends_types params = either sends_types (map (under_types params) (types (length params))) (give params)
+abbrev pub in_force : (sends_types : Bool) → List BoundParam → List NamedType → List BoundType
+in_force s [] ts = []
+in_force false (p ∷ ps) ts = record { named_type = unnamed p.param_type; is_sent_ahead = p.is_sent_ahead } ∷ in_force false ps ts
+in_force true (p ∷ ps) [] = []
+in_force true (p ∷ ps) (t ∷ ts) = record { named_type = t; is_sent_ahead = p.is_sent_ahead } ∷ in_force true ps ts
 
--- what stands before the values
-pub record Front : Type 0 where
-  pub nulls : List ℕ
-  pub sends_types : Bool
-  pub bound : List BoundParam
+-- ---- the grammar: all
 
--- the bitmap of NULLs, a byte that is not 0 where types follow, and these
-abbrev pub some_front : List BoundParam → Form Front
-some_front params = do
-  nulls ← null_bitmap 0 (length params)
-  new_params_bound ← byte
-  bound ← bound_params (not (new_params_bound.0 == 0)) params
-  give (record { nulls = nulls.bytes; sends_types = not (new_params_bound.0 == 0); bound = bound })
+-- the count, and what stands before the values
+abbrev pub execution_front : CapabilityFlags → (flags : ℕ) → (params : ℕ) → Form BindFront
+execution_front capabilities flags params = count_of capabilities flags params >>= (λ count. bind_front (has_attributes capabilities) count params)
 
--- nothing stands there where there are no parameters
-abbrev pub front : List BoundParam → Form Front
-front [] = give (record { nulls = []; sends_types = false; bound = [] })
-front (p ∷ ps) = some_front (p ∷ ps)
-
--- and the values
-abbrev pub execute_params : List BoundParam → Form (List TypedParam)
-execute_params params = front params >>= (λ f. each (typed_param f.nulls) 0 f.bound)
+-- what follows the head, by what the server knows of each parameter: the count, the bitmap, the types, and the values of the
+-- parameters and of the attributes after them
+abbrev pub execution : CapabilityFlags → (flags : ℕ) → List BoundParam → Form (List TypedParam × List Attribute)
+execution capabilities flags params = do
+  front ← execution_front capabilities flags (length params)
+  parameters ← each (typed_param front.nulls) 0 (in_force front.sends_types params front.types)
+  attributes ← values front.nulls (length params) (drop (length params) front.types)
+  give (parameters, attributes)
 
 -- ---- parameter by parameter
 
@@ -87,9 +93,15 @@ abbrev pub then_params : Reading TypedParam → (List ℕ → Several) → Sever
 then_params (Ok x) next = record { params = x.0 ∷ (next x.1).params; tails = x.1 ∷ (next x.1).tails; end = (next x.1).end }
 then_params (Err e) next = record { params = []; tails = []; end = Err e }
 
-unfoldable pub params_in : (nulls : List ℕ) → ℕ → List BoundParam → List ℕ → Several
+unfoldable pub params_in : (nulls : List ℕ) → ℕ → List BoundType → List ℕ → Several
 params_in nulls place [] bytes = record { params = []; tails = []; end = Ok bytes }
 params_in nulls place (p ∷ ps) bytes = then_params ((typed_param nulls place p).reads bytes) (params_in nulls (place + 1) ps)
+
+-- the attributes that stand after the parameters: the bitmap of NULLs, the place of the first one in it, and their types
+pub record AttributesAhead : Type 0 where
+  pub nulls : List ℕ
+  pub place : ℕ
+  pub types : List NamedType
 
 -- what is left of an execution: whether it sends types, how many parameters, those that are good, and the bytes after the last
 -- one, or the kind of the fault that stands after those that are good
@@ -101,57 +113,69 @@ pub record ParamsLeft : Type 0 where
   -- the bytes after the parameters that were read, and after each of those that are good
   pub rest : List ℕ
   pub tails : List (List ℕ)
+  pub attributes : AttributesAhead
 
--- the parameters in these bytes
-abbrev pub params_left : (sends_types : Bool) (left : ℕ) → (nulls : List ℕ) → ℕ → List BoundParam → List ℕ → ParamsLeft
-params_left sends_types left nulls place params bytes = record {
+-- the parameters in these bytes, and the attributes after them
+abbrev pub params_left : (sends_types : Bool) (left : ℕ) → (nulls : List ℕ) → ℕ → List BoundParam → List NamedType → List ℕ → ParamsLeft
+params_left sends_types left nulls place params types bytes = record {
   sends_types = sends_types;
   left = left;
-  params = (params_in nulls place params bytes).params;
-  end = (params_in nulls place params bytes).end;
+  params = (params_in nulls place (in_force sends_types params types) bytes).params;
+  end = (params_in nulls place (in_force sends_types params types) bytes).end;
   rest = bytes;
-  tails = (params_in nulls place params bytes).tails;
+  tails = (params_in nulls place (in_force sends_types params types) bytes).tails;
+  attributes = record { nulls = nulls; place = place + length params; types = drop (length params) types };
 }
 
--- the types in these bytes
-abbrev pub types_read : Reading (List ParamType) → List ParamType
-types_read (Ok x) = x.0
-types_read (Err e) = []
-
--- the parameters under the types in these bytes, where types are sent
-abbrev pub bound_left : (sends_types : Bool) → List BoundParam → (types_bytes : List ℕ) → List BoundParam
-bound_left sends_types params bytes = if sends_types then under_types params (types_read ((types (length params)).reads bytes)) else params
-
 -- what stands after the head, of which parameters are read: whether it sends types, how many parameters are left, the bitmap of
--- NULLs, the place of the next one in it, the types of those that are left, and the bytes after the values that were read
+-- NULLs, the place of the next one in it, the types that are left, and the bytes after the values that were read
 pub record ParamsBytes : Type 0 where
   pub sends_types : Bool
   pub left : ℕ
   pub nulls : List ℕ
   pub place : ℕ
-  pub types : List ℕ
+  pub types : List NamedType
   pub values : List ℕ
 
 -- what is left of an execution where the server knows this of the parameters that are left
 abbrev pub left_of : ParamsBytes → List BoundParam → ParamsLeft
-left_of b params = params_left b.sends_types b.left b.nulls b.place (bound_left b.sends_types params b.types) b.values
+left_of b params = params_left b.sends_types b.left b.nulls b.place params b.types b.values
 
--- so many types are there
-abbrev pub HasTypes : ℕ → List ℕ → Type 0
-HasTypes count bytes = (ts : List ParamType) × (rest : List ℕ) × ((types count).reads bytes ≡ Ok (ts, rest))
+-- what stands after the front, of so many parameters
+abbrev pub bytes_after : ℕ → BindFront → List ℕ → ParamsBytes
+bytes_after params f after = record { sends_types = f.sends_types; left = params; nulls = f.nulls; place = 0; types = f.types; values = after }
 
--- the execution stands after the types, which are there
-abbrev pub IsExecution : List BoundParam → List ℕ → ParamsLeft → Type 0
-IsExecution params bytes view =
-    (f : Front) × (after : List ℕ) × ((front params).reads bytes ≡ Ok (f, after)) × (view ≡ params_left f.sends_types (length params) f.nulls 0 f.bound after)
+-- the values stand after what precedes them, which is there
+abbrev pub StandsAfter : CapabilityFlags → (flags : ℕ) → (params : ℕ) → List ℕ → ParamsBytes → Type 0
+StandsAfter capabilities flags params bytes b =
+    (f : BindFront) × (after : List ℕ) × ((execution_front capabilities flags params).reads bytes ≡ Ok (f, after)) × (b ≡ bytes_after params f after)
 
--- what reading all that is left gives
+-- parameters under the types that are sent, if any are
+abbrev pub given_types : (sends_types : Bool) → List BoundParam → List NamedType → List BoundParam
+given_types sends_types params types = if sends_types then under_types params types else params
+
+-- the execution stands after what precedes the values, which is there
+abbrev pub IsExecution : CapabilityFlags → (flags : ℕ) → List BoundParam → List ℕ → ParamsLeft → Type 0
+IsExecution capabilities flags params bytes view =
+    (f : BindFront) × (after : List ℕ) × ((execution_front capabilities flags (length params)).reads bytes ≡ Ok (f, after))
+    × (view ≡ params_left f.sends_types (length params) f.nulls 0 params f.types after)
+
+-- what reading all parameters that are left gives
 abbrev pub params_to : List TypedParam → Result (List ℕ) FaultKind → Reading (List TypedParam)
 params_to params (Ok rest) = Ok (params, rest)
 params_to params (Err e) = Err e
 
 abbrev pub params_of : ParamsLeft → Reading (List TypedParam)
 params_of view = params_to view.params view.end
+
+-- the attributes in the bytes after the parameters
+abbrev pub attributes_at : AttributesAhead → List ℕ → AttributesLeft
+attributes_at a bytes = attributes_left a.nulls a.place a.types bytes
+
+-- what reading all that is left gives
+abbrev pub execution_of : ParamsLeft → Reading (List TypedParam × List Attribute)
+execution_of view =
+    then_read (params_of view) (λ ps after. then_read (attributes_at view.attributes after).all (λ attributes rest. Ok ((ps, attributes), rest)))
 
 -- ---- what reading does
 
@@ -164,21 +188,35 @@ abbrev pub HasNoParam : ParamsLeft → Type 0
 HasNoParam view = (view.left ≡ 0) × (view.params ≡ [])
 
 -- this is the first of the parameters that are good
-abbrev pub Gives : ParamsLeft → TypedParam → ParamsLeft → Type 0
-Gives old x new = (old.left ≡ suc new.left) × (old.params ≡ x ∷ new.params) × (new.end ≡ old.end) × (new.sends_types ≡ old.sends_types) × (old.tails ≡ new.rest ∷ new.tails)
+pub record Gives (old : ParamsLeft) (x : TypedParam) (new : ParamsLeft) : Type 0 where
+  pub left : old.left ≡ suc new.left
+  pub params : old.params ≡ x ∷ new.params
+  pub end : new.end ≡ old.end
+  pub sends_types : new.sends_types ≡ old.sends_types
+  pub tails : old.tails ≡ new.rest ∷ new.tails
+  pub attributes : new.attributes ≡ old.attributes
 
 -- the first of the parameters that are good, or none is left, or the fault and all is left
-abbrev pub GivesParam : ParamsLeft → Result (Option (ParamType × ExecuteParam)) FaultOf → ParamsLeft → Type 0
-GivesParam old (Ok (Some x)) new = Gives old (x.0, param_of x.1) new
+abbrev pub GivesParam : ParamsLeft → Result (Option TypedExecuteParam) FaultOf → ParamsLeft → Type 0
+GivesParam old (Ok (Some x)) new = Gives old (read_as x) new
 GivesParam old (Ok None) new = HasNoParam old × (new ≡ old)
 GivesParam old (Err e) new = RefusesParam e old × (new ≡ old)
 
 -- the first of the parameters that are left, of which the server knows this, or its fault
-abbrev pub GivesBound : ParamsBytes → BoundParam → List BoundParam → Result (ParamType × ExecuteParam) FaultOf → ParamsBytes → Type 0
-GivesBound old bound others (Ok x) new = Gives (left_of old (bound ∷ others)) (x.0, param_of x.1) (left_of new others)
+abbrev pub GivesBound : ParamsBytes → BoundParam → List BoundParam → Result TypedExecuteParam FaultOf → ParamsBytes → Type 0
+GivesBound old bound others (Ok x) new = Gives (left_of old (bound ∷ others)) (read_as x) (left_of new others)
 GivesBound old bound others (Err e) new = RefusesParam e (left_of old (bound ∷ others)) × (new ≡ old)
+
+-- the type that is in force: the first of those that are sent, else that of an earlier execution
+abbrev pub TakesInForce : (sends_types : Bool) → ParamType → List NamedType → NamedType → List NamedType → Type 0
+TakesInForce true earlier old t new = old ≡ t ∷ new
+TakesInForce false earlier old t new = (t ≡ unnamed earlier) × (new ≡ old)
 
 -- what the parameter that was read holds
 abbrev pub param_read : Result ExecuteParam FaultOf → Result Param FaultOf
 param_read (Ok p) = Ok (param_of p)
 param_read (Err e) = Err e
+
+-- a front of so many parameters has a bit for each and for each type; where types are sent, there is one for each parameter
+abbrev pub HasFrontOf : ℕ → BindFront → Type 0
+HasFrontOf params f = (count : ℕ) × (params ≤ count) × HasFront count f

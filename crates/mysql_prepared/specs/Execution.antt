@@ -1,36 +1,73 @@
 -- The bytes of an execution of a prepared statement.
-use Rattle.std.specs.Prelude.{ℕ, ◌+◌, Bool, true, false, List, [], ◌++◌, length, Option}
-use Rattle.std.specs.Option.{option_map_or}
+use Rattle.std.specs.Prelude.{ℕ, ◌+◌, ◌&&◌, ◌||◌, Bool, true, false, is_some, if◌then◌else◌, List, [], ◌∷◌, ◌++◌, length, map, Option, unwrap_or}
+use Rattle.std.specs.List.{flat_map}
+use Rattle.mysql_wire.specs.FlagMasks.{PARAMETER_COUNT_AVAILABLE}
+use Rattle.mysql_wire.specs.Flags.{has}
 use Rattle.mysql_wire.specs.LenEnc.{lenenc_bytes}
 use Rattle.mysql_wire.specs.Writing.{le_bytes, saturated}
-use Rattle.mysql_prepared.specs.ExecuteHead.{execute_head}
+use Rattle.mysql_prepared.specs.ExecuteHead.{cursor_flags, execute_head}
+use Rattle.mysql_prepared.specs.ExecuteParam.{value_of}
 use Rattle.mysql_prepared.specs.ExecuteParams.{where_some}
-use Rattle.mysql_prepared.specs.ExecuteParam.{Param, all_values, param_types, param_values, attribute_types, attribute_values}
+use Rattle.mysql_prepared.specs.NullMarks.{bitmap_of}
+use Rattle.mysql_prepared.specs.SentParam.{type_bytes, value_bytes}
+use Rattle.mysql_prepared.specs.ExecuteRead.{TypedParam}
 use Rattle.mysql_prepared.specs.declared.execute_head.ComStmtExecuteHead.{ComStmtExecuteHead}
-use Rattle.mysql_prepared.specs.declared.execute_param.QueryAttribute.{QueryAttribute}
 
--- with attributes each type has a name
-abbrev pub are_named : Option (List QueryAttribute) → Bool
-are_named attributes = option_map_or (λ l. true) attributes false
+-- what an execution sends
+pub record Execution : Type 0 where
+  pub head : ComStmtExecuteHead
+  pub params : List TypedParam
+  -- where CLIENT_QUERY_ATTRIBUTES is agreed on
+  pub attributes : Option (List TypedParam)
+  -- whether the types of parameters are sent; attributes are not sent without types
+  pub sends_types : Bool
+  -- whether parameters that are byte strings are left out, since they are sent ahead
+  pub as_long_data : Bool
 
 -- the attributes, none where the execution can have none
-abbrev pub list_of : Option (List QueryAttribute) → List QueryAttribute
-list_of attributes = option_map_or (λ l. l) attributes []
+abbrev pub listed : Execution → List TypedParam
+listed e = unwrap_or e.attributes []
 
--- how many parameters and attributes there are, where attributes may be
-abbrev pub count_before : {V : Type 0} → List V → Option (List QueryAttribute) → List ℕ
-count_before params attributes = option_map_or (λ l. lenenc_bytes (saturated (length params + length l))) attributes []
+-- the attributes stand after the parameters
+abbrev pub all_params : Execution → List TypedParam
+all_params e = e.params ++ listed e
 
-module _ {V : Type 0} (param : V → Param) where
-  -- the bitmap, the byte that says that types follow, the types and the values, of the parameters and then of the attributes
-  abbrev pub params_bytes : (nulls : List ℕ) → List V → Option (List QueryAttribute) → (as_long_data : Bool) → List ℕ
-  params_bytes nulls params attributes as_long_data =
-      nulls ++ le_bytes 1 1
-      ++ param_types param (are_named attributes) params ++ attribute_types (list_of attributes)
-      ++ param_values param as_long_data params ++ attribute_values (list_of attributes)
+-- where attributes may be, each type has a name
+abbrev pub has_names : Execution → Bool
+has_names e = is_some e.attributes
 
-  -- the head, the count, and those where there are values
-  abbrev pub execution_bytes : ComStmtExecuteHead → (nulls : List ℕ) → List V → Option (List QueryAttribute) → (as_long_data : Bool) → List ℕ
-  execution_bytes head nulls params attributes as_long_data =
-      execute_head.bytes head ++ count_before params attributes
-      ++ where_some (all_values param params (list_of attributes)) (params_bytes nulls params attributes as_long_data)
+abbrev pub has_some : {A : Type 0} → List A → Bool
+has_some [] = false
+has_some (x ∷ xs) = true
+
+-- a server looks for a count where the statement has parameters, or where the flag says that there is one
+abbrev pub has_count : Execution → Bool
+has_count e = has_names e && (has_some (all_params e) || has (cursor_flags e.head) PARAMETER_COUNT_AVAILABLE)
+
+abbrev pub types_follow : Execution → Bool
+types_follow e = e.sends_types || has_some (listed e)
+
+-- ---- the bytes
+
+-- how many parameters and attributes there are
+abbrev pub count_bytes : Execution → List ℕ
+count_bytes e = if has_count e then lenenc_bytes (saturated (length e.params + length (listed e))) else []
+
+-- the bitmap of NULLs
+abbrev pub null_bytes : Execution → List ℕ
+null_bytes e = bitmap_of (map (λ p. value_of p.param) (all_params e))
+
+abbrev pub types_bytes : Execution → List ℕ
+types_bytes e = if types_follow e then flat_map (type_bytes (has_names e)) (all_params e) else []
+
+-- attributes are never left out
+abbrev pub values_bytes : Execution → List ℕ
+values_bytes e = flat_map (value_bytes e.as_long_data) e.params ++ flat_map (value_bytes false) (listed e)
+
+-- the bitmap, a byte that is 1 where types follow, the types, and the values
+abbrev pub params_bytes : Execution → List ℕ
+params_bytes e = null_bytes e ++ (le_bytes 1 (if types_follow e then 1 else 0) ++ (types_bytes e ++ values_bytes e))
+
+-- the head, the count, and those where there are parameters or attributes
+abbrev pub execution_bytes : Execution → List ℕ
+execution_bytes e = execute_head.bytes e.head ++ (count_bytes e ++ where_some (all_params e) (params_bytes e))

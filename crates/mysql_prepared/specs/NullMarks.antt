@@ -1,5 +1,5 @@
 -- Which bits of a bitmap tell of NULLs.
-use Rattle.std.specs.Prelude.{◌≡◌, ℕ, Bool, true, false, if◌then◌else◌, List, ◌++◌, length, map, get_or, replicate}
+use Rattle.std.specs.Prelude.{◌≡◌, ℕ, zero, suc, ◌+◌, ◌*◌, Bool, true, false, if◌then◌else◌, List, [], ◌∷◌, ◌++◌, length, map, drop, get_or, replicate}
 use Rattle.mysql_values.specs.Value.{Content, NULL}
 use Rattle.mysql_prepared.specs.Bitmap.{bytes_for, cell}
 
@@ -23,3 +23,22 @@ pub record MarksNulls (offset : ℕ) (values : List Content) (bitmap : List ℕ)
 -- the buffer ends in that bitmap
 abbrev pub AppendsNulls : (offset : ℕ) → List Content → (old new : List ℕ) → Type 0
 AppendsNulls offset values old new = (nulls : List ℕ) × MarksNulls offset values nulls × (new ≡ old ++ nulls)
+
+-- ---- the same bitmap as a list of bytes
+
+-- the number of the first four bits, the first one the lowest
+abbrev pub first_four : List ℕ → ℕ
+first_four bits = get_or bits 0 0 + 2 * get_or bits 1 0 + 4 * get_or bits 2 0 + 8 * get_or bits 3 0
+
+-- the byte of the first eight bits
+abbrev pub first_eight : List ℕ → ℕ
+first_eight bits = first_four bits + 16 * first_four (drop 4 bits)
+
+-- so many bytes of bits
+abbrev pub packed : ℕ → List ℕ → List ℕ
+packed zero bits = []
+packed (suc n) bits = first_eight bits ∷ packed n (drop 8 bits)
+
+-- the bitmap of these values, as a client sends it: a bit for each, the first one the lowest, set for NULL
+abbrev pub bitmap_of : List Content → List ℕ
+bitmap_of values = packed (bytes_for 0 (length values)) (map null_bit values)

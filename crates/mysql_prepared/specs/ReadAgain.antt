@@ -1,26 +1,38 @@
--- As which parameters an execution is read that was written.
-use Rattle.std.specs.Prelude.{◌≡◌, ℕ, ◌+◌, ◌<◌, ◌^◌, Bool, true, false, List, [], ◌∷◌, length, map, None}
+-- As which parameters and attributes an execution is read that was written.
+use Rattle.std.specs.Prelude.{◌≡◌, ℕ, ◌+◌, ◌<◌, ◌^◌, ◌&&◌, ◌++◌, Bool, true, false, IsFalse, is_some, List, [], ◌∷◌, length, map, Option, if◌then◌else◌}
 use Rattle.std.specs.List.{All}
-use Rattle.mysql_values.specs.ParamType.{type_of}
-use Rattle.mysql_values.specs.ReadingBack.{IsInRange}
-use Rattle.mysql_values.specs.Value.{Bytes}
-use Rattle.mysql_prepared.specs.ExecuteParam.{Param, Sent, SentAhead, value_of}
+use Rattle.std.specs.Option.{option_map}
+use Rattle.mysql_wire.specs.FlagMasks.{PARAMETER_COUNT_AVAILABLE}
+use Rattle.mysql_wire.specs.Flags.{CapabilityFlags, has}
+use Rattle.mysql_values.specs.ParamType.{type_flags}
+use Rattle.mysql_values.specs.ParamValue.{ParamIsInRange, param_content, param_read_under}
+use Rattle.mysql_values.specs.declared.param_type.ParamType.{ParamType}
+use Rattle.mysql_prepared.specs.Attributes.{Attribute}
+use Rattle.mysql_prepared.specs.ExecuteHead.{cursor_flags}
+use Rattle.mysql_prepared.specs.ExecuteParam.{Param, Sent, SentAhead}
 use Rattle.mysql_prepared.specs.ExecuteParams.{where_some}
-use Rattle.mysql_prepared.specs.Execution.{params_bytes}
-use Rattle.mysql_prepared.specs.NullMarks.{MarksNulls}
-use Rattle.mysql_prepared.specs.ExecuteRead.{TypedParam}
-use Rattle.mysql_prepared.specs.ExecuteWithOptions as request
+use Rattle.mysql_prepared.specs.ExecuteRead.{TypedParam, has_attributes}
+use Rattle.mysql_prepared.specs.Execution.{Execution, all_params, count_bytes, has_names, has_some, params_bytes, types_follow}
+use Rattle.mysql_prepared.specs.SentParam.{attribute_type, is_left_out, is_spelled, list_of, sent_attributes}
+use Rattle.mysql_prepared.specs.SentTypes.{NamedType}
+use Rattle.mysql_prepared.specs.declared.execute_head.ComStmtExecuteHead.{ComStmtExecuteHead}
+use Rattle.mysql_prepared.specs.declared.execute_param.QueryAttribute.{QueryAttribute}
 use Rattle.mysql_prepared.specs.declared.execute_view.BoundParam.{BoundParam}
-use Rattle.mysql_prepared.specs.declared.execute_with_options.ComStmtExecuteWithOptions.{ComStmtExecuteWithOptions}
 
--- a byte string of long data was sent ahead
-abbrev pub as_read : (as_long_data : Bool) → Param → Param
-as_read true (Sent (Bytes bytes)) = SentAhead
-as_read _ p = p
+-- a value as it is read under its type; a byte string of long data was sent ahead
+abbrev pub as_read_under : (as_long_data : Bool) → ParamType → Param → Param
+as_read_under l t (Sent value) = if is_left_out l value then SentAhead else Sent (param_read_under t value)
+as_read_under l t SentAhead = SentAhead
 
--- the parameter, with the type that it is sent with
-abbrev pub typed_as_read : (as_long_data : Bool) → Param → TypedParam
-typed_as_read as_long_data p = (type_of (value_of p), as_read as_long_data p)
+-- a type as it is read: with its name where a name is sent
+abbrev pub type_read : (named : Bool) → NamedType → NamedType
+type_read named t = record { param_type = t.param_type; name = if named then t.name else [] }
+
+abbrev pub param_read : (named as_long_data : Bool) → TypedParam → TypedParam
+param_read named l p = record { named_type = type_read named p.named_type; param = as_read_under l p.named_type.param_type p.param }
+
+abbrev pub attribute_read : QueryAttribute → Attribute
+attribute_read a = record { named_type = attribute_type a; value = param_read_under a.param_type (param_content a.value) }
 
 abbrev pub was_sent_ahead : Param → Bool
 was_sent_ahead (Sent value) = false
@@ -28,33 +40,48 @@ was_sent_ahead SentAhead = true
 
 -- numbers have their widths
 abbrev pub ParamFits : Param → Type 0
-ParamFits (Sent value) = IsInRange value
+ParamFits (Sent value) = ParamIsInRange value
 ParamFits SentAhead = Unit {0}
 
--- the server knows as many parameters, and of each whether it was sent ahead
-abbrev pub KnowsAhead : (as_long_data : Bool) → List BoundParam → List Param → Type 0
-KnowsAhead as_long_data [] [] = Unit {0}
-KnowsAhead as_long_data [] (p ∷ ps) = ⊥
-KnowsAhead as_long_data (b ∷ bs) [] = ⊥
-KnowsAhead as_long_data (b ∷ bs) (p ∷ ps) = (b.is_sent_ahead ≡ was_sent_ahead (as_read as_long_data p)) × KnowsAhead as_long_data bs ps
+pub record SentFits (p : TypedParam) : Type 0 where
+  pub flags : (type_flags p.named_type.param_type).0 < 2 ^ 8
+  pub name : length p.named_type.name < 2 ^ 64
+  pub value : ParamFits p.param
+  pub spelled : is_spelled p ≡ true
 
-module _ {V : Type 0} (param : V → Param) where
-  -- the parameters that are sent
-  abbrev pub sent_params : ComStmtExecuteWithOptions V → List Param
-  sent_params r = map param (request.params r)
+-- what the server knows of a parameter: whether it was sent ahead, and where no types are sent, its type
+pub record Knows (sends_types as_long_data : Bool) (b : BoundParam) (p : TypedParam) : Type 0 where
+  pub earlier : IsFalse sends_types → b.param_type ≡ p.named_type.param_type
+  pub ahead : b.is_sent_ahead ≡ was_sent_ahead (as_read_under as_long_data p.named_type.param_type p.param)
 
-  -- the bytes after the head
-  abbrev pub bytes_after_head : ComStmtExecuteWithOptions V → List ℕ
-  bytes_after_head r = where_some (request.values param r) (params_bytes param (request.bitmap r) (request.params r) (request.attributes r) (request.as_long_data r))
+-- it knows as many parameters, and this of each
+abbrev pub KnowsAll : (sends_types as_long_data : Bool) → List BoundParam → List TypedParam → Type 0
+KnowsAll s l [] [] = Unit {0}
+KnowsAll s l [] (p ∷ ps) = ⊥
+KnowsAll s l (b ∷ bs) [] = ⊥
+KnowsAll s l (b ∷ bs) (p ∷ ps) = Knows s l b p × KnowsAll s l bs ps
 
-  -- a request as it is built without attributes, and what the server knows of its parameters
-  pub record IsReadable (bound : List BoundParam) (r : ComStmtExecuteWithOptions V) : Type 0 where
-    pub attributes : request.attributes r ≡ None
-    pub bitmap : MarksNulls 0 (request.values param r) (request.bitmap r)
-    pub few : length (request.params r) + 7 < 2 ^ 64
-    pub fit : All ParamFits (sent_params r)
-    pub ahead : KnowsAhead (request.as_long_data r) bound (sent_params r)
+-- an execution as it is built
+abbrev pub built : ComStmtExecuteHead → List TypedParam → Option (List QueryAttribute) → (sends_types as_long_data : Bool) → Execution
+built head params attributes s l = record { head = head; params = params; attributes = option_map sent_attributes attributes; sends_types = s; as_long_data = l }
 
-  -- the parameters as they are read
-  abbrev pub params_as_read : ComStmtExecuteWithOptions V → List TypedParam
-  params_as_read r = map (typed_as_read (request.as_long_data r)) (sent_params r)
+-- such an execution in a session of these capabilities, and what the server knows of the parameters
+pub record IsReadable (capabilities : CapabilityFlags) (bound : List BoundParam) (attributes : Option (List QueryAttribute)) (e : Execution) : Type 0 where
+  pub agreed : has_attributes capabilities ≡ is_some attributes
+  -- without parameters a server looks for attributes only where the flags say that there is a count
+  pub counted : has_some e.params ≡ false → has_some (list_of attributes) ≡ true → has (cursor_flags e.head) PARAMETER_COUNT_AVAILABLE ≡ true
+  pub few : length e.params + length (list_of attributes) + 7 < 2 ^ 64
+  pub fit : All SentFits e.params
+  pub attributes_fit : All SentFits (sent_attributes (list_of attributes))
+  pub known : KnowsAll (types_follow e) e.as_long_data bound e.params
+
+-- the bytes after the head
+abbrev pub bytes_after_head : Execution → List ℕ
+bytes_after_head e = count_bytes e ++ where_some (all_params e) (params_bytes e)
+
+-- the parameters and the attributes as they are read
+abbrev pub params_as_read : Execution → List TypedParam
+params_as_read e = map (param_read (types_follow e && has_names e) e.as_long_data) e.params
+
+abbrev pub attributes_as_read : Option (List QueryAttribute) → List Attribute
+attributes_as_read attributes = map attribute_read (list_of attributes)

@@ -1,20 +1,18 @@
 //! A query that is sent, with its attributes.
 #![tactic(auto)]
 
-ghost use Rattle.std.specs.Prelude.{◌≡◌, None, Some, IfOk};
+ghost use Rattle.std.specs.Prelude.{◌≡◌, None, Some, IfErr, IfOk, OnOk};
 ghost use Rattle.mysql_prepared.specs.ComQuery as spec;
-ghost use Rattle.mysql_prepared.specs.NullMarks.{MarksNulls};
+ghost use Rattle.mysql_prepared.specs.SentParam.{first_unspelled, sent_params};
 
-use crate::execute_param::QueryAttribute;
+use crate::execute_param::{AsExecuteParam, QueryAttribute};
 use crate::items::Items;
-use crate::null_bitmap::NullBitmap;
-use crate::null_marks::nulls_of;
-use crate::sent_params::{AsAttributeTypes, AsParamValues};
-use mysql_values::ClientSide;
+use crate::sent_nulls::SentNulls;
+use crate::sent_params::{AsValues, WrittenTypes};
+use crate::typed_param::{TypedExecutionError, first_unspelled};
 use mysql_wire::{
     Const, EofBytes, LenEnc, MySerialize, Parts, RawBytes, RawInt, ServerCommand, Sink, parts,
 };
-use std::alloc::{AllocError, Global};
 use std::borrow::CowSlice;
 
 /// `COM_QUERY`, as a client sends it: a query as text, and its attributes where both sides have CLIENT_QUERY_ATTRIBUTES.
@@ -37,9 +35,8 @@ use std::borrow::CowSlice;
 ///
 /// Once both sides have agreed to the flag, each query is to be sent with attributes, of which there may be none.
 #[derive(Clone, Debug, Drop)]
-pub struct ComQuery<'a> {
-    attributes: Option<&'a [QueryAttribute<'a>]>,
-    bitmap: NullBitmap<'a, ClientSide>,
+pub struct ComQuery<'a, A = QueryAttribute<'a>> {
+    attributes: Option<&'a [A]>,
     text: &'a [u8],
 }
 
@@ -51,33 +48,33 @@ impl<'a> ComQuery<'a> {
     {
         ComQuery {
             attributes: None,
-            bitmap: NullBitmap::from_bytes(CowSlice::Borrowed(&[])),
             text,
         }
     }
 
-    /// The same under CLIENT_QUERY_ATTRIBUTES, with these attributes. Their bitmap takes memory.
-    pub fn with_attributes(
+    /// The query for a session with CLIENT_QUERY_ATTRIBUTES, with these attributes, of which there may be none. It takes no memory.
+    ///
+    /// The first attribute whose type does not spell its value is refused as `UnspelledAttribute`.
+    pub fn with_attributes<A: AsExecuteParam>(
         self,
-        alloc: Global,
-        attributes: &'a [QueryAttribute<'a>],
-    ) -> Result<Self, AllocError>
+        attributes: &'a [A],
+    ) -> Result<ComQuery<'a, A>, TypedExecutionError>
         ensures text { IfOk result (λ q. spec.text q ≡ spec.text self.entry) }
         ensures attributes { IfOk result (λ q. spec.attributes q ≡ Some attributes.now) }
-        ensures bitmap { IfOk result (λ q. MarksNulls 0 (spec.attribute_contents attributes.now) (spec.bitmap q)) }
+        ensures spelled { OnOk result (first_unspelled (sent_params A.param A.named_type attributes.now) ≡ None) }
+        ensures refused { IfErr result (λ e. spec.RefusesAttribute (sent_params A.param A.named_type attributes.now) e) }
     {
-        // (no memory holds so large a bitmap)
-        if attributes.len() > usize::MAX - 8 {
-            return Err(AllocError);
+        if let Some(place) = first_unspelled(attributes) {
+            return Err(TypedExecutionError::UnspelledAttribute { place });
         }
-        let none: &[QueryAttribute<'_>] = &[];
         Ok(ComQuery {
             attributes: Some(attributes),
-            bitmap: nulls_of(alloc, none, attributes)?,
             text: self.text,
         })
     }
+}
 
+impl<'a, A> ComQuery<'a, A> {
     /// The bytes of the text.
     pub fn text(&self) -> &'a [u8]
         ensures value { result.now ≡ spec.text self.now }
@@ -86,7 +83,7 @@ impl<'a> ComQuery<'a> {
     }
 }
 
-impl<'a> ComQuery<'a> {
+impl<'a, A> ComQuery<'a, A> {
     /// The text, as it is written.
     #[inline(always)]
     fn raw_text(&self) -> RawBytes<'a, EofBytes>
@@ -119,15 +116,15 @@ impl<'a> ComQuery<'a> {
 
     /// The attributes, none where the query can have none.
     #[inline(always)]
-    fn listed(&self) -> &'a [QueryAttribute<'a>]
+    fn listed(&self) -> &'a [A]
         ensures value { result.now ≡ spec.listed self.now }
     {
         self.attributes.unwrap_or(&[])
     }
 }
 
-impl Parts for ComQuery<'_> {
-    ghost bytes = { spec.query_bytes };
+impl<A: AsExecuteParam> Parts for ComQuery<'_, A> {
+    ghost bytes = { spec.query_bytes A.param A.named_type };
 
     #[inline(always)]
     fn put<S: Sink>(&self, sink: &mut S) {
@@ -141,17 +138,22 @@ impl Parts for ComQuery<'_> {
             sink.part(&parts!(head, text));
             return;
         }
+        let none: &[A] = &[];
+        let nulls = SentNulls {
+            params: attributes,
+            attributes: none,
+        };
         let new_params_bound: RawInt<u8> = RawInt::new(1);
-        let types = Items {
+        let types = WrittenTypes {
             items: attributes,
-            form: AsAttributeTypes,
+            has_names: true,
         };
         let values = Items {
             items: attributes,
-            form: AsParamValues {
+            form: AsValues {
                 as_long_data: false,
             },
         };
-        sink.part(&parts!(head, self.bitmap, new_params_bound, types, values, text));
+        sink.part(&parts!(head, nulls, new_params_bound, types, values, text));
     }
 }

@@ -5,9 +5,9 @@ ghost use Rattle.std.specs.Prelude.{◌≡◌};
 ghost use Rattle.mysql_wire.specs.Form.{size-block};
 ghost use Rattle.mysql_prepared.specs.ExecuteHead as spec;
 
-use crate::execute::{ComStmtExecuteHeader, IterationCount};
+use crate::execute::ComStmtExecuteHeader;
 use mysql_wire::{
-    Const, ConstU8, ConstU32, CursorType, FaultOf, Fixed, LeU32, MyDeserialize, ParseBuf, Parts,
+    Const, ConstU8, CursorType, FaultOf, Fixed, Flags, LeU32, MyDeserialize, ParseBuf, Parts,
     RawInt, Sink, parts,
 };
 
@@ -20,20 +20,21 @@ use mysql_wire::{
 /// |---|---|
 /// | 1 | the byte `17` |
 /// | 4 | the statement's number |
-/// | 1 | flags: which cursor is opened |
-/// | 4 | the count of executions, always 1 |
+/// | 1 | flags: the cursor that is opened, and 8 (`PARAMETER_COUNT_AVAILABLE`) |
+/// | 4 | the iteration count |
 ///
-/// Fewer than 10 bytes are refused as `UnexpectedEof`, another first byte or count as `InvalidData`.
+/// Fewer than 10 bytes are refused as `UnexpectedEof`, another first byte as `InvalidData`. Clients send an iteration count of 1;
+/// servers ignore it (`parse_packet` in `sql/protocol_classic.cc`), so any number is read.
 #[derive(Clone, Debug, PartialEq, Eq, Drop)]
 pub struct ComStmtExecuteHead {
     header: ComStmtExecuteHeader,
     stmt_id: RawInt<LeU32>,
     flags: Const<CursorType, u8>,
-    iteration_count: IterationCount,
+    iteration_count: RawInt<LeU32>,
 }
 
 impl ComStmtExecuteHead {
-    /// The head of an execution of the statement of that number, with these flags.
+    /// The head of an execution of the statement of that number, with these flags and an iteration count of 1.
     pub fn new(stmt_id: u32, flags: CursorType) -> Self
         ensures stmt_id { spec.stmt_id result ≡ stmt_id }
         ensures flags { spec.cursor_flags result ≡ flags.0 }
@@ -43,7 +44,7 @@ impl ComStmtExecuteHead {
             header: ConstU8::new(),
             stmt_id: RawInt::new(stmt_id),
             flags: Const::new(flags),
-            iteration_count: ConstU32::new(),
+            iteration_count: RawInt::new(1),
         }
     }
 
@@ -54,11 +55,47 @@ impl ComStmtExecuteHead {
         self.stmt_id.0
     }
 
-    /// Which cursor is opened.
+    /// The whole byte of flags: the cursor, and whether a parameter count is available.
     pub fn flags(&self) -> CursorType
         ensures value { result.0 ≡ spec.cursor_flags self.now }
     {
         self.flags.0
+    }
+
+    /// The cursor that is opened: the flags without `PARAMETER_COUNT_AVAILABLE`.
+    pub fn cursor(&self) -> CursorType
+        ensures value { result.0 ≡ spec.cursor self.now }
+    {
+        self.flags
+            .0
+            .difference(CursorType::PARAMETER_COUNT_AVAILABLE)
+    }
+
+    /// Whether the flags have `PARAMETER_COUNT_AVAILABLE`: under CLIENT_QUERY_ATTRIBUTES a count follows then, also where the
+    /// statement has no parameters.
+    pub fn has_parameter_count(&self) -> bool
+        ensures value { result ≡ spec.has_parameter_count self.now }
+    {
+        self.flags.0.contains(CursorType::PARAMETER_COUNT_AVAILABLE)
+    }
+
+    /// The iteration count.
+    pub fn iteration_count(&self) -> u32
+        ensures value { result ≡ spec.iteration_count self.now }
+    {
+        self.iteration_count.0
+    }
+
+    /// The head with another iteration count.
+    pub fn with_iteration_count(self, iteration_count: u32) -> Self
+        ensures value { result ≡ spec.with_count iteration_count self }
+    {
+        ComStmtExecuteHead {
+            header: self.header,
+            stmt_id: self.stmt_id,
+            flags: self.flags,
+            iteration_count: RawInt::new(iteration_count),
+        }
     }
 }
 
@@ -78,7 +115,7 @@ impl<'de> MyDeserialize<'de> for ComStmtExecuteHead {
             header: fields.parse_unchecked(())?,
             stmt_id: RawInt::take(&mut fields),
             flags: fields.parse_unchecked(())?,
-            iteration_count: fields.parse_unchecked(())?,
+            iteration_count: RawInt::take(&mut fields),
         })
     }
 

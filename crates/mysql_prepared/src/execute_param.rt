@@ -1,4 +1,5 @@
 //! What an execution sends of a parameter.
+#![tactic(auto, using(crate::proofs::SentBytes::plain))]
 
 ghost use Rattle.std.specs.Prelude.{◌≡◌, ◌+◌, ◌++◌, ◌≤◌, length, drop};
 ghost use Rattle.mysql_wire.specs.Writing.{saturated};
@@ -6,10 +7,11 @@ ghost use Rattle.mysql_values.specs.ParamType.{type_of};
 ghost use Rattle.mysql_prepared.specs.BinaryRow.{bin_in, takes};
 ghost use Rattle.mysql_prepared.specs.ExecuteParam as spec;
 ghost use Rattle.mysql_prepared.specs.NullMarks.{is_null};
+ghost use Rattle.mysql_prepared.specs.SentParam.{bytes_under, is_spelled_under};
 
 use crate::binary_row::{append_cell, cell_len, takes};
-use crate::sent_params::{append_sent, sent_len, typed_value};
-use mysql_values::{ParamType, Value, ValueRef};
+use crate::sent_params::{append_plain, append_sent, is_spelled, plain_len, sent_len, typed_value};
+use mysql_values::{DateTimeWithOffset, ParamType, ParamValue, Value, ValueRef};
 use mysql_wire::{Buffer, ColumnType, MySerialize};
 
 /// A parameter of an execution: a value, or one whose data was sent ahead.
@@ -17,6 +19,8 @@ use mysql_wire::{Buffer, ColumnType, MySerialize};
 pub enum ExecuteParam<'a> {
     /// A value that the request sends.
     Value(ValueRef<'a>),
+    /// A date and a time with an offset from UTC that the request sends, under the type `DATETIME` or `TIMESTAMP`.
+    DateTimeWithOffset(DateTimeWithOffset),
     /// The data was sent ahead by [`ComStmtSendLongData`](crate::ComStmtSendLongData): the request sends the type of a byte
     /// string, and no value.
     SentAhead,
@@ -24,16 +28,27 @@ pub enum ExecuteParam<'a> {
 
 /// A type whose values are parameters of an execution.
 ///
-/// [`as_execute_param`](Self::as_execute_param) says all of them. A type that knows some of the rest without it, as by a kind
-/// of its own, may say so by the other methods.
+/// [`as_execute_param`](Self::as_execute_param), [`sent_type`](Self::sent_type) and [`name`](Self::name) say all of them. A type that knows
+/// some of the rest without these may implement the other methods too.
 pub trait AsExecuteParam {
     ghost use Rattle.mysql_prepared.specs.ExecuteParam.{Param};
+    ghost use Rattle.mysql_prepared.specs.SentTypes.{NamedType};
 
     ghost param: { Self → Param };
+
+    ghost named_type: { Self → NamedType };
 
     /// The parameter.
     fn as_execute_param(&self) -> ExecuteParam<'_>
         ensures value { spec.param_of result ≡ param self.now };
+
+    /// The type that it is sent as. Where none is chosen, that is the type of its value, and of a byte string where it was sent ahead.
+    fn sent_type(&self) -> ParamType
+        ensures value { result ≡ (named_type self.now).param_type };
+
+    /// The name, which is sent under CLIENT_QUERY_ATTRIBUTES: empty where it has none.
+    fn name(&self) -> &[u8]
+        ensures value { result.now ≡ (named_type self.now).name };
 
     /// Whether it is NULL, which one that was sent ahead is not.
     #[inline(always)]
@@ -43,32 +58,32 @@ pub trait AsExecuteParam {
         matches!(typed_value(self.as_execute_param()), ValueRef::NULL)
     }
 
-    /// The type that it is sent as: that of a byte string, where it was sent ahead.
+    /// Whether the type spells the value, if the request sends one.
     #[inline(always)]
-    fn sent_type(&self) -> ParamType
-        ensures value { result ≡ type_of (spec.value_of (param self.now)) }
+    fn is_spelled(&self) -> bool
+        ensures value { result ≡ is_spelled_under (named_type self.now).param_type (param self.now) }
     {
-        ParamType::from_value_ref(&typed_value(self.as_execute_param()))
+        is_spelled(self.sent_type(), self.as_execute_param())
     }
 
     /// How many bytes of it the request has, where byte strings are long data or not; or `usize::MAX` where that is less.
     #[inline(always)]
     fn sent_len(&self, as_long_data: bool) -> usize
-        ensures value { result ≡ saturated (length (spec.param_bytes as_long_data (param self.now))) }
+        ensures value { result ≡ saturated (length (bytes_under as_long_data (named_type self.now).param_type (param self.now))) }
     {
-        sent_len(self.as_execute_param(), as_long_data)
+        sent_len(self.sent_type(), self.as_execute_param(), as_long_data)
     }
 
     /// Writes the bytes of it that the request has, for which there is capacity.
     #[inline(always)]
     fn append_sent<O: Buffer>(&self, as_long_data: bool, out: &mut O)
-        requires { length (O.held out.old) + length (spec.param_bytes as_long_data (param self.now)) ≤ O.capacity out.old }
-        ensures items { O.held out.new ≡ O.held out.old ++ spec.param_bytes as_long_data (param self.now) }
-        ensures after { O.after out.new ≡ drop (length (spec.param_bytes as_long_data (param self.now))) (O.after out.old) }
+        requires { length (O.held out.old) + length (bytes_under as_long_data (named_type self.now).param_type (param self.now)) ≤ O.capacity out.old }
+        ensures items { O.held out.new ≡ O.held out.old ++ bytes_under as_long_data (named_type self.now).param_type (param self.now) }
+        ensures after { O.after out.new ≡ drop (length (bytes_under as_long_data (named_type self.now).param_type (param self.now))) (O.after out.old) }
         ensures capacity { O.capacity out.old ≤ O.capacity out.new }
         ensures kept { O.kept out.new ≡ O.kept out.old }
     {
-        append_sent(self.as_execute_param(), as_long_data, out);
+        append_sent(self.sent_type(), self.as_execute_param(), as_long_data, out);
     }
 
     /// Whether it is a value that a column of the type takes, in a binary row.
@@ -106,20 +121,52 @@ pub trait AsExecuteParam {
 
 impl AsExecuteParam for ExecuteParam<'_> {
     ghost use Rattle.mysql_prepared.specs.ExecuteParam.{param_of};
+    ghost use Rattle.mysql_prepared.specs.SentParam.{type_of_param};
 
     ghost param = { param_of };
+
+    ghost named_type = { λ p. type_of_param (param_of p) };
 
     #[inline(always)]
     fn as_execute_param(&self) -> ExecuteParam<'_> {
         *self
     }
+
+    #[inline(always)]
+    fn sent_type(&self) -> ParamType {
+        ParamType::from_value_ref(&typed_value(*self))
+    }
+
+    #[inline(always)]
+    fn name(&self) -> &[u8] {
+        &[]
+    }
+
+    #[inline(always)]
+    fn is_spelled(&self) -> bool {
+        true
+    }
+
+    #[inline(always)]
+    fn sent_len(&self, as_long_data: bool) -> usize {
+        plain_len(*self, as_long_data)
+    }
+
+    #[inline(always)]
+    fn append_sent<O: Buffer>(&self, as_long_data: bool, out: &mut O) {
+        append_plain(*self, as_long_data, out);
+    }
 }
 
 impl AsExecuteParam for ValueRef<'_> {
     ghost use Rattle.mysql_values.specs.ValueRef.{ref_content};
+    ghost use Rattle.mysql_values.specs.ParamValue.{Plain};
     ghost use Rattle.mysql_prepared.specs.ExecuteParam.{Sent};
+    ghost use Rattle.mysql_prepared.specs.SentParam.{type_of_param};
 
-    ghost param = { λ value. Sent (ref_content value) };
+    ghost param = { λ value. Sent (Plain (ref_content value)) };
+
+    ghost named_type = { λ value. type_of_param (Sent (Plain (ref_content value))) };
 
     #[inline(always)]
     fn as_execute_param(&self) -> ExecuteParam<'_> {
@@ -134,6 +181,16 @@ impl AsExecuteParam for ValueRef<'_> {
     #[inline(always)]
     fn sent_type(&self) -> ParamType {
         ParamType::from_value_ref(self)
+    }
+
+    #[inline(always)]
+    fn name(&self) -> &[u8] {
+        &[]
+    }
+
+    #[inline(always)]
+    fn is_spelled(&self) -> bool {
+        true
     }
 
     #[inline(always)]
@@ -171,9 +228,13 @@ impl AsExecuteParam for ValueRef<'_> {
 
 impl AsExecuteParam for Value {
     ghost use Rattle.mysql_values.specs.Value.{content_of};
+    ghost use Rattle.mysql_values.specs.ParamValue.{Plain};
     ghost use Rattle.mysql_prepared.specs.ExecuteParam.{Sent};
+    ghost use Rattle.mysql_prepared.specs.SentParam.{type_of_param};
 
-    ghost param = { λ value. Sent (content_of value) };
+    ghost param = { λ value. Sent (Plain (content_of value)) };
+
+    ghost named_type = { λ value. type_of_param (Sent (Plain (content_of value))) };
 
     #[inline(always)]
     fn as_execute_param(&self) -> ExecuteParam<'_> {
@@ -189,26 +250,94 @@ impl AsExecuteParam for Value {
     fn sent_type(&self) -> ParamType {
         ParamType::from_value(self)
     }
+
+    #[inline(always)]
+    fn name(&self) -> &[u8] {
+        &[]
+    }
+
+    #[inline(always)]
+    fn is_spelled(&self) -> bool {
+        true
+    }
+
+    #[inline(always)]
+    fn sent_len(&self, as_long_data: bool) -> usize {
+        plain_len(ExecuteParam::Value(self.as_ref()), as_long_data)
+    }
+
+    #[inline(always)]
+    fn append_sent<O: Buffer>(&self, as_long_data: bool, out: &mut O) {
+        append_plain(ExecuteParam::Value(self.as_ref()), as_long_data, out);
+    }
 }
 
-/// An attribute of a query: a name and a value that a client sends beside the parameters, under CLIENT_QUERY_ATTRIBUTES.
+/// An attribute of a query or an execution: a name and a value that a client sends beside the parameters, under
+/// CLIENT_QUERY_ATTRIBUTES.
 #[derive(Clone, Copy, Debug, PartialEq)]
 pub struct QueryAttribute<'a> {
+    /// The type of the value.
+    pub param_type: ParamType,
     /// The name.
     pub name: &'a [u8],
     /// The value.
-    pub value: ValueRef<'a>,
+    pub value: ParamValue<'a>,
 }
 
-/// As a parameter an attribute is its value.
-impl AsExecuteParam for QueryAttribute<'_> {
+impl<'a> QueryAttribute<'a> {
     ghost use Rattle.mysql_values.specs.ValueRef.{ref_content};
-    ghost use Rattle.mysql_prepared.specs.ExecuteParam.{Sent};
+    ghost use Rattle.mysql_values.specs.ParamValue.{Plain, param_content};
 
-    ghost param = { λ attribute. Sent (ref_content attribute.value) };
+    /// The attribute of this name and value, under the type that the value is sent as.
+    pub fn new(name: &'a [u8], value: ValueRef<'a>) -> Self
+        ensures param_type { result.param_type ≡ type_of (ref_content value.entry) }
+        ensures name { result.name.now ≡ name.now }
+        ensures value { param_content result.value ≡ Plain (ref_content value.entry) }
+    {
+        QueryAttribute {
+            param_type: ParamType::from_value_ref(&value),
+            name,
+            value: ParamValue::Value(value),
+        }
+    }
+}
+
+impl<'a> ExecuteParam<'a> {
+    ghost use Rattle.mysql_values.specs.ParamValue.{param_content};
+
+    /// The parameter whose value the request sends.
+    #[inline(always)]
+    pub fn sent(value: ParamValue<'a>) -> Self
+        ensures value { spec.param_of result ≡ spec.Sent (param_content value.entry) }
+    {
+        match value {
+            ParamValue::Value(value) => ExecuteParam::Value(value),
+            ParamValue::DateTimeWithOffset(date) => ExecuteParam::DateTimeWithOffset(date),
+        }
+    }
+}
+
+/// It is sent as its value, with its own type and name.
+impl AsExecuteParam for QueryAttribute<'_> {
+    ghost use Rattle.mysql_prepared.specs.ExecuteParam.{attribute_param};
+    ghost use Rattle.mysql_prepared.specs.SentParam.{attribute_type};
+
+    ghost param = { attribute_param };
+
+    ghost named_type = { attribute_type };
 
     #[inline(always)]
     fn as_execute_param(&self) -> ExecuteParam<'_> {
-        ExecuteParam::Value(self.value)
+        ExecuteParam::sent(self.value)
+    }
+
+    #[inline(always)]
+    fn sent_type(&self) -> ParamType {
+        self.param_type
+    }
+
+    #[inline(always)]
+    fn name(&self) -> &[u8] {
+        self.name
     }
 }

@@ -56,7 +56,7 @@ impl<'a> ExecuteParams<'a> {
         ensures fits { IfOk result (λ p. length values.now ≤ 65535 → 10 + length (params_bytes p) ≤ max_payload) }
     {
         Ok(ExecuteParams {
-            bitmap: nulls_of(alloc, values, &[])?,
+            bitmap: nulls_of(alloc, values)?,
             flags: Const::new(StmtExecuteParamsFlags::NEW_PARAMS_BOUND),
             values,
             as_long_data: whole_len(values) > MAX_PAYLOAD_LEN,

@@ -1,29 +1,24 @@
-//! One execution of a prepared statement, with what it can be asked for beside its values.
+//! The builder of executions of a prepared statement.
 
-ghost use Rattle.std.specs.Prelude.{◌≡◌, ◌≤◌, ◌<◌, ◌^◌, ◌↔◌, ◌+◌, IsTrue, IfOk, None, Some, length};
+ghost use Rattle.std.specs.Prelude.{◌≡◌, ◌≢◌, ◌+◌, ◌++◌, ◌<◌, ◌≤◌, IfOk, IfErr, OnErr, OnOk, true, false, Some, None, Err, drop, length, vec_len, vec_capacity};
 ghost use Rattle.std.specs.Option.{option_copied};
 ghost use Rattle.mysql_wire.specs.Writing.{saturated};
-ghost use Rattle.mysql_prepared.specs.NullMarks.{MarksNulls};
-ghost use Rattle.mysql_prepared.specs.Payload.{max_payload};
+ghost use Rattle.mysql_prepared.specs.Execution.{execution_bytes};
+ghost use Rattle.mysql_prepared.specs.ExecuteHead as execute_head;
 ghost use Rattle.mysql_prepared.specs.ExecuteWithOptions as request;
+ghost use Rattle.mysql_prepared.specs.ExecuteParam.{attribute_param};
+ghost use Rattle.mysql_prepared.specs.SentParam.{attribute_type, sent_params};
+ghost use Rattle.mysql_prepared.specs.declared.typed_param.TypedExecutionError.TheVariants as refusal;
 
 use crate::execute::ComStmtExecuteRequestBuilder;
 use crate::execute_head::ComStmtExecuteHead;
 use crate::execute_param::{AsExecuteParam, QueryAttribute};
-use crate::items::Items;
-use crate::null_bitmap::NullBitmap;
-use crate::null_marks::nulls_of;
+use crate::execution::ComStmtExecuteWithOptions;
+use crate::items::put_over;
 use crate::payload::MAX_PAYLOAD_LEN;
-use crate::sent_params::{AsAttributeTypes, AsParamTypes, AsParamValues};
-use mysql_values::ClientSide;
-use mysql_wire::{
-    Const, CursorType, Flags, LenEnc, MySerialize, Parts, RawInt, Sink, StmtExecuteParamsFlags,
-    parts,
-};
-use std::alloc::{AllocError, Global};
-
-/// The flag PARAMETER_COUNT_AVAILABLE: a count of parameters and attributes follows.
-const PARAMETER_COUNT_AVAILABLE: u8 = 8;
+use crate::typed_param::{TypedExecutionError, first_unspelled};
+use mysql_wire::{CursorType, Flags, MySerialize};
+use std::mem;
 
 /// Which cursor an execution opens over its rows: `COM_STMT_FETCH` asks for them.
 #[derive(Clone, Copy, Debug, PartialEq, Eq)]
@@ -37,312 +32,393 @@ pub enum Cursor {
 }
 
 /// The flags of an execution that opens this cursor.
-pub(crate) fn cursor_bits(cursor: Option<Cursor>) -> u8
-    ensures value { result ≡ request.cursor_bits cursor }
+fn cursor_type(cursor: Cursor) -> CursorType
+    ensures value { result.0 ≡ request.cursor_bits cursor }
 {
     match cursor {
-        None => 0,
-        Some(Cursor::ReadOnly) => 1,
-        Some(Cursor::ForUpdate) => 2,
-        Some(Cursor::Scrollable) => 4,
+        Cursor::ReadOnly => CursorType::CURSOR_TYPE_READ_ONLY,
+        Cursor::ForUpdate => CursorType::CURSOR_TYPE_FOR_UPDATE,
+        Cursor::Scrollable => CursorType::CURSOR_TYPE_SCROLLABLE,
     }
 }
 
-/// Makes the request of one execution that is asked for more than its values: a cursor, attributes of the query.
+/// Makes executions of a prepared statement with options: a cursor, types of an earlier execution, attributes of the query.
+///
+/// ```
+/// // a proxy that writes an execution again as it was read
+/// let builder = ComStmtExecuteOptionsBuilder {
+///     sends_types: view.sends_types(),
+///     attributes: Some(&attributes), // None without CLIENT_QUERY_ATTRIBUTES
+///     ..ComStmtExecuteOptionsBuilder::from_head(&head)
+/// };
+/// let as_long_data = builder.write_ref(&params, out)?;
+/// ```
 #[derive(Clone, Copy, Debug, PartialEq)]
-pub struct ComStmtExecuteOptionsBuilder<'a> {
-    /// The number that the server gave the statement.
+pub struct ComStmtExecuteOptionsBuilder<'a, A = QueryAttribute<'a>> {
+    /// The statement's number.
     pub stmt_id: u32,
-    /// The cursor that is opened.
-    pub cursor: Option<Cursor>,
-    /// The attributes of the query, where CLIENT_QUERY_ATTRIBUTES is agreed to: none, or some.
-    pub attributes: Option<&'a [QueryAttribute<'a>]>,
+    /// The cursor that is opened, and `PARAMETER_COUNT_AVAILABLE`.
+    pub flags: CursorType,
+    /// The iteration count, which servers ignore: 1 in executions of clients.
+    pub iteration_count: u32,
+    /// Whether the types of parameters are sent. Without them the server reads the values by the types that it was sent last. Where there
+    /// are attributes, types are sent in any case.
+    pub sends_types: bool,
+    /// The attributes of the query, `None` where CLIENT_QUERY_ATTRIBUTES is not agreed on: of any type that is a parameter, with a name.
+    pub attributes: Option<&'a [A]>,
+}
+
+impl ComStmtExecuteOptionsBuilder<'static> {
+    /// The builder of executions of the statement of that number that send types, without a cursor, for a session without
+    /// CLIENT_QUERY_ATTRIBUTES.
+    pub fn new(stmt_id: u32) -> Self
+        ensures stmt_id { result.stmt_id ≡ stmt_id }
+        ensures flags { result.flags.0 ≡ 0 }
+        ensures iteration_count { result.iteration_count ≡ 1 }
+        ensures sends_types { result.sends_types ≡ true }
+        ensures attributes { option_copied result.attributes ≡ None }
+        ensures asked { request.asked attribute_param attribute_type result ≡ request.asked_plainly stmt_id }
+    {
+        ComStmtExecuteOptionsBuilder {
+            stmt_id,
+            flags: CursorType::CURSOR_TYPE_NO_CURSOR,
+            iteration_count: 1,
+            sends_types: true,
+            attributes: None,
+        }
+    }
+
+    /// The builder of executions with the head of one that was read: the same statement, flags and iteration count. They send types and
+    /// have no attributes.
+    pub fn from_head(head: &ComStmtExecuteHead) -> Self
+        ensures stmt_id { result.stmt_id ≡ execute_head.stmt_id head.now }
+        ensures flags { result.flags.0 ≡ execute_head.cursor_flags head.now }
+        ensures iteration_count { result.iteration_count ≡ execute_head.iteration_count head.now }
+        ensures sends_types { result.sends_types ≡ true }
+        ensures attributes { option_copied result.attributes ≡ None }
+    {
+        ComStmtExecuteOptionsBuilder {
+            stmt_id: head.stmt_id(),
+            flags: head.flags(),
+            iteration_count: head.iteration_count(),
+            sends_types: true,
+            attributes: None,
+        }
+    }
 }
 
 impl ComStmtExecuteRequestBuilder {
     /// The builder of an execution that opens a cursor.
     pub fn with_cursor(self, cursor: Cursor) -> ComStmtExecuteOptionsBuilder<'static>
         ensures stmt_id { result.stmt_id ≡ self.stmt_id }
-        ensures cursor { result.cursor ≡ Some cursor }
+        ensures flags { result.flags.0 ≡ request.with_cursor 0 cursor }
+        ensures iteration_count { result.iteration_count ≡ 1 }
+        ensures sends_types { result.sends_types ≡ true }
         ensures attributes { option_copied result.attributes ≡ None }
     {
-        ComStmtExecuteOptionsBuilder {
-            stmt_id: self.stmt_id,
-            cursor: Some(cursor),
-            attributes: None,
-        }
+        ComStmtExecuteOptionsBuilder::new(self.stmt_id).with_cursor(cursor)
     }
 
-    /// The builder of an execution under CLIENT_QUERY_ATTRIBUTES, with these attributes of the query, of which there may be none.
-    ///
-    /// Once both sides have agreed to the flag, each execution is to be built so.
-    pub fn with_query_attributes<'a>(
-        self,
-        attributes: &'a [QueryAttribute<'a>],
-    ) -> ComStmtExecuteOptionsBuilder<'a>
+    /// The builder of an execution that sends no types: the server reads the values by the types that it was sent last for the
+    /// statement.
+    pub fn with_earlier_types(self) -> ComStmtExecuteOptionsBuilder<'static>
         ensures stmt_id { result.stmt_id ≡ self.stmt_id }
-        ensures cursor { result.cursor ≡ None }
+        ensures flags { result.flags.0 ≡ 0 }
+        ensures iteration_count { result.iteration_count ≡ 1 }
+        ensures sends_types { result.sends_types ≡ false }
+        ensures attributes { option_copied result.attributes ≡ None }
+    {
+        ComStmtExecuteOptionsBuilder::new(self.stmt_id).with_earlier_types()
+    }
+
+    /// The builder of an execution under CLIENT_QUERY_ATTRIBUTES with these attributes of the query, of which there may be none.
+    ///
+    /// Once both sides have agreed on the flag, each execution is to be built this way.
+    pub fn with_query_attributes<'a, A>(
+        self,
+        attributes: &'a [A],
+    ) -> ComStmtExecuteOptionsBuilder<'a, A>
+        ensures stmt_id { result.stmt_id ≡ self.stmt_id }
+        ensures flags { result.flags.0 ≡ request.counted 0 }
+        ensures iteration_count { result.iteration_count ≡ 1 }
+        ensures sends_types { result.sends_types ≡ true }
         ensures attributes { option_copied result.attributes ≡ Some attributes.now }
     {
-        ComStmtExecuteOptionsBuilder {
-            stmt_id: self.stmt_id,
-            cursor: None,
-            attributes: Some(attributes),
-        }
+        ComStmtExecuteOptionsBuilder::new(self.stmt_id).with_query_attributes(attributes)
     }
 
-    /// The request that executes the statement with these parameters, and whether byte strings are long data: as
-    /// [`build`](Self::build), for values that lie elsewhere, and for parameters whose data was sent ahead.
+    /// The request that executes the statement with these parameters, and whether byte strings are long data:
+    /// [`ComStmtExecuteOptionsBuilder::build_ref`] without options.
     ///
     /// ```
     /// let builder = ComStmtExecuteRequestBuilder {
     ///     stmt_id: statement_id,
     /// };
-    /// let (made, _as_long_data) = builder.build_ref(alloc, params)?;
+    /// let (made, _as_long_data) = builder.build_ref(params)?;
     /// ```
     pub fn build_ref<'a, V: AsExecuteParam>(
         self,
-        alloc: Global,
         params: &'a [V],
-    ) -> Result<(ComStmtExecuteWithOptions<'a, V>, bool), AllocError>
-        ensures stmt_id { IfOk result (λ made. request.stmt_id made.0 ≡ self.stmt_id) }
-        ensures flags { IfOk result (λ made. request.flags made.0 ≡ 0) }
-        ensures bitmap { IfOk result (λ made. MarksNulls 0 (request.values V.param made.0) (request.bitmap made.0)) }
+    ) -> Result<(ComStmtExecuteWithOptions<'a, V>, bool), TypedExecutionError>
         ensures params { IfOk result (λ made. request.params made.0 ≡ params.now) }
-        ensures few { IfOk result (λ made. length params.now + 7 < 2 ^ 64) }
-        ensures attributes { IfOk result (λ made. request.attributes made.0 ≡ None) }
-        ensures as_long_data { IfOk result (λ made. IsTrue (request.as_long_data made.0) ↔ (max_payload < length (request.whole_bytes V.param made.0))) }
-        ensures answer { IfOk result (λ made. made.1 ≡ request.as_long_data made.0) }
+        ensures made { IfOk result (λ made. request.execution_of V.param V.named_type attribute_param attribute_type made.0 ≡ request.asked_plainly self.stmt_id (sent_params V.param V.named_type params.now) made.1) }
+        ensures as_long_data { IfOk result (λ made. request.IsAsLong (request.asked_plainly self.stmt_id (sent_params V.param V.named_type params.now)) made.1) }
+        ensures spelled { OnOk result (request.IsSpelled (request.asked_plainly self.stmt_id (sent_params V.param V.named_type params.now))) }
+        ensures refused { IfErr result (λ e. request.Refuses (request.asked_plainly self.stmt_id (sent_params V.param V.named_type params.now)) e) }
+        ensures no_memory { result ≢ Err refusal.Memory }
     {
-        ComStmtExecuteOptionsBuilder {
-            stmt_id: self.stmt_id,
-            cursor: None,
-            attributes: None,
-        }
-        .build(alloc, params)
+        ComStmtExecuteOptionsBuilder::new(self.stmt_id).build_ref(params)
+    }
+
+    /// Writes the execution with these parameters to the end of a buffer: [`ComStmtExecuteOptionsBuilder::write_ref`] without options.
+    pub fn write_ref<V: AsExecuteParam>(
+        self,
+        params: &[V],
+        out: &mut Vec<u8>,
+    ) -> Result<bool, TypedExecutionError>
+        ensures written { IfOk result (λ long. out.new.items ≡ out.old.items ++ execution_bytes (request.asked_plainly self.stmt_id (sent_params V.param V.named_type params.now) long)) }
+        ensures as_long_data { IfOk result (λ long. request.IsAsLong (request.asked_plainly self.stmt_id (sent_params V.param V.named_type params.now)) long) }
+        ensures spelled { OnOk result (request.IsSpelled (request.asked_plainly self.stmt_id (sent_params V.param V.named_type params.now))) }
+        ensures refused { IfErr result (λ e. request.Refuses (request.asked_plainly self.stmt_id (sent_params V.param V.named_type params.now)) e) }
+        ensures err { OnErr result (out.new.items ≡ out.old.items) }
+        ensures capacity { vec_capacity out.old ≤ vec_capacity out.new }
+        ensures no_memory { vec_len out.old + length (request.written_bytes (request.asked_plainly self.stmt_id (sent_params V.param V.named_type params.now))) ≤ vec_capacity out.old → result ≢ Err refusal.Memory }
+    {
+        ComStmtExecuteOptionsBuilder::new(self.stmt_id).write_ref(params, out)
+    }
+
+    /// Writes the execution with these parameters to the front of a slice: [`ComStmtExecuteOptionsBuilder::write_to_slice`] without
+    /// options.
+    pub fn write_to_slice<V: AsExecuteParam>(
+        self,
+        params: &[V],
+        out: &mut [u8],
+    ) -> Result<(usize, bool), TypedExecutionError>
+        ensures len { IfOk result (λ answer. answer.0 ≡ saturated (length (execution_bytes (request.asked_plainly self.stmt_id (sent_params V.param V.named_type params.now) answer.1)))) }
+        ensures as_long_data { IfOk result (λ answer. request.IsAsLong (request.asked_plainly self.stmt_id (sent_params V.param V.named_type params.now)) answer.1) }
+        ensures written { IfOk result (λ answer. answer.0 ≤ length out.old → out.new ≡ execution_bytes (request.asked_plainly self.stmt_id (sent_params V.param V.named_type params.now) answer.1) ++ drop answer.0 out.old) }
+        ensures small { IfOk result (λ answer. length out.old < answer.0 → out.new ≡ out.old) }
+        ensures spelled { OnOk result (request.IsSpelled (request.asked_plainly self.stmt_id (sent_params V.param V.named_type params.now))) }
+        ensures refused { IfErr result (λ e. request.Refuses (request.asked_plainly self.stmt_id (sent_params V.param V.named_type params.now)) e) }
+        ensures err { OnErr result (out.new ≡ out.old) }
+        ensures no_memory { result ≢ Err refusal.Memory }
+    {
+        ComStmtExecuteOptionsBuilder::new(self.stmt_id).write_to_slice(params, out)
     }
 }
 
-impl<'a> ComStmtExecuteOptionsBuilder<'a> {
-    /// The same with a cursor.
+impl<'a, A> ComStmtExecuteOptionsBuilder<'a, A> {
+    /// Opens this cursor in place of another.
     pub fn with_cursor(self, cursor: Cursor) -> Self
         ensures stmt_id { result.stmt_id ≡ self.entry.stmt_id }
-        ensures cursor { result.cursor ≡ Some cursor }
+        ensures flags { result.flags.0 ≡ request.with_cursor self.entry.flags.0 cursor }
+        ensures iteration_count { result.iteration_count ≡ self.entry.iteration_count }
+        ensures sends_types { result.sends_types ≡ self.entry.sends_types }
+        ensures attributes { option_copied result.attributes ≡ option_copied self.entry.attributes }
+    {
+        let count = self
+            .flags
+            .intersection(CursorType::PARAMETER_COUNT_AVAILABLE);
+        ComStmtExecuteOptionsBuilder {
+            flags: cursor_type(cursor).union(count),
+            ..self
+        }
+    }
+
+    /// Sends no types: the server reads the values by the types that it was sent last for the statement. The types of parameters are
+    /// those of that execution.
+    pub fn with_earlier_types(self) -> Self
+        ensures stmt_id { result.stmt_id ≡ self.entry.stmt_id }
+        ensures flags { result.flags.0 ≡ self.entry.flags.0 }
+        ensures iteration_count { result.iteration_count ≡ self.entry.iteration_count }
+        ensures sends_types { result.sends_types ≡ false }
         ensures attributes { option_copied result.attributes ≡ option_copied self.entry.attributes }
     {
         ComStmtExecuteOptionsBuilder {
-            cursor: Some(cursor),
+            sends_types: false,
             ..self
         }
     }
 
-    /// The same under CLIENT_QUERY_ATTRIBUTES, with these attributes in place of others.
-    pub fn with_query_attributes(self, attributes: &'a [QueryAttribute<'a>]) -> Self
+    /// Builds executions for a session with CLIENT_QUERY_ATTRIBUTES, with these attributes in place of others. A count is sent with each
+    /// (`PARAMETER_COUNT_AVAILABLE`).
+    pub fn with_query_attributes<'b, B>(
+        self,
+        attributes: &'b [B],
+    ) -> ComStmtExecuteOptionsBuilder<'b, B>
         ensures stmt_id { result.stmt_id ≡ self.entry.stmt_id }
-        ensures cursor { result.cursor ≡ self.entry.cursor }
+        ensures flags { result.flags.0 ≡ request.counted self.entry.flags.0 }
+        ensures iteration_count { result.iteration_count ≡ self.entry.iteration_count }
+        ensures sends_types { result.sends_types ≡ self.entry.sends_types }
         ensures attributes { option_copied result.attributes ≡ Some attributes.now }
     {
         ComStmtExecuteOptionsBuilder {
+            stmt_id: self.stmt_id,
+            flags: self.flags.union(CursorType::PARAMETER_COUNT_AVAILABLE),
+            iteration_count: self.iteration_count,
+            sends_types: self.sends_types,
             attributes: Some(attributes),
-            ..self
         }
     }
 
-    /// The request that executes the statement with these parameters, and whether byte strings are long data.
-    ///
-    /// They are where the request with all its values is past 16,777,215 bytes. The request leaves out the parameters that are
-    /// byte strings then: each is to be sent ahead of it by [`ComStmtSendLongData`](crate::ComStmtSendLongData). Attributes stay.
-    pub fn build<V: AsExecuteParam>(
-        self,
-        alloc: Global,
-        params: &'a [V],
-    ) -> Result<(ComStmtExecuteWithOptions<'a, V>, bool), AllocError>
-        ensures stmt_id { IfOk result (λ made. request.stmt_id made.0 ≡ self.entry.stmt_id) }
-        ensures flags { IfOk result (λ made. request.flags made.0 ≡ request.cursor_bits self.entry.cursor + request.count_bit self.entry.attributes) }
-        ensures bitmap { IfOk result (λ made. MarksNulls 0 (request.values V.param made.0) (request.bitmap made.0)) }
-        ensures params { IfOk result (λ made. request.params made.0 ≡ params.now) }
-        ensures few { IfOk result (λ made. length params.now + 7 < 2 ^ 64) }
-        ensures attributes { IfOk result (λ made. request.attributes made.0 ≡ option_copied self.entry.attributes) }
-        ensures as_long_data { IfOk result (λ made. IsTrue (request.as_long_data made.0) ↔ (max_payload < length (request.whole_bytes V.param made.0))) }
-        ensures answer { IfOk result (λ made. made.1 ≡ request.as_long_data made.0) }
-    {
-        let attributes: &'a [QueryAttribute<'a>] = self.attributes.unwrap_or(&[]);
-        // (no memory holds so large a bitmap)
-        if params.len().saturating_add(attributes.len()) > usize::MAX - 8 {
-            return Err(AllocError);
-        }
-        let bitmap = nulls_of(alloc, params, attributes)?;
-        let count = match self.attributes {
-            Some(_) => PARAMETER_COUNT_AVAILABLE,
-            None => 0,
-        };
-        let flags = CursorType::from_bits_retain(cursor_bits(self.cursor) + count);
-        let mut request = ComStmtExecuteWithOptions {
-            head: ComStmtExecuteHead::new(self.stmt_id, flags),
-            bitmap,
-            params,
-            attributes: self.attributes,
-            as_long_data: false,
-        };
-        request.as_long_data = request.defined_len() > MAX_PAYLOAD_LEN;
-        let as_long_data = request.as_long_data;
-        Ok((request, as_long_data))
-    }
-}
-
-/// `COM_STMT_EXECUTE` with a cursor, with attributes of the query, or with parameters that lie elsewhere or were sent ahead.
-///
-/// It is made by [`ComStmtExecuteOptionsBuilder::build`] and written alone, its numbers little-endian:
-///
-/// | Bytes | Field |
-/// |---|---|
-/// | 1 | the byte `17` |
-/// | 4 | `stmt_id` |
-/// | 1 | `flags`: the cursor, and 8 where a count follows |
-/// | 4 | the count of executions, always 1 |
-/// | 1 to 9 | with attributes: how many parameters and attributes there are, a length-encoded integer |
-///
-/// Without parameters and attributes that is all. Else there follow
-///
-/// | Bytes | Field |
-/// |---|---|
-/// | 1 for 8 of them | `bitmap`: a bit for each, the first one the lowest, set for NULL |
-/// | 1 | types follow, always 1 |
-/// | 2 and a name | for each the code of its type, and 128 where it is an unsigned number, else 0; with attributes its name too, a length-encoded string that is empty for a parameter |
-/// | to the end | the values in their binary form, without parameters that were sent ahead, and without those that are byte strings where `as_long_data` |
-///
-/// The attributes stand after the parameters.
-#[derive(Clone, Debug, Drop)]
-pub struct ComStmtExecuteWithOptions<'a, V> {
-    head: ComStmtExecuteHead,
-    bitmap: NullBitmap<'a, ClientSide>,
-    params: &'a [V],
-    attributes: Option<&'a [QueryAttribute<'a>]>,
-    as_long_data: bool,
-}
-
-impl<'a, V> ComStmtExecuteWithOptions<'a, V> {
-    /// The number of the statement.
-    pub fn stmt_id(&self) -> u32
-        ensures value { result ≡ request.stmt_id self.now }
-    {
-        self.head.stmt_id()
-    }
-
-    /// Which cursor is opened, and whether a count of parameters follows.
-    pub fn flags(&self) -> CursorType
-        ensures value { result.0 ≡ request.flags self.now }
-    {
-        self.head.flags()
-    }
-
-    /// The bitmap.
-    pub fn bitmap(&self) -> &[u8]
-        ensures value { result.now ≡ request.bitmap self.now }
-    {
-        self.bitmap.as_bytes()
-    }
-
-    /// The parameters, in the slice that they were handed in.
-    pub fn params(&self) -> &'a [V]
-        ensures value { result.now ≡ request.params self.now }
-    {
-        self.params
-    }
-
-    /// The attributes of the query, where CLIENT_QUERY_ATTRIBUTES is agreed to.
-    pub fn attributes(&self) -> Option<&'a [QueryAttribute<'a>]>
-        ensures value { option_copied result ≡ request.attributes self.now }
-    {
-        self.attributes
-    }
-
-    /// Whether parameters that are byte strings are left out, since they are sent ahead.
-    pub fn as_long_data(&self) -> bool
-        ensures value { result ≡ request.as_long_data self.now }
-    {
-        self.as_long_data
-    }
-}
-
-impl<'a, V> ComStmtExecuteWithOptions<'a, V> {
-    /// The attributes, none where the request can have none.
-    fn listed(&self) -> &'a [QueryAttribute<'a>]
-        ensures value { result.now ≡ request.listed self.now }
-    {
-        self.attributes.unwrap_or(&[])
-    }
-
-    /// How many parameters and attributes there are, or `usize::MAX` where that is less.
-    #[tactic(auto, unfolding(mysql_wire::specs::Writing::saturated))]
-    fn len(&self) -> usize
-        ensures value { result ≡ saturated (length (request.params self.now) + length (request.listed self.now)) }
-    {
-        self.params.len().saturating_add(self.listed().len())
-    }
-
-    /// The same where attributes may be.
-    fn count(&self) -> Option<RawInt<LenEnc>>
-        ensures value { ⟦<Option<RawInt<LenEnc>> as MySerialize>⟧.bytes result ≡ request.count_bytes self.now }
+    /// The attributes, none where there can be none.
+    fn listed(&self) -> &'a [A]
+        ensures value { result.now ≡ request.builder_listed self.now }
     {
         match self.attributes {
-            Some(_) => Some(RawInt::new(self.len() as u64)),
-            None => None,
+            Some(attributes) => attributes,
+            None => &[],
         }
     }
 
-    /// Whether each type has a name.
-    fn has_names(&self) -> bool
-        ensures value { result ≡ request.has_names self.now }
+    /// The head of an execution with parameters or without.
+    fn head(&self, has_params: bool) -> ComStmtExecuteHead
+        ensures value { result ≡ request.head_for self.now has_params }
     {
-        self.attributes.is_some()
+        let flags = if !self.listed().is_empty() && !has_params {
+            self.flags.union(CursorType::PARAMETER_COUNT_AVAILABLE)
+        } else {
+            self.flags
+        };
+        ComStmtExecuteHead::new(self.stmt_id, flags).with_iteration_count(self.iteration_count)
     }
 }
 
-impl<V: AsExecuteParam> Parts for ComStmtExecuteWithOptions<'_, V> {
-    ghost bytes = { request.request_bytes V.param };
-
+impl<'a, A: AsExecuteParam> ComStmtExecuteOptionsBuilder<'a, A> {
+    /// Refuses the first value that its type does not spell.
     #[inline(always)]
-    fn put<S: Sink>(&self, sink: &mut S) {
-        let count = self.count();
-        let head = parts!(self.head, count);
-        if self.len() == 0 {
-            sink.part(&head);
-            return;
+    fn check<V: AsExecuteParam>(&self, params: &[V]) -> Result<(), TypedExecutionError>
+        ensures spelled { OnOk result (request.IsSpelled (request.asked A.param A.named_type self.now (sent_params V.param V.named_type params.now))) }
+        ensures refused { IfErr result (λ e. request.Refuses (request.asked A.param A.named_type self.now (sent_params V.param V.named_type params.now)) e) }
+        ensures no_memory { result ≢ Err refusal.Memory }
+    {
+        if let Some(place) = first_unspelled(params) {
+            return Err(TypedExecutionError::UnspelledValue { place });
         }
-        let params_flags = Const::<StmtExecuteParamsFlags, u8>::new(
-            StmtExecuteParamsFlags::NEW_PARAMS_BOUND,
-        );
-        let param_types = Items {
-            items: self.params,
-            form: AsParamTypes {
-                has_names: self.has_names(),
-            },
-        };
-        let attribute_types = Items {
-            items: self.listed(),
-            form: AsAttributeTypes,
-        };
-        let param_values = Items {
-            items: self.params,
-            form: AsParamValues {
-                as_long_data: self.as_long_data,
-            },
-        };
-        let attribute_values = Items {
-            items: self.listed(),
-            form: AsParamValues {
-                as_long_data: false,
-            },
-        };
-        sink.part(&parts!(
-            head,
-            self.bitmap,
-            params_flags,
-            param_types,
-            attribute_types,
-            param_values,
-            attribute_values
-        ));
+        if let Some(place) = first_unspelled(self.listed()) {
+            return Err(TypedExecutionError::UnspelledAttribute { place });
+        }
+        Ok(())
+    }
+
+    /// The request, where byte strings are long data or not.
+    #[inline(always)]
+    fn request<'p, V: AsExecuteParam>(
+        &self,
+        params: &'p [V],
+        as_long_data: bool,
+    ) -> ComStmtExecuteWithOptions<'p, V, A>
+    where
+        'a: 'p,
+        ensures params { request.params result ≡ params.now }
+        ensures as_long_data { request.as_long_data result ≡ as_long_data }
+        ensures made { request.execution_of V.param V.named_type A.param A.named_type result ≡ request.asked A.param A.named_type self.now (sent_params V.param V.named_type params.now) as_long_data }
+    {
+        ComStmtExecuteWithOptions {
+            head: self.head(!params.is_empty()),
+            params,
+            attributes: self.attributes,
+            sends_types: self.sends_types,
+            as_long_data,
+        }
+    }
+
+    /// The request, and its length in bytes, or `usize::MAX` where that is less.
+    #[inline(always)]
+    fn measured<'p, V: AsExecuteParam>(
+        &self,
+        params: &'p [V],
+    ) -> (ComStmtExecuteWithOptions<'p, V, A>, usize)
+    where
+        'a: 'p,
+        ensures params { request.params result.0 ≡ params.now }
+        ensures made { request.execution_of V.param V.named_type A.param A.named_type result.0 ≡ request.asked A.param A.named_type self.now (sent_params V.param V.named_type params.now) (request.as_long_data result.0) }
+        ensures as_long_data { request.IsAsLong (request.asked A.param A.named_type self.now (sent_params V.param V.named_type params.now)) (request.as_long_data result.0) }
+        ensures len { result.1 ≡ saturated (length (request.request_bytes V.param V.named_type A.param A.named_type result.0)) }
+    {
+        let whole = self.request(params, false);
+        let len = whole.defined_len();
+        if len <= MAX_PAYLOAD_LEN {
+            return (whole, len);
+        }
+        let short = self.request(params, true);
+        let len = short.defined_len();
+        (short, len)
+    }
+
+    /// The request that executes the statement with these parameters, and whether byte strings are long data. It takes no memory.
+    ///
+    /// They are where the request with all its values is past 16,777,215 bytes. The request then leaves out the parameters that are
+    /// byte strings: each is to be sent ahead of it by [`ComStmtSendLongData`](crate::ComStmtSendLongData). Attributes stay.
+    ///
+    /// A value that its type does not spell is refused: the first such parameter, or if there is none the first such attribute.
+    pub fn build_ref<V: AsExecuteParam>(
+        self,
+        params: &'a [V],
+    ) -> Result<(ComStmtExecuteWithOptions<'a, V, A>, bool), TypedExecutionError>
+        ensures params { IfOk result (λ made. request.params made.0 ≡ params.now) }
+        ensures made { IfOk result (λ made. request.execution_of V.param V.named_type A.param A.named_type made.0 ≡ request.asked A.param A.named_type self.entry (sent_params V.param V.named_type params.now) made.1) }
+        ensures as_long_data { IfOk result (λ made. request.IsAsLong (request.asked A.param A.named_type self.entry (sent_params V.param V.named_type params.now)) made.1) }
+        ensures spelled { OnOk result (request.IsSpelled (request.asked A.param A.named_type self.entry (sent_params V.param V.named_type params.now))) }
+        ensures refused { IfErr result (λ e. request.Refuses (request.asked A.param A.named_type self.entry (sent_params V.param V.named_type params.now)) e) }
+        ensures no_memory { result ≢ Err refusal.Memory }
+    {
+        self.check(params)?;
+        let (request, _len) = self.measured(params);
+        let as_long_data = request.as_long_data();
+        Ok((request, as_long_data))
+    }
+
+    /// Writes the execution with these parameters to the end of a buffer and returns whether byte strings are long data: the bytes of
+    /// the request that [`build_ref`](Self::build_ref) makes.
+    ///
+    /// The buffer grows at most once. After a refusal it is as it was. `Memory` is returned only where the buffer has to grow.
+    pub fn write_ref<V: AsExecuteParam>(
+        self,
+        params: &[V],
+        out: &mut Vec<u8>,
+    ) -> Result<bool, TypedExecutionError>
+        ensures written { IfOk result (λ long. out.new.items ≡ out.old.items ++ execution_bytes (request.asked A.param A.named_type self.entry (sent_params V.param V.named_type params.now) long)) }
+        ensures as_long_data { IfOk result (λ long. request.IsAsLong (request.asked A.param A.named_type self.entry (sent_params V.param V.named_type params.now)) long) }
+        ensures spelled { OnOk result (request.IsSpelled (request.asked A.param A.named_type self.entry (sent_params V.param V.named_type params.now))) }
+        ensures refused { IfErr result (λ e. request.Refuses (request.asked A.param A.named_type self.entry (sent_params V.param V.named_type params.now)) e) }
+        ensures err { OnErr result (out.new.items ≡ out.old.items) }
+        ensures capacity { vec_capacity out.old ≤ vec_capacity out.new }
+        ensures no_memory { vec_len out.old + length (request.written_bytes (request.asked A.param A.named_type self.entry (sent_params V.param V.named_type params.now))) ≤ vec_capacity out.old → result ≢ Err refusal.Memory }
+    {
+        self.check(params)?;
+        let (request, len) = self.measured(params);
+        out.reserve(len)?;
+        // (in a local buffer, whose place in memory no write to its bytes can change, each number is one store)
+        let none = Vec::new(*out.allocator());
+        let mut bytes = mem::replace(out, none);
+        request.append(&mut bytes);
+        *out = bytes;
+        Ok(request.as_long_data())
+    }
+
+    /// Writes the execution with these parameters to the front of a slice, and returns its length in bytes (or `usize::MAX` where that is
+    /// less) and whether byte strings are long data. It takes no memory. A shorter slice is as it was.
+    #[tactic(auto, using(crate::proofs::ExecutionBytes::taken), unfolding(mysql_wire::specs::Writing::saturated))]
+    pub fn write_to_slice<V: AsExecuteParam>(
+        self,
+        params: &[V],
+        out: &mut [u8],
+    ) -> Result<(usize, bool), TypedExecutionError>
+        ensures len { IfOk result (λ answer. answer.0 ≡ saturated (length (execution_bytes (request.asked A.param A.named_type self.entry (sent_params V.param V.named_type params.now) answer.1)))) }
+        ensures as_long_data { IfOk result (λ answer. request.IsAsLong (request.asked A.param A.named_type self.entry (sent_params V.param V.named_type params.now)) answer.1) }
+        ensures written { IfOk result (λ answer. answer.0 ≤ length out.old → out.new ≡ execution_bytes (request.asked A.param A.named_type self.entry (sent_params V.param V.named_type params.now) answer.1) ++ drop answer.0 out.old) }
+        ensures small { IfOk result (λ answer. length out.old < answer.0 → out.new ≡ out.old) }
+        ensures spelled { OnOk result (request.IsSpelled (request.asked A.param A.named_type self.entry (sent_params V.param V.named_type params.now))) }
+        ensures refused { IfErr result (λ e. request.Refuses (request.asked A.param A.named_type self.entry (sent_params V.param V.named_type params.now)) e) }
+        ensures err { OnErr result (out.new ≡ out.old) }
+        ensures no_memory { result ≢ Err refusal.Memory }
+    {
+        self.check(params)?;
+        let (request, len) = self.measured(params);
+        if len <= out.len() {
+            put_over(&request, &mut out[..len]);
+        }
+        Ok((len, request.as_long_data()))
     }
 }

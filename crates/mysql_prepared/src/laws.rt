@@ -3,7 +3,7 @@
 //! Each law is a function with nothing in it, whose contract holds for all values.
 #![tactic(auto, using(mysql_wire::proofs::Packets::packets))]
 
-ghost use Rattle.std.specs.Prelude.{◌≡◌, ◌+◌, ◌<◌, ◌^◌, ◌++◌, ◌↔◌, ℕ, List, Ok, Option, Some, None, IsTrue, length, map};
+ghost use Rattle.std.specs.Prelude.{◌≡◌, ◌+◌, ◌<◌, ◌^◌, ◌++◌, ◌↔◌, ℕ, List, Bool, Ok, Option, Some, None, IsTrue, length, map};
 ghost use Rattle.mysql_prepared.specs.Bitmap.{Bitmap, bytes_for};
 ghost use Rattle.mysql_prepared.specs.NullBitmap.{null_bitmap, borrowed};
 ghost use Rattle.mysql_prepared.specs.declared.stmt.StmtPacket.{StmtPacket};
@@ -18,21 +18,15 @@ ghost use Rattle.mysql_prepared.specs.LongData.{long_data};
 ghost use Rattle.mysql_replies.specs.declared.column.Column.{Column};
 ghost use Rattle.mysql_values.specs.Value.{Content};
 ghost use Rattle.mysql_prepared.specs.ExecuteHead as head;
-ghost use Rattle.mysql_prepared.specs.declared.execute_head.ComStmtExecuteHead.{ComStmtExecuteHead};
+ghost use Rattle.mysql_prepared.specs.ExecuteRead.{TypedParam, execution};
+ghost use Rattle.mysql_prepared.specs.ReadAgain.{IsReadable, attributes_as_read, built, bytes_after_head, params_as_read};
+ghost use Rattle.mysql_prepared.specs.declared.execute_param.QueryAttribute.{QueryAttribute};
 ghost use Rattle.mysql_prepared.specs.declared.execute_view.BoundParam.{BoundParam};
-ghost use Rattle.mysql_prepared.specs.ExecuteRead.{execute_params};
-ghost use Rattle.mysql_prepared.specs.ReadAgain.{IsReadable, bytes_after_head, params_as_read};
-ghost use Rattle.mysql_prepared.specs.declared.execute.ComStmtExecuteRequest.{ComStmtExecuteRequest};
 ghost use Rattle.mysql_prepared.specs.Execute.{execute_bytes};
-ghost use Rattle.mysql_prepared.specs.ExecuteWithOptions as with_options;
-ghost use Rattle.mysql_prepared.specs.NullMarks.{MarksNulls};
+ghost use Rattle.mysql_prepared.specs.Execution.{Execution, execution_bytes};
 ghost use Rattle.mysql_prepared.specs.PlainExecution.{AsksForNothing};
-ghost use Rattle.mysql_prepared.specs.WrittenExecution.{IsExecutionBytes};
-ghost use Rattle.mysql_prepared.specs.declared.execute_with_options.Cursor.{Cursor};
-ghost use Rattle.mysql_prepared.specs.TypedExecution as typed;
-ghost use Rattle.mysql_prepared.specs.TypedReadAgain as typed_again;
-ghost use Rattle.mysql_prepared.specs.declared.typed_execution.ComStmtExecuteTyped.{ComStmtExecuteTyped};
-ghost use Rattle.mysql_prepared.specs.declared.execute_with_options.ComStmtExecuteWithOptions.{ComStmtExecuteWithOptions};
+ghost use Rattle.mysql_prepared.specs.declared.execute.ComStmtExecuteRequest.{ComStmtExecuteRequest};
+ghost use Rattle.mysql_prepared.specs.declared.execute_head.ComStmtExecuteHead.{ComStmtExecuteHead};
 ghost use Rattle.mysql_prepared.specs.Row.{AnswersFound, Cells, CopyConvertsTo, FoundConverts};
 ghost use Rattle.mysql_prepared.specs.RowForm.{text_row, bin_row};
 ghost use Rattle.mysql_prepared.specs.RowView.{bin_row_of, text_row_of};
@@ -47,7 +41,6 @@ ghost use Rattle.mysql_values.specs.declared.value.Value.{Value};
 pub mod values;
 
 use crate::column_index::ColumnIndex;
-use crate::execute_param::AsExecuteParam;
 use crate::typed_column::TypedColumn;
 use mysql_values::FromValue;
 use mysql_wire::MyDeserialize;
@@ -173,42 +166,18 @@ pub fn execute_head_round_trips()
     ensures read { (p : ComStmtExecuteHead) (rest : List ℕ) → head.execute_head.fits tt p rest → (head.execute_head.form tt).reads (head.execute_head.bytes p ++ rest) ≡ Ok (p, rest) }
 {}
 
-/// What is written of an execution without attributes is read again, whatever follows: its head, and then its parameters, each with
-/// the type that it is sent with. The server knows how many there are, and which were sent ahead, as byte strings of long data are.
-#[tactic(auto, using(crate::proofs::ExecutionAgain::executions_again))]
-pub fn execution_round_trips<V: AsExecuteParam>()
-    ensures head { (r : ComStmtExecuteWithOptions V) (rest : List ℕ) → with_options.attributes r ≡ None → with_options.stmt_id r < 2 ^ 32 → with_options.flags r < 2 ^ 8
-        → (head.execute_head.form tt).reads (with_options.request_bytes V.param r ++ rest) ≡ Ok (with_options.head_of r, bytes_after_head V.param r ++ rest) }
-    ensures spelled { (bound : List BoundParam) (r : ComStmtExecuteWithOptions V) (rest : List ℕ) → IsReadable V.param bound r
-        → (execute_params bound).Spells (params_as_read V.param r) (bytes_after_head V.param r ++ rest) rest }
-    ensures read { (bound : List BoundParam) (r : ComStmtExecuteWithOptions V) (rest : List ℕ) → IsReadable V.param bound r
-        → (execute_params bound).reads (bytes_after_head V.param r ++ rest) ≡ Ok (params_as_read V.param r, rest) }
-{}
-
-/// What is written of an execution whose types are chosen, or which sends none, is read again: its head, and then its parameters,
-/// each with its type. The server knows how many there are, which were sent ahead, and where no types are sent, those of an
-/// earlier execution. A number of a narrow type is read as a signed one.
-pub fn typed_execution_round_trips()
-    ensures head { (r : ComStmtExecuteTyped) (rest : List ℕ) → typed.stmt_id r < 2 ^ 32 → typed.flags r < 2 ^ 8
-        → (head.execute_head.form tt).reads (typed.request_bytes r ++ rest) ≡ Ok (typed.head_is r, typed_again.bytes_after_head r ++ rest) }
-    ensures spelled { (bound : List BoundParam) (r : ComStmtExecuteTyped) (rest : List ℕ) → typed_again.IsReadable bound r
-        → (execute_params bound).Spells (typed_again.params_as_read r) (typed_again.bytes_after_head r ++ rest) rest }
-    ensures read { (bound : List BoundParam) (r : ComStmtExecuteTyped) (rest : List ℕ) → typed_again.IsReadable bound r
-        → (execute_params bound).reads (typed_again.bytes_after_head r ++ rest) ≡ Ok (typed_again.params_as_read r, rest) }
-{}
-
-/// An execution that is built without a cursor and attributes has the bytes of one that is written at once, with the same
-/// parameters: so what is written at once is read again, as what is built.
-#[tactic(auto, using(crate::proofs::BuiltExecution::built))]
-pub fn built_executions_are_written_ones<V: AsExecuteParam>()
-    ensures bytes { (r : ComStmtExecuteWithOptions V) → with_options.attributes r ≡ None → with_options.flags r ≡ 0 → MarksNulls 0 (with_options.values V.param r) (with_options.bitmap r)
-        → IsExecutionBytes V.param (with_options.stmt_id r) (with_options.params r) (with_options.as_long_data r) (with_options.request_bytes V.param r) }
-{}
-
-/// An execution whose types are chosen, or which sends none, has the same bytes where it is built and where it is written at once.
-pub fn built_typed_executions_are_written_ones()
-    ensures bytes { (r : ComStmtExecuteTyped) (cursor : Option Cursor) → typed.flags r ≡ with_options.cursor_bits cursor → MarksNulls 0 (typed.values r) (typed.bitmap r)
-        → typed.IsExecutionBytes (typed.stmt_id r) cursor (typed.sends_types r) (typed.as_long_data r) (typed.params r) (typed.request_bytes r) }
+/// What is written of an execution is read again, whatever follows: its head, and then, under the capabilities of the session, its
+/// parameters and its attributes, each with its type and its name. The server knows how many parameters there are, which were sent
+/// ahead, and where no types are sent, those of an earlier execution. A number of a narrow type is read as a signed one.
+pub fn execution_round_trips()
+    ensures head { (e : Execution) (rest : List ℕ) → head.stmt_id e.head < 2 ^ 32 → head.cursor_flags e.head < 2 ^ 8 → head.iteration_count e.head < 2 ^ 32
+        → (head.execute_head.form tt).reads (execution_bytes e ++ rest) ≡ Ok (e.head, bytes_after_head e ++ rest) }
+    ensures spelled { (caps : CapabilityFlags) (bound : List BoundParam) (h : ComStmtExecuteHead) (ps : List TypedParam) (attributes : Option (List QueryAttribute)) (s l : Bool) (rest : List ℕ)
+        → IsReadable caps bound attributes (built h ps attributes s l)
+        → (execution caps (head.cursor_flags h) bound).Spells (params_as_read (built h ps attributes s l), attributes_as_read attributes) (bytes_after_head (built h ps attributes s l) ++ rest) rest }
+    ensures read { (caps : CapabilityFlags) (bound : List BoundParam) (h : ComStmtExecuteHead) (ps : List TypedParam) (attributes : Option (List QueryAttribute)) (s l : Bool) (rest : List ℕ)
+        → IsReadable caps bound attributes (built h ps attributes s l)
+        → (execution caps (head.cursor_flags h) bound).reads (bytes_after_head (built h ps attributes s l) ++ rest) ≡ Ok ((params_as_read (built h ps attributes s l), attributes_as_read attributes), rest) }
 {}
 
 /// The head of an execution takes 10 bytes.
@@ -227,11 +196,10 @@ pub fn null_bitmap_offset() -> usize
     crate::execute::ComStmtExecuteRequestBuilder::NULL_BITMAP_OFFSET
 }
 
-/// An execution that asks for nothing beside its values is written as the plain request of the same values.
+/// An execution that asks for nothing besides its values has the bytes of the plain request of the same values.
 #[tactic(auto, using(crate::proofs::PlainOptions::plain_options))]
 pub fn options_for_nothing_write_the_plain_request()
-    ensures bytes { (o : ComStmtExecuteWithOptions Value) (r : ComStmtExecuteRequest) → AsksForNothing o r →
-        with_options.request_bytes ⟦<mysql_values::Value as AsExecuteParam>⟧.param o ≡ execute_bytes r }
+    ensures bytes { (e : Execution) (r : ComStmtExecuteRequest) → AsksForNothing e r → execution_bytes e ≡ execute_bytes r }
 {}
 
 /// Statement packets are equal exactly where they are the same, and equal ones hash equally.

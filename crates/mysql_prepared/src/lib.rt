@@ -2,17 +2,21 @@
 //! written as, the bitmaps of NULLs, and the rows of results.
 #![tactic(auto)]
 
+mod attributes_view;
 mod binary_row;
 mod binary_row_view;
+mod bind_front;
 mod close;
 mod column_index;
 mod com_query;
 mod execute;
+mod execute_bytes;
 mod execute_head;
 mod execute_param;
 mod execute_params;
 mod execute_view;
 mod execute_with_options;
+mod execution;
 mod items;
 pub mod laws;
 mod long_data;
@@ -24,17 +28,18 @@ mod row;
 mod row_deserializer;
 mod row_protocol;
 mod row_values;
+mod sent_nulls;
 mod sent_params;
+mod sent_types;
 mod sent_values;
 mod stmt;
 mod stmt_with_metadata;
 mod text_row;
 mod text_row_view;
 mod typed_column;
-mod typed_execution;
 mod typed_param;
-mod write_execution;
 
+pub use attributes_view::QueryAttributesView;
 pub use binary_row::{BinaryRowError, write_binary_row, write_binary_row_to_slice};
 pub use binary_row_view::BinaryRowView;
 pub use close::{ComStmtClose, ComStmtCloseHeader, InvalidComStmtCloseHeader};
@@ -44,10 +49,12 @@ pub use execute::{
     ComStmtExecuteHeader, ComStmtExecuteRequest, ComStmtExecuteRequestBuilder,
     InvalidComStmtExecuteHeader, InvalidIterationCount, IterationCount,
 };
+pub use execute_bytes::ExecuteParamsBytes;
 pub use execute_head::ComStmtExecuteHead;
 pub use execute_param::{AsExecuteParam, ExecuteParam, QueryAttribute};
-pub use execute_view::{BoundParam, ExecuteParamsBytes, ExecuteParamsView, skip_param_types};
-pub use execute_with_options::{ComStmtExecuteOptionsBuilder, ComStmtExecuteWithOptions, Cursor};
+pub use execute_view::{BoundParam, ExecuteParamsView};
+pub use execute_with_options::{ComStmtExecuteOptionsBuilder, Cursor};
+pub use execution::ComStmtExecuteWithOptions;
 pub use items::{ItemForm, Items};
 pub use long_data::{
     ComStmtSendLongData, ComStmtSendLongDataHeader, InvalidComStmtSendLongDataHeader,
@@ -57,10 +64,10 @@ pub use null_bitmap::NullBitmap;
 pub use row::{Row, new_row, new_row_raw};
 pub use row_deserializer::RowDeserializer;
 pub use row_protocol::RowProtocol;
+pub use sent_types::SentParamTypes;
 pub use stmt::{InvalidStmtPacketStatus, StmtPacket};
 pub use stmt_with_metadata::StmtPacketWithMetadata;
 pub use text_row::write_text_row;
 pub use text_row_view::TextRowView;
 pub use typed_column::TypedColumn;
-pub use typed_execution::{ComStmtExecuteTyped, ComStmtExecuteTypedBuilder};
 pub use typed_param::{TypedExecuteParam, TypedExecutionError};

@@ -2,10 +2,10 @@
 
 ghost use Rattle.std.specs.Prelude.{◌≡◌, ◌+◌, ◌*◌, ◌<◌, ◌≤◌, ◌^◌, ◌++◌, ℕ, List, length, map, get_or, replicate, vec_len, vec_capacity, IfOk};
 ghost use Rattle.mysql_prepared.specs.Bitmap.{bytes_for, cell};
-ghost use Rattle.mysql_prepared.specs.ExecuteParam.{all_values, contents};
+ghost use Rattle.mysql_prepared.specs.ExecuteParam.{contents};
 ghost use Rattle.mysql_prepared.specs.NullMarks.{AppendsNulls, MarksNulls, null_bit};
 
-use crate::execute_param::{AsExecuteParam, QueryAttribute};
+use crate::execute_param::AsExecuteParam;
 use crate::null_bitmap::{NullBitmap, put};
 use mysql_values::{ClientSide, SerializationSide};
 use std::alloc::{AllocError, Global};
@@ -35,17 +35,6 @@ fn mark_side<S: SerializationSide, V: AsExecuteParam>(nulls: &mut [u8], values: 
     ensures { MarksNulls S.BIT_OFFSET (contents V.param values.now) nulls.new }
 {
     mark_nulls(nulls, S::BIT_OFFSET, values);
-}
-
-/// The same for parameters, and for attributes after them.
-fn mark_all<V: AsExecuteParam>(nulls: &mut [u8], params: &[V], attributes: &[QueryAttribute<'_>])
-    requires count { length params.now + length attributes.now + 7 < 2 ^ 64 }
-    requires len { length nulls.old ≡ bytes_for 0 (length params.now + length attributes.now) }
-    requires clear { nulls.old ≡ replicate (bytes_for 0 (length params.now + length attributes.now)) 0 }
-    ensures { MarksNulls 0 (all_values V.param params.now attributes.now) nulls.new }
-{
-    mark_nulls(nulls, 0, params);
-    mark_nulls(nulls, params.len(), attributes);
 }
 
 /// Writes so many zeros.
@@ -82,17 +71,15 @@ pub(crate) fn put_nulls<S: SerializationSide, V: AsExecuteParam>(values: &[V], n
     mark_side::<S, V>(nulls, values);
 }
 
-/// The bitmap in which the bit of each parameter and each attribute that is NULL is set, the attributes after the parameters.
+/// The bitmap in which the bit of each value that is NULL is set.
 pub(crate) fn nulls_of<V: AsExecuteParam>(
     alloc: Global,
-    params: &[V],
-    attributes: &[QueryAttribute<'_>],
+    values: &[V],
 ) -> Result<NullBitmap<'static, ClientSide>, AllocError>
-    requires { length params.now + length attributes.now + 7 < 2 ^ 64 }
-    ensures { IfOk result (λ bitmap. MarksNulls 0 (all_values V.param params.now attributes.now) bitmap.bytes) }
+    requires { length values.now + 7 < 2 ^ 64 }
+    ensures { IfOk result (λ bitmap. MarksNulls 0 (contents V.param values.now) bitmap.bytes) }
 {
-    let count = params.len() + attributes.len();
-    let mut nulls = vec![in alloc; 0; NullBitmap::<ClientSide>::bitmap_len(count)]?;
-    mark_all(&mut nulls, params, attributes);
+    let mut nulls = vec![in alloc; 0; NullBitmap::<ClientSide>::bitmap_len(values.len())]?;
+    mark_side::<ClientSide, V>(&mut nulls, values);
     Ok(NullBitmap::from_bytes(CowSlice::Owned(nulls)))
 }

@@ -1,43 +1,56 @@
 //! The types and the values of an execution's parameters and attributes, as they are sent.
-#![tactic(auto, using(crate::proofs::OptionLengths::written), unfolding(mysql_wire::specs::Writing::saturated))]
+#![tactic(auto, using(crate::proofs::SentBytes::written), unfolding(mysql_wire::specs::Writing::saturated))]
 
-ghost use Rattle.std.specs.Prelude.{◌≡◌, ◌+◌, ◌++◌, ◌≤◌, [], true, length, drop};
+ghost use Rattle.std.specs.Prelude.{◌≡◌, ◌+◌, ◌++◌, ◌≤◌, [], length, drop, unwrap_or};
+ghost use Rattle.std.specs.Option.{option_map};
 ghost use Rattle.mysql_wire.specs.Writing.{saturated};
+ghost use Rattle.mysql_values.specs.TypedValue.{typed_bytes};
 ghost use Rattle.mysql_values.specs.ValueRef.{ref_content};
 ghost use Rattle.mysql_prepared.specs.ExecuteParam.{param_bytes, param_of, value_of};
+ghost use Rattle.mysql_prepared.specs.SentParam.{bytes_under, is_spelled_under};
 
-use crate::execute_param::{AsExecuteParam, ExecuteParam, QueryAttribute};
-use crate::items::ItemForm;
-use mysql_values::{ParamType, ValueRef};
+use crate::execute_param::{AsExecuteParam, ExecuteParam};
+use crate::items::{ItemForm, Items};
+use mysql_values::{ParamType, ParamValue, TypedValue, ValueRef};
 use mysql_wire::{Buffer, BytesRepr, LenEnc, MySerialize};
 
-/// As which value the bitmap and the types have a parameter: one that was sent ahead is a byte string.
+/// The value whose type the parameter is sent as: a byte string where it was sent ahead, a date where it has an offset.
 #[inline(always)]
 pub(crate) fn typed_value(param: ExecuteParam<'_>) -> ValueRef<'_>
     ensures value { ref_content result ≡ value_of (param_of param.entry) }
 {
     match param {
         ExecuteParam::Value(value) => value,
+        ExecuteParam::DateTimeWithOffset(date) => ValueRef::Date(
+            date.year,
+            date.month,
+            date.day,
+            date.hour,
+            date.minute,
+            date.second,
+            date.micros,
+        ),
         ExecuteParam::SentAhead => ValueRef::Bytes(&[]),
     }
 }
 
-/// How many bytes of a parameter are sent, or `usize::MAX` where that is less: none of one that was sent ahead, nor of a byte
-/// string that is long data.
+/// The length of a parameter that is sent as the type of its value, or `usize::MAX` where that is less: 0 of one that was sent ahead,
+/// and of a byte string that is long data.
 #[inline(always)]
-pub(crate) fn sent_len(param: ExecuteParam<'_>, as_long_data: bool) -> usize
+pub(crate) fn plain_len(param: ExecuteParam<'_>, as_long_data: bool) -> usize
     ensures value { result ≡ saturated (length (param_bytes as_long_data (param_of param.entry))) }
 {
     match param {
         ExecuteParam::Value(ValueRef::Bytes(_)) if as_long_data => 0,
         ExecuteParam::Value(value) => value.defined_len(),
+        ExecuteParam::DateTimeWithOffset(date) => date.defined_len(),
         ExecuteParam::SentAhead => 0,
     }
 }
 
-/// Writes the bytes of a parameter that are sent, for which there is capacity.
+/// Writes the bytes of such a parameter, for which there is capacity.
 #[inline(always)]
-pub(crate) fn append_sent<O: Buffer>(param: ExecuteParam<'_>, as_long_data: bool, out: &mut O)
+pub(crate) fn append_plain<O: Buffer>(param: ExecuteParam<'_>, as_long_data: bool, out: &mut O)
     requires { length (O.held out.old) + length (param_bytes as_long_data (param_of param)) ≤ O.capacity out.old }
     ensures items { O.held out.new ≡ O.held out.old ++ param_bytes as_long_data (param_of param.entry) }
     ensures after { O.after out.new ≡ drop (length (param_bytes as_long_data (param_of param.entry))) (O.after out.old) }
@@ -47,76 +60,165 @@ pub(crate) fn append_sent<O: Buffer>(param: ExecuteParam<'_>, as_long_data: bool
     match param {
         ExecuteParam::Value(ValueRef::Bytes(_)) if as_long_data => {}
         ExecuteParam::Value(value) => value.append(out),
+        ExecuteParam::DateTimeWithOffset(date) => date.append(out),
         ExecuteParam::SentAhead => {}
     }
 }
 
-/// Parameters are written as their types, each with an empty name where there are names.
+/// Whether the type spells the value of the parameter, if the request sends one.
+#[inline(always)]
+pub(crate) fn is_spelled(param_type: ParamType, param: ExecuteParam<'_>) -> bool
+    ensures value { result ≡ is_spelled_under param_type (param_of param.entry) }
+{
+    match param {
+        ExecuteParam::Value(value) => {
+            TypedValue::of_param(param_type, ParamValue::Value(value)).is_some()
+        }
+        ExecuteParam::DateTimeWithOffset(date) => {
+            TypedValue::of_param(param_type, ParamValue::DateTimeWithOffset(date)).is_some()
+        }
+        ExecuteParam::SentAhead => true,
+    }
+}
+
+/// The value of a parameter that is sent, under its type: none of one that was sent ahead, nor of a byte string that is long data.
+#[inline(always)]
+fn sent_value(
+    param_type: ParamType,
+    param: ExecuteParam<'_>,
+    as_long_data: bool,
+) -> Option<TypedValue<'_>>
+    ensures value { unwrap_or (option_map typed_bytes result) [] ≡ bytes_under as_long_data param_type (param_of param.entry) }
+{
+    match param {
+        ExecuteParam::Value(ValueRef::Bytes(_)) if as_long_data => None,
+        ExecuteParam::Value(value) => TypedValue::of_param(param_type, ParamValue::Value(value)),
+        ExecuteParam::DateTimeWithOffset(date) => {
+            TypedValue::of_param(param_type, ParamValue::DateTimeWithOffset(date))
+        }
+        ExecuteParam::SentAhead => None,
+    }
+}
+
+/// The length of a parameter under a type, or `usize::MAX` where that is less: 0 of one that was sent ahead, and of a byte string that is
+/// long data.
+#[inline(always)]
+pub(crate) fn sent_len(param_type: ParamType, param: ExecuteParam<'_>, as_long_data: bool) -> usize
+    ensures value { result ≡ saturated (length (bytes_under as_long_data param_type (param_of param.entry))) }
+{
+    match sent_value(param_type, param, as_long_data) {
+        Some(value) => value.defined_len(),
+        None => 0,
+    }
+}
+
+/// Writes the bytes of a parameter under a type, for which there is capacity.
+#[inline(always)]
+#[tactic(auto, using(mysql_wire::proofs::After::after))]
+pub(crate) fn append_sent<O: Buffer>(
+    param_type: ParamType,
+    param: ExecuteParam<'_>,
+    as_long_data: bool,
+    out: &mut O,
+)
+    requires { length (O.held out.old) + length (bytes_under as_long_data param_type (param_of param)) ≤ O.capacity out.old }
+    ensures items { O.held out.new ≡ O.held out.old ++ bytes_under as_long_data param_type (param_of param.entry) }
+    ensures after { O.after out.new ≡ drop (length (bytes_under as_long_data param_type (param_of param.entry))) (O.after out.old) }
+    ensures capacity { O.capacity out.old ≤ O.capacity out.new }
+    ensures kept { O.kept out.new ≡ O.kept out.old }
+{
+    match sent_value(param_type, param, as_long_data) {
+        Some(value) => value.append(out),
+        None => {}
+    }
+}
+
+/// Values are written as their types, each with its name where there are names.
 #[derive(Drop)]
-pub(crate) struct AsParamTypes {
+pub(crate) struct AsTypes {
     pub(crate) has_names: bool,
 }
 
-impl<V: AsExecuteParam> ItemForm<V> for AsParamTypes {
-    ghost use Rattle.mysql_prepared.specs.ExecuteParam.{type_bytes, value_of};
+impl<V: AsExecuteParam> ItemForm<V> for AsTypes {
+    ghost use Rattle.mysql_prepared.specs.SentParam.{sent_param, type_bytes};
 
-    ghost item_bytes = { λ form param. type_bytes form.has_names [] (value_of (V.param param)) };
+    ghost item_bytes = { λ form value. type_bytes form.has_names (sent_param V.param V.named_type value) };
 
     #[inline(always)]
-    fn item_len(&self, _param: &V) -> usize {
-        if self.has_names { 3 } else { 2 }
+    fn item_len(&self, value: &V) -> usize {
+        if self.has_names {
+            <LenEnc as BytesRepr>::written_len(value.name()).saturating_add(2)
+        } else {
+            2
+        }
     }
 
     #[inline(always)]
-    fn append_item<O: Buffer>(&self, param: &V, out: &mut O) {
-        param.sent_type().append(out);
+    fn append_item<O: Buffer>(&self, value: &V, out: &mut O) {
+        value.sent_type().append(out);
         if self.has_names {
-            <LenEnc as BytesRepr>::append(&[], out);
+            <LenEnc as BytesRepr>::append(value.name(), out);
         }
     }
 }
 
-/// Attributes are written as their types, each with its name.
+/// The types of values one after another, each with its name where there are names.
 #[derive(Drop)]
-pub(crate) struct AsAttributeTypes;
+pub(crate) struct WrittenTypes<'a, V> {
+    pub(crate) items: &'a [V],
+    pub(crate) has_names: bool,
+}
 
-impl ItemForm<QueryAttribute<'_>> for AsAttributeTypes {
-    ghost use Rattle.mysql_values.specs.ValueRef.{ref_content};
-    ghost use Rattle.mysql_prepared.specs.ExecuteParam.{type_bytes};
+impl<V: AsExecuteParam> MySerialize for WrittenTypes<'_, V> {
+    ghost use Rattle.std.specs.List.{flat_map};
+    ghost use Rattle.mysql_prepared.specs.SentParam.{sent_param, type_bytes};
 
-    ghost item_bytes = { λ _ attribute. type_bytes true attribute.name.now (ref_content attribute.value) };
+    ghost bytes = { λ t. flat_map (λ v. type_bytes t.has_names (sent_param V.param V.named_type v)) t.items.now };
 
     #[inline(always)]
-    fn item_len(&self, attribute: &QueryAttribute<'_>) -> usize {
-        let name = attribute.name;
-        <LenEnc as BytesRepr>::written_len(name).saturating_add(2)
+    fn defined_len(&self) -> usize {
+        if !self.has_names {
+            return self.items.len().saturating_mul(2);
+        }
+        let types = Items {
+            items: self.items,
+            form: AsTypes {
+                has_names: self.has_names,
+            },
+        };
+        types.defined_len()
     }
 
     #[inline(always)]
-    fn append_item<O: Buffer>(&self, attribute: &QueryAttribute<'_>, out: &mut O) {
-        ParamType::from_value_ref(&attribute.value).append(out);
-        <LenEnc as BytesRepr>::append(attribute.name, out);
+    fn append<O: Buffer>(&self, out: &mut O) {
+        let types = Items {
+            items: self.items,
+            form: AsTypes {
+                has_names: self.has_names,
+            },
+        };
+        types.append(out);
     }
 }
 
-/// Parameters are written as their values: without those that were sent ahead, and without byte strings where they are long data.
+/// Values are written under their types: without those that were sent ahead, and without byte strings where they are long data.
 #[derive(Drop)]
-pub(crate) struct AsParamValues {
+pub(crate) struct AsValues {
     pub(crate) as_long_data: bool,
 }
 
-impl<V: AsExecuteParam> ItemForm<V> for AsParamValues {
-    ghost use Rattle.mysql_prepared.specs.ExecuteParam.{param_bytes};
+impl<V: AsExecuteParam> ItemForm<V> for AsValues {
+    ghost use Rattle.mysql_prepared.specs.SentParam.{sent_param, value_bytes};
 
-    ghost item_bytes = { λ form param. param_bytes form.as_long_data (V.param param) };
+    ghost item_bytes = { λ form value. value_bytes form.as_long_data (sent_param V.param V.named_type value) };
 
     #[inline(always)]
-    fn item_len(&self, param: &V) -> usize {
-        param.sent_len(self.as_long_data)
+    fn item_len(&self, value: &V) -> usize {
+        value.sent_len(self.as_long_data)
     }
 
     #[inline(always)]
-    fn append_item<O: Buffer>(&self, param: &V, out: &mut O) {
-        param.append_sent(self.as_long_data, out);
+    fn append_item<O: Buffer>(&self, value: &V, out: &mut O) {
+        value.append_sent(self.as_long_data, out);
     }
 }

@@ -1,5 +1,5 @@
 //! Text rows, written from their cells.
-#![tactic(auto, using(crate::proofs::OptionLengths::written), unfolding(mysql_wire::specs::Writing::saturated))]
+#![tactic(auto, using(crate::proofs::SentBytes::written), unfolding(mysql_wire::specs::Writing::saturated))]
 
 ghost use Rattle.std.specs.Prelude.{◌≡◌, ◌+◌, ◌++◌, ◌≤◌, length, map, vec_len, vec_capacity, IsOk, OnOk, OnErr};
 ghost use Rattle.std.specs.Option.{option_copied};

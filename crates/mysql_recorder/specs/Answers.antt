@@ -133,7 +133,7 @@ pub record IsAnswered (all : List KindName) (layout : Layout) (limit : ℕ) (sum
 
 -- a bad call
 abbrev pub usage : Answer
-usage = record { text = codes "usage: mypackets conversation [MAX] [caps=CAPS] [mariadb=CAPS] [--json] [--sum]\n"; status = 2 }
+usage = record { text = codes "usage: mypackets conversation [MAX] [caps=CAPS] [mariadb=CAPS] [--deciphered] [--json] [--sum]\n"; status = 2 }
 
 -- What is asked for is answered. A bad call is answered by its usage, and nothing is read.
 abbrev pub IsCallAnswered : List KindName → Option Call → Option (List ℕ) → Option (List ℕ) → Option (List ℕ) → Option (List ℕ) → ℕ → Type 0
@@ -143,7 +143,7 @@ IsCallAnswered all (Some call) before after old new status = IsAnswered all call
 -- So many words ask for something, or are a bad call; which of them is not said, but that more than five are.
 pub record IsRun (all : List KindName) (words : ℕ) (before after old new : Option (List ℕ)) (status : ℕ) : Type 0 where
   pub asked : Option Call
-  pub at_most : OnSome asked (words ≤ 5)
+  pub at_most : OnSome asked (words ≤ 6)
   pub answered : IsCallAnswered all asked before after old new status
 
 -- ---- its steps

@@ -21,6 +21,10 @@ longest r = sides.longest r.sides
 abbrev pub may_wait : Recording → ℕ
 may_wait r = sides.may_wait r.sides
 
+-- what comes after a request for TLS is what was inside of it
+abbrev pub is_deciphered : Recording → Bool
+is_deciphered r = sides.is_deciphered r.sides
+
 -- sums are asked for
 abbrev pub has_sums : Recording → Bool
 has_sums r = sides.has_sums r.sides

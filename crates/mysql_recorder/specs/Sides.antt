@@ -40,6 +40,10 @@ longest s = s.longest
 abbrev pub may_wait : Sides → ℕ
 may_wait s = connection.may_wait s.packets.followed
 
+-- what comes after a request for TLS is what was inside of it
+abbrev pub is_deciphered : Sides → Bool
+is_deciphered s = s.packets.followed.is_deciphered
+
 -- sums are asked for
 abbrev pub has_sums : Sides → Bool
 has_sums s = is_some s.packets.sums
@@ -63,11 +67,12 @@ pub record Stand (s : Sides) (pieces : List Piece) (items : List Item) : Type 0 
   pub followed : IsFollowed s.packets.followed (placed items)
   pub nothing_lost : s.has_lost ≡ false
 
--- what was asked for stays: how packets are shown, the limits, and whether there are sums
+-- what was asked for stays: how packets are shown, the limits, whether what is inside of TLS comes, and whether there are sums
 pub record KeepsSettings (old new : Sides) : Type 0 where
   pub layout : layout new ≡ layout old
   pub longest : longest new ≡ longest old
   pub may_wait : may_wait new ≡ may_wait old
+  pub deciphered : is_deciphered new ≡ is_deciphered old
   pub sums : has_sums new ≡ has_sums old
 
 -- these packets are a whole session, and of neither side a byte is held of a payload that is cut

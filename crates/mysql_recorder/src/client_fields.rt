@@ -57,5 +57,9 @@ fn append_login<'p>(
     ))?;
     fields.push(Field::bytes("user", login.user()))?;
     fields.push(Field::optional_bytes("db_name", login.db_name()))?;
-    Ok(fields.push(Field::optional_bytes("auth_plugin_name", login.auth_plugin_name()))?)
+    fields.push(Field::optional_bytes("auth_plugin_name", login.auth_plugin_name()))?;
+    match login.zstd_level() {
+        Some(level) => Ok(fields.push(Field::number("zstd_level", u64::from(level)))?),
+        None => Ok(()),
+    }
 }

@@ -3,10 +3,10 @@
 use crate::values::fault_name;
 use mysql_auth::ComChangeUserRef;
 use mysql_commands::{
-    ComQueryRef, ComStmtBulkExecuteRef, ComStmtExecuteRef, Command, QueryAttributesView,
-    ServerOption,
+    ComQueryRef, ComStmtBulkExecuteRef, ComStmtExecuteRef, Command, ServerOption,
 };
 use mysql_fields::Field;
+use mysql_prepared::QueryAttributesView;
 use mysql_repl::{ComBinlogDumpGtidRef, ComBinlogDumpRef, ComRegisterSlaveRef};
 use mysql_wire::Flags;
 use std::alloc::AllocError;
@@ -103,7 +103,10 @@ fn append_execution<'p>(
 ) -> Result<(), AllocError> {
     let head = execution.head();
     fields.push(Field::number("statement_id", u64::from(head.stmt_id())))?;
-    fields.push(Field::number("cursor_flags", u64::from(head.flags().bits())))?;
+    fields.push(Field::number("cursor_flags", u64::from(head.cursor().bits())))?;
+    if head.has_parameter_count() {
+        fields.push(Field::flag("parameter_count_available", true))?;
+    }
     Ok(fields.push(Field::number("length", execution.params().len() as u64))?)
 }
 
@@ -181,7 +184,8 @@ fn append_query<'p>(
     }
 }
 
-fn append_attributes<'p>(
+/// The names and the values of attributes, up to the first that can't be read.
+pub(crate) fn append_attributes<'p>(
     attributes: QueryAttributesView<'p>,
     fields: &mut Vec<Field<'p>>,
 ) -> Result<(), AllocError> {
@@ -189,8 +193,8 @@ fn append_attributes<'p>(
     for _ in 0..attributes.left() {
         match attributes.next_attribute() {
             Ok(Some(attribute)) => {
-                fields.push(Field::bytes("attribute", attribute.name()))?;
-                fields.push(Field::value("attribute_value", attribute.value()))?;
+                fields.push(Field::bytes("attribute", attribute.name))?;
+                fields.push(Field::param("attribute_value", attribute.value))?;
             },
             Ok(None) => return Ok(()),
             Err(fault) => return append(Field::word("refused", fault_name(&fault)), fields),

@@ -1,6 +1,6 @@
 //! What is followed: a connection from its greeting on, or one that is taken up amid it.
 
-ghost use Rattle.std.specs.Prelude.{◌≡◌, ◌↔◌, ◌⊎◌, ◌-◌, ℕ, List, [], ◌∷◌, ◌++◌, IfOk, IfErr, OnErr, IsTrue};
+ghost use Rattle.std.specs.Prelude.{true, false, ◌≡◌, ◌↔◌, ◌⊎◌, ◌-◌, ℕ, List, [], ◌∷◌, ◌++◌, IfOk, IfErr, OnErr, IsTrue};
 ghost use Rattle.mysql_conversation.specs.Pipelined.{Numbered};
 ghost use Rattle.mysql_conversation.specs.Piped as piped;
 ghost use Rattle.mysql_conversation.specs.Piped.{PipeTaken, place};
@@ -47,6 +47,16 @@ impl Connection {
         }
     }
 
+    /// Says that what comes after a request for TLS is what was inside of it.
+    fn decipher(&mut self)
+        ensures stays { (items : List Numbered) → IsWhole self.old items → IsWhole self.new items }
+        ensures limit { limit_of self.new ≡ limit_of self.old }
+    {
+        if let Connection::Whole(session) = self {
+            session.decipher();
+        }
+    }
+
     /// Whether all that was asked for is answered.
     fn is_at_rest(&self) -> bool
         ensures { (items : List Numbered) → IsWhole self.now items → IsTrue result ↔ IsSession items }
@@ -81,6 +91,8 @@ pub(crate) struct Followed {
     before: u64,
     /// The highest number of an exchange that came.
     last: u64,
+    /// Whether what comes after a request for TLS is what was inside of it.
+    is_deciphered: bool,
 }
 
 impl Followed {
@@ -91,13 +103,24 @@ impl Followed {
     pub(crate) fn whole(alloc: Global, waiting: usize) -> Self
         ensures followed { IsFollowed result [] }
         ensures may_wait { may_wait result ≡ waiting }
+        ensures deciphered { result.is_deciphered ≡ false }
     {
         Followed {
             alloc,
             connection: Connection::Whole(Session::new(alloc, waiting)),
             before: 0,
             last: 0,
+            is_deciphered: false,
         }
+    }
+
+    /// Says that what comes after a request for TLS is what was inside of it.
+    pub(crate) fn decipher(&mut self)
+        ensures followed { (items : List Numbered) → IsFollowed self.old items → IsFollowed self.new items }
+        ensures may_wait { may_wait self.new ≡ may_wait self.old }
+        ensures deciphered { self.new.is_deciphered ≡ true }
+    {
+        self.is_deciphered = true;
     }
 
     /// Goes on at the next command, under what both sides agreed on. Exchanges are counted on.
@@ -105,6 +128,7 @@ impl Followed {
         ensures taken_up { IsTakenUp self.new agreed [] self.old.last }
         ensures may_wait { may_wait self.new ≡ may_wait self.old }
         ensures last { self.new.last ≡ self.old.last }
+        ensures deciphered { self.new.is_deciphered ≡ self.old.is_deciphered }
     {
         let pipeline = self.anew(agreed);
         self.connection = Connection::TakenUp(pipeline, agreed);
@@ -116,6 +140,7 @@ impl Followed {
         ensures taken_up { IsTakenUpAfter self.new agreed command.now (self.old.last - 1) }
         ensures may_wait { may_wait self.new ≡ may_wait self.old }
         ensures last { self.new.last ≡ self.old.last }
+        ensures deciphered { self.new.is_deciphered ≡ self.old.is_deciphered }
     {
         let mut pipeline = self.anew(agreed);
         // (a command comes between two exchanges)
@@ -144,11 +169,24 @@ impl Followed {
             → IsSessionBeginning (items ++ place side payload.now kind number ∷ []) → ⊥) }
         ensures err { OnErr result ((items : List Numbered) → IsFollowed self.old items → IsFollowed self.new items) }
         ensures may_wait { may_wait self.new ≡ may_wait self.old }
+        ensures deciphered { self.new.is_deciphered ≡ self.old.is_deciphered }
     {
         let (kind, number) = self.connection.next(side, payload)?;
         let exchange = self.before.saturating_add(number);
         self.last = self.last.max(exchange);
+        self.pass_request();
         Ok((kind, exchange))
+    }
+
+    /// After a request for TLS goes on with what was inside of it, where that is what comes.
+    fn pass_request(&mut self)
+        ensures followed { (items : List Numbered) → IsFollowed self.old items → IsFollowed self.new items }
+        ensures may_wait { may_wait self.new ≡ may_wait self.old }
+        ensures deciphered { self.new.is_deciphered ≡ self.old.is_deciphered }
+    {
+        if self.is_deciphered {
+            self.connection.decipher();
+        }
     }
 
     /// Whether a packet of this kind may come next, of one side or the other.

@@ -74,6 +74,7 @@ impl Packets {
         ensures followed { IsFollowed result.followed [] }
         ensures layout { result.layout ≡ layout }
         ensures may_wait { may_wait result.followed ≡ waiting }
+        ensures deciphered { result.followed.is_deciphered ≡ false }
         ensures sums { is_some result.sums ≡ false }
     {
         Packets {
@@ -94,6 +95,17 @@ impl Packets {
         ensures sums { is_some self.new.sums ≡ true }
     {
         self.sums = Some(Sums::new(self.alloc));
+    }
+
+    /// Says that what comes after a request for TLS is what was inside of it.
+    pub(crate) fn decipher(&mut self)
+        ensures followed { (items : List Numbered) → IsFollowed self.old.followed items → IsFollowed self.new.followed items }
+        ensures may_wait { may_wait self.new.followed ≡ may_wait self.old.followed }
+        ensures deciphered { self.new.followed.is_deciphered ≡ true }
+        ensures layout { self.new.layout ≡ self.old.layout }
+        ensures sums { self.new.sums ≡ self.old.sums }
+    {
+        self.followed.decipher();
     }
 
     /// Appends the sums, where they are asked for.
@@ -130,6 +142,7 @@ impl Packets {
         ensures taken_up { IsTakenUp self.new.followed agreed [] self.old.followed.last }
         ensures layout { self.new.layout ≡ self.old.layout }
         ensures may_wait { may_wait self.new.followed ≡ may_wait self.old.followed }
+        ensures deciphered { self.new.followed.is_deciphered ≡ self.old.followed.is_deciphered }
         ensures sums { self.new.sums ≡ self.old.sums }
     {
         self.followed.take_up(agreed);
@@ -140,6 +153,7 @@ impl Packets {
         ensures taken_up { IsTakenUp self.new.followed agreed [] self.old.followed.last }
         ensures layout { self.new.layout ≡ self.old.layout }
         ensures may_wait { may_wait self.new.followed ≡ may_wait self.old.followed }
+        ensures deciphered { self.new.followed.is_deciphered ≡ self.old.followed.is_deciphered }
         ensures sums { self.new.sums ≡ self.old.sums }
     {
         self.followed.take_up(agreed);
@@ -156,6 +170,7 @@ impl Packets {
         ensures taken_up { (front : List ℕ) × IsTakenUpAfter self.new.followed agreed front (self.old.followed.last - 1) }
         ensures layout { self.new.layout ≡ self.old.layout }
         ensures may_wait { may_wait self.new.followed ≡ may_wait self.old.followed }
+        ensures deciphered { self.new.followed.is_deciphered ≡ self.old.followed.is_deciphered }
         ensures sums { self.new.sums ≡ self.old.sums }
     {
         self.followed.take_up_after(agreed, command.as_slice());
@@ -199,6 +214,7 @@ impl Packets {
         ensures stays { IfOk result (λ taken. Stays (string_bytes out.old) (string_bytes out.new)) }
         ensures layout { self.new.layout ≡ self.old.layout }
         ensures may_wait { may_wait self.new.followed ≡ may_wait self.old.followed }
+        ensures deciphered { self.new.followed.is_deciphered ≡ self.old.followed.is_deciphered }
         ensures sums { is_some self.new.sums ≡ is_some self.old.sums }
     {
         let is_between = self.followed.is_at_rest();

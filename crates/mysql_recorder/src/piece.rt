@@ -49,6 +49,7 @@ pub(crate) fn read_packets(
     ensures passed { stream.new.passed ≡ stream.old.passed }
     ensures layout { packets.new.layout ≡ packets.old.layout }
     ensures may_wait { may_wait packets.new.followed ≡ may_wait packets.old.followed }
+    ensures deciphered { packets.new.followed.is_deciphered ≡ packets.old.followed.is_deciphered }
     ensures sums { is_some packets.new.sums ≡ is_some packets.old.sums }
 {
     let mut input = piece;

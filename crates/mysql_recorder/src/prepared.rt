@@ -1,7 +1,7 @@
 //! The prepared statements of a recording.
 
+use crate::command_fields::append_attributes;
 use crate::values::fault_name;
-use bitflags::Flags;
 use mysql_conversation::Kind;
 use mysql_fields::Field;
 use mysql_prepared::{ComStmtExecuteHead, ExecuteParam, ExecuteParamsView};
@@ -9,7 +9,8 @@ use mysql_replies::SessionCapabilities;
 use mysql_statements::{
     EarlyCommands, EarlyLimits, RowColumn, Statement, StatementLimits, Statements,
 };
-use mysql_wire::{CapabilityFlags, FaultOf, ParseBuf};
+use mysql_values::ParamValue;
+use mysql_wire::{FaultOf, ParseBuf};
 use std::alloc::{AllocError, Global};
 
 /// The first byte of `COM_STMT_EXECUTE`.
@@ -100,7 +101,7 @@ impl Prepared {
     }
 }
 
-/// Appends the parameters of an execution of the statement, up to the first that is none.
+/// Appends the parameters and the attributes of an execution of the statement, up to the first that can't be read.
 pub(crate) fn append_params<'p>(
     alloc: Global,
     agreed: SessionCapabilities,
@@ -108,14 +109,7 @@ pub(crate) fn append_params<'p>(
     payload: &'p [u8],
     fields: &mut Vec<Field<'p>>,
 ) -> Result<(), AllocError> {
-    // (executions with attributes have another layout)
-    if agreed
-        .mysql
-        .contains(CapabilityFlags::CLIENT_QUERY_ATTRIBUTES)
-    {
-        return Ok(());
-    }
-    match view_of(alloc, statement, payload) {
+    match view_of(alloc, agreed, statement, payload) {
         Ok(Some(view)) => append_view(view, fields),
         Ok(None) => Ok(()),
         Err(fault) => Ok(fields.push(Field::word("refused", fault_name(&fault)))?),
@@ -125,13 +119,14 @@ pub(crate) fn append_params<'p>(
 /// The parameters of an execution, unless their types aren't known.
 fn view_of<'p, 'c, 's>(
     alloc: Global,
+    agreed: SessionCapabilities,
     statement: &'c Statement,
     payload: &'p [u8],
 ) -> Result<Option<ExecuteParamsView<'p, 'c>>, FaultOf<'s>> {
     let mut buf = ParseBuf::new(alloc, payload);
-    let _head: ComStmtExecuteHead = buf.parse(())?;
-    let view = ExecuteParamsView::new(statement.params(), buf)?;
-    if view.sends_types() || statement.is_bound() {
+    let head: ComStmtExecuteHead = buf.parse(())?;
+    let view = ExecuteParamsView::new(agreed.mysql, &head, statement.params(), buf)?;
+    if view.sends_types() || statement.is_bound() || view.left() == 0 {
         Ok(Some(view))
     } else {
         Ok(None)
@@ -145,20 +140,26 @@ fn append_view<'p>(
     let mut view = view;
     for _ in 0..view.left() {
         match view.next_param() {
-            Ok(Some((_, param))) => fields.push(field_of(param))?,
+            Ok(Some(it)) => fields.push(field_of(it.param))?,
             Ok(None) => return Ok(()),
             Err(fault) => {
                 return Ok(fields.push(Field::word("refused", fault_name(&fault)))?);
             }
         }
     }
-    Ok(())
+    match view.attributes() {
+        Some(attributes) => append_attributes(attributes, fields),
+        None => Ok(()),
+    }
 }
 
 /// A parameter.
 fn field_of<'p>(param: ExecuteParam<'p>) -> Field<'p> {
     match param {
         ExecuteParam::Value(value) => Field::value("parameter", value),
+        ExecuteParam::DateTimeWithOffset(date) => {
+            Field::param("parameter", ParamValue::DateTimeWithOffset(date))
+        }
         ExecuteParam::SentAhead => Field::word("parameter", "sent ahead"),
     }
 }

@@ -1,9 +1,10 @@
-//! `mypackets conversation [MAX] [caps=CAPS] [mariadb=CAPS] [--json] [--sum]`.
+//! `mypackets conversation [MAX] [caps=CAPS] [mariadb=CAPS] [--deciphered] [--json] [--sum]`.
 
 ghost use Rattle.std.specs.Prelude.{◌≡◌, ◌≤◌, ◌++◌, ℕ, length, List, OnSome, [], Option, Some, None, IfOk, IfSome, MatchOption, string_bytes};
 ghost use Rattle.mysql_recorder.specs.Answers as spec;
 ghost use Rattle.mysql_output.specs.Output.{Answer, IsFront, IsWritten};
 ghost use Rattle.mysql_recorder.specs.Recorded.{Recorded, has_lost, layout, longest};
+ghost use Rattle.mysql_recorder.specs.Shown.{Item};
 
 use crate::error::RecordingError;
 use crate::recording::Recording;
@@ -23,7 +24,7 @@ const LONGEST: usize = 64 << 20;
 const WAITING: usize = 4096;
 
 const USAGE: &[u8] =
-    b"usage: mypackets conversation [MAX] [caps=CAPS] [mariadb=CAPS] [--json] [--sum]\n";
+    b"usage: mypackets conversation [MAX] [caps=CAPS] [mariadb=CAPS] [--deciphered] [--json] [--sum]\n";
 
 /// What is written where an allocation fails.
 const OUT_OF_MEMORY: &[u8] = b"refused: Memory\n";
@@ -35,18 +36,21 @@ struct Call {
     longest: usize,
     /// Whether sums end the output.
     sums: bool,
+    /// Whether what comes after a request for TLS is what was inside of it.
+    is_deciphered: bool,
     /// What both sides agreed on, where the connection is taken up amid it.
     agreed: Option<SessionCapabilities>,
 }
 
 /// The call that the words after the command's name give, unless it is a bad one.
 fn call_of(words: &[String]) -> Option<Call>
-    ensures { OnSome result (length words.now ≤ 5) }
+    ensures { OnSome result (length words.now ≤ 6) }
 {
     let mut call = Call {
         layout: Layout::Lines,
         longest: LONGEST,
         sums: false,
+        is_deciphered: false,
         agreed: None,
     };
     let (mut caps, mut mariadb) = (None, 0);
@@ -54,6 +58,7 @@ fn call_of(words: &[String]) -> Option<Call>
         match word.as_str() {
             "--json" => call.layout = Layout::Json,
             "--sum" => call.sums = true,
+            "--deciphered" => call.is_deciphered = true,
             word => {
                 if let Some(digits) = word.strip_prefix("caps=") {
                     caps = Some(flags_of(digits)?);
@@ -66,7 +71,7 @@ fn call_of(words: &[String]) -> Option<Call>
         }
     }
     call.agreed = agreed_of(caps, mariadb);
-    if words.len() <= 5 { Some(call) } else { None }
+    if words.len() <= 6 { Some(call) } else { None }
 }
 
 /// Flags in hexadecimal.
@@ -116,9 +121,22 @@ fn begun(alloc: Global, call: Call) -> Recording
     ensures layout { layout result ≡ call.layout }
     ensures longest { longest result ≡ call.longest }
 {
-    let recording = opened(alloc, call);
+    let recording = deciphered_if(call.is_deciphered, opened(alloc, call));
     if call.sums {
         recording.with_sums()
+    } else {
+        recording
+    }
+}
+
+/// The recording, which goes on after a request for TLS where that is asked for.
+fn deciphered_if(is_deciphered: bool, recording: Recording) -> Recording
+    ensures recorded { (text : List ℕ) (items : List Item) → Recorded recording text items → Recorded result text items }
+    ensures layout { layout result ≡ layout recording }
+    ensures longest { longest result ≡ longest recording }
+{
+    if is_deciphered {
+        recording.deciphered()
     } else {
         recording
     }

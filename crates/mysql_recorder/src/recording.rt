@@ -51,6 +51,7 @@ impl Recording {
         ensures layout { spec.layout result ≡ layout }
         ensures longest { spec.longest result ≡ longest }
         ensures may_wait { spec.may_wait result ≡ waiting }
+        ensures deciphered { spec.is_deciphered result ≡ false }
         ensures sums { spec.has_sums result ≡ false }
     {
         Recording {
@@ -73,6 +74,7 @@ impl Recording {
         ensures layout { spec.layout result ≡ spec.layout self }
         ensures longest { spec.longest result ≡ spec.longest self }
         ensures may_wait { spec.may_wait result ≡ spec.may_wait self }
+        ensures deciphered { spec.is_deciphered result ≡ spec.is_deciphered self }
         ensures sums { spec.has_sums result ≡ spec.has_sums self }
     {
         let mut recording = self;
@@ -88,9 +90,25 @@ impl Recording {
         ensures layout { spec.layout result ≡ spec.layout self }
         ensures longest { spec.longest result ≡ spec.longest self }
         ensures may_wait { spec.may_wait result ≡ spec.may_wait self }
+        ensures deciphered { spec.is_deciphered result ≡ spec.is_deciphered self }
     {
         let mut recording = self;
         recording.sides.sum();
+        recording
+    }
+
+    /// Goes on after a request for TLS: the recording has what was inside of TLS, and no packet is refused as `Encrypted`.
+    pub fn deciphered(self) -> Self
+        ensures deciphered { spec.is_deciphered result ≡ true }
+        ensures recorded { (text : List ℕ) (items : List Item) → spec.Recorded self text items → spec.Recorded result text items }
+        ensures lost { spec.has_lost result ≡ spec.has_lost self }
+        ensures layout { spec.layout result ≡ spec.layout self }
+        ensures longest { spec.longest result ≡ spec.longest self }
+        ensures may_wait { spec.may_wait result ≡ spec.may_wait self }
+        ensures sums { spec.has_sums result ≡ spec.has_sums self }
+    {
+        let mut recording = self;
+        recording.sides.decipher();
         recording
     }
 
@@ -128,6 +146,7 @@ impl Recording {
         ensures layout { spec.layout self.new ≡ spec.layout self.old }
         ensures longest { spec.longest self.new ≡ spec.longest self.old }
         ensures may_wait { spec.may_wait self.new ≡ spec.may_wait self.old }
+        ensures deciphered { spec.is_deciphered self.new ≡ spec.is_deciphered self.old }
         ensures sums { spec.has_sums self.new ≡ spec.has_sums self.old }
         ensures refused { IfErr result (λ e. Stops KindName.ALL input.now self.old self.new e (string_bytes out.old) (string_bytes out.new)) }
         ensures loses { Loses result KindName.ALL input.now self.old self.new (string_bytes out.old) (string_bytes out.new) }
@@ -181,6 +200,7 @@ impl Recording {
         ensures layout { spec.layout self.new ≡ spec.layout self.old }
         ensures longest { spec.longest self.new ≡ spec.longest self.old }
         ensures may_wait { spec.may_wait self.new ≡ spec.may_wait self.old }
+        ensures deciphered { spec.is_deciphered self.new ≡ spec.is_deciphered self.old }
         ensures sums { spec.has_sums self.new ≡ spec.has_sums self.old }
         ensures refused { IfErr result (λ e. TextStops KindName.ALL self.old e (string_bytes out.old) (string_bytes out.new)) }
         ensures loses { TextLoses result KindName.ALL (Unit {0}) self.old self.new (string_bytes out.old) (string_bytes out.new) }

@@ -9,7 +9,8 @@ use mysql_fields::{
 use mysql_observer::ServerPacket;
 use mysql_prepared::TypedColumn;
 use mysql_repl::BinlogStreamEvent;
-use mysql_replies::{ErrPacketRef, ExtendedColumnRef, OkPacketRef};
+use mysql_replies::{ErrPacketRef, ExtendedColumnRef, FieldListColumn, OkPacketRef};
+use mysql_values::ValueRef;
 use mysql_wire::Flags;
 use std::alloc::{AllocError, Global};
 
@@ -37,6 +38,7 @@ pub(crate) fn server_fields<'p, C: TypedColumn>(
         ServerPacket::LocalInfile(file) => append_bytes("file_name", file.file_name(), fields),
         ServerPacket::ColumnCount(count) => add(count_fields(alloc, count)?, fields),
         ServerPacket::Column(column) => append_column(column, fields),
+        ServerPacket::FieldListColumn(column) => append_field_list_column(column, fields),
         ServerPacket::Eof(ok) => add(end_fields(alloc, ok)?, fields),
         ServerPacket::OkTerminator(ok) => append_ok(alloc, ok, fields),
         ServerPacket::TextRow(row) => append_text_row(row, fields),
@@ -137,6 +139,18 @@ fn append_column<'p>(
         Some(metadata) => append_bytes("extended_metadata", metadata, fields),
         None => Ok(()),
     }
+}
+
+/// The fields of a column, and its default value, shown as a value of a row is.
+fn append_field_list_column<'p>(
+    column: &FieldListColumn<'p>,
+    fields: &mut Vec<Field<'p>>,
+) -> Result<(), AllocError> {
+    append_column(column.column(), fields)?;
+    let value = column
+        .default_value()
+        .map_or(ValueRef::NULL, ValueRef::Bytes);
+    Ok(fields.push(Field::value("default_value", value))?)
 }
 
 /// An event is shown by its first 19 bytes, the header that all have.

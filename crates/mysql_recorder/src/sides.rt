@@ -44,6 +44,7 @@ impl Sides {
         ensures layout { spec.layout result ≡ layout }
         ensures longest { spec.longest result ≡ longest }
         ensures may_wait { spec.may_wait result ≡ waiting }
+        ensures deciphered { spec.is_deciphered result ≡ false }
         ensures sums { spec.has_sums result ≡ false }
     {
         Sides {
@@ -75,6 +76,19 @@ impl Sides {
         ensures may_wait { spec.may_wait self.new ≡ spec.may_wait self.old }
     {
         self.packets.sum();
+    }
+
+    /// Says that what comes after a request for TLS is what was inside of it.
+    pub(crate) fn decipher(&mut self)
+        ensures stand { (pieces : List Piece) (items : List Item) → spec.Stand self.old pieces items → spec.Stand self.new pieces items }
+        ensures deciphered { spec.is_deciphered self.new ≡ true }
+        ensures lost { spec.has_lost self.new ≡ spec.has_lost self.old }
+        ensures layout { spec.layout self.new ≡ spec.layout self.old }
+        ensures longest { spec.longest self.new ≡ spec.longest self.old }
+        ensures may_wait { spec.may_wait self.new ≡ spec.may_wait self.old }
+        ensures sums { spec.has_sums self.new ≡ spec.has_sums self.old }
+    {
+        self.packets.decipher();
     }
 
     /// Appends the sums, where they are asked for.

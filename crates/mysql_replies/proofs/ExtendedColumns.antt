@@ -36,20 +36,22 @@ metadata-fits : (capabilities : MariadbCapabilities) (sends : Bool) (metadata : 
 metadata-fits capabilities sends None rest fits = fits
 metadata-fits capabilities sends (Some bytes) rest fits = fits
 
+pub extended_column-fits : (capabilities : MariadbCapabilities) (c : ExtendedColumn) (rest : List ℕ) → ExtendedColumnFits capabilities c → extended_column.fits capabilities c rest
+unfolding extended_column column_meta column_fields
+extended_column-fits capabilities c rest h = (
+  refl,
+  (
+    (h.column.schema, (h.column.table, (h.column.org_table, (h.column.name, (h.column.org_name, tt))))),
+    (
+      metadata-fits capabilities (sends_metadata capabilities) (metadata_of c) _ h.metadata,
+      ((tt, (h.column.character_set, (h.column.column_length, (tt, (h.column.flags, (h.column.decimals, (tt, tt))))))), tt),
+    ),
+  ),
+)
+
 pub extended_column-plain : (capabilities : MariadbCapabilities) (c : ExtendedColumn) (rest : List ℕ) → ExtendedColumnFits capabilities c
     → (extended_column.form capabilities).Spells c (extended_column.bytes c ++ rest) rest
-unfolding extended_column column_meta column_fields
-extended_column-plain capabilities c rest h =
-    extended_column.again capabilities c rest (
-      refl,
-      (
-        (h.column.schema, (h.column.table, (h.column.org_table, (h.column.name, (h.column.org_name, tt))))),
-        (
-          metadata-fits capabilities (sends_metadata capabilities) (metadata_of c) _ h.metadata,
-          ((tt, (h.column.character_set, (h.column.column_length, (tt, (h.column.flags, (h.column.decimals, (tt, tt))))))), tt),
-        ),
-      ),
-    )
+extended_column-plain capabilities c rest h = extended_column.again capabilities c rest (extended_column-fits capabilities c rest h)
 
 pub column_attribute-plain : (a : ColumnAttribute) (rest : List ℕ) → attribute_code a < 2 ^ 8 → length (attribute_text a) < 2 ^ 64
     → (column_attribute.form tt).Spells a (column_attribute.bytes a ++ rest) rest

@@ -13,3 +13,4 @@ pub mod AsSent
 pub mod StateString
 pub mod BytesExact
 pub mod OkPacketRead
+pub mod FieldListColumns

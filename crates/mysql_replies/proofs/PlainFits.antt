@@ -6,7 +6,7 @@ use Rattle.mysql_wire.specs.Codecs.{without_context, u8}
 use Rattle.mysql_wire.specs.declared.int.RawInt.{RawInt}
 use Rattle.mysql_replies.specs.declared.session_capabilities.SessionCapabilities.{SessionCapabilities}
 use Rattle.mysql_replies.specs.declared.column_count.ColumnCount.{ColumnCount}
-use Rattle.mysql_replies.specs.ColumnCount.{column_count, says_follow, says_optional, IsSaid, SaysByte, ColumnCountFits}
+use Rattle.mysql_replies.specs.ColumnCount.{column_count, says_follow, IsSaid, SaysByte, ColumnCountFits}
 use Rattle.mysql_replies.specs.declared.column.Column.{Column}
 use Rattle.mysql_replies.specs.declared.local_infile.LocalInfilePacket.{LocalInfilePacket}
 use Rattle.mysql_replies.specs.declared.progress_report.ProgressReport.{ProgressReport}
@@ -61,8 +61,8 @@ pub column_count-plain : (capabilities : SessionCapabilities) (c : ColumnCount) 
 unfolding column_count
 column_count-plain capabilities c rest h =
     column_count.again capabilities c rest (
-      said-fits capabilities (says_optional capabilities) c.optional_metadata _ h.optional_byte h.suits.optional,
-      (h.count, (said-fits capabilities (says_follow capabilities) c.metadata_follows rest h.byte h.suits.follows, tt)),
+      h.count,
+      (said-fits capabilities (says_follow capabilities) c.metadata_follows rest h.byte h.suits, tt),
     )
 
 pub ruleset plain = (column_count-plain, column-plain, local_infile-plain, progress_report-plain, server_error-plain, session_state_info-plain, sql_state-plain)

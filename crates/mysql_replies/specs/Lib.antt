@@ -21,3 +21,4 @@ pub mod Column
 pub mod ColumnAttribute
 pub mod ColumnAttributes
 pub mod ExtendedColumn
+pub mod FieldListColumn

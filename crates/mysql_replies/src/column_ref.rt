@@ -21,7 +21,7 @@ use std::marker::Model;
 /// It is read of the same bytes as a [`Column`], with the same faults but for `Memory`, and in a clause it is that column.
 #[derive(Drop)]
 pub struct ColumnRef<'a> {
-    names: Names<'a>,
+    pub(crate) names: Names<'a>,
     character_set: u16,
     column_length: u32,
     column_type: ColumnType,
@@ -121,7 +121,7 @@ impl<'a> ColumnRef<'a> {
     }
 
     /// The fields of fixed lengths.
-    fn fields(&self) -> ColumnFields
+    pub(crate) fn fields(&self) -> ColumnFields
         ensures value { result ≡ self.now.fields }
     {
         fields_of(

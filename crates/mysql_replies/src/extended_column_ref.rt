@@ -14,7 +14,8 @@ use crate::column_ref::{ColumnRef, placed};
 use crate::extended_column::ExtendedColumn;
 use bitflags::Flags;
 use mysql_wire::{
-    AnyWidth, FaultOf, LenEnc, MariadbCapabilities, MyDeserialize, ParseBuf, RawBytes,
+    AnyWidth, FaultOf, LenEnc, MariadbCapabilities, MyDeserialize, ParseBuf, Parts, RawBytes, Sink,
+    parts,
 };
 use std::alloc::{AllocError, Global};
 use std::borrow::CowSlice;
@@ -24,8 +25,8 @@ use std::marker::Model;
 
 /// A column of a result whose names and extended metadata stay in the packet: an [`ExtendedColumn`] without memory.
 ///
-/// It is read of the same bytes as an [`ExtendedColumn`], with the same faults but for `Memory`, and in a clause it is that
-/// column.
+/// It is read from the same bytes as an [`ExtendedColumn`], with the same faults except `Memory`, and written as the same bytes. In a
+/// clause it is that column.
 #[derive(Drop)]
 pub struct ExtendedColumnRef<'a> {
     column: ColumnRef<'a>,
@@ -130,6 +131,22 @@ fn written<'a>(metadata: Option<&'a [u8]>) -> Option<RawBytes<'a, LenEnc>>
     match metadata {
         Some(metadata) => Some(RawBytes::new(CowSlice::Borrowed(metadata))),
         None => None,
+    }
+}
+
+/// The bytes of the [`ExtendedColumn`].
+impl Parts for ExtendedColumnRef<'_> {
+    ghost bytes = { spec.extended_column.bytes };
+
+    #[inline(always)]
+    fn put<S: Sink>(&self, sink: &mut S) {
+        let catalog = ColumnDefinitionCatalog::default();
+        sink.part(&parts!(
+            catalog,
+            self.column.names.meta(),
+            written(self.metadata),
+            self.column.fields()
+        ));
     }
 }
 

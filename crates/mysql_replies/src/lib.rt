@@ -15,6 +15,7 @@ mod err_packet_ref;
 mod extended_column;
 mod extended_column_ref;
 mod faults;
+mod field_list_column;
 mod greeting_error;
 mod greeting_error_ref;
 pub mod laws;
@@ -54,6 +55,7 @@ pub use faults::{
     InvalidCatalog, InvalidErrPacketHeader, InvalidFixedLengthFieldsLen, InvalidGtidsEncoding,
     InvalidLocalInfileHeader, InvalidOkPacketHeader, InvalidSqlStateMarker,
 };
+pub use field_list_column::FieldListColumn;
 pub use greeting_error::GreetingError;
 pub use greeting_error_ref::GreetingErrorRef;
 pub use local_infile::{LocalInfileHeader, LocalInfilePacket};

@@ -2,23 +2,24 @@
 use Rattle.std.proofs.Common.{◌≡◌, ℕ, zero, suc, ◌+◌, ◌-◌, ◌<◌, ◌≤◌, Bool, true, false, nat_lt, ◌&&◌, not, List, [], ◌∷◌, ◌++◌, Option, Some, None, length, refl, sym, ap, subst, ◌==◌, Result, Ok, Err, OnOk, OnErr, if◌then◌else◌, arith}
 use Rattle.std.proofs.lemmas.List.{length-append, length-map, length-replicate}
 use Rattle.std.proofs.lemmas.Bool.{leb-true, ltb-true, and_parts}
-use Rattle.mysql_values.specs.declared.param_type.ParamType.{ParamType}
 use Rattle.mysql_wire.specs.Reading.{Reading}
-use Rattle.mysql_prepared.specs.ExecuteRead.{under_types, types as types_form}
+use Rattle.mysql_prepared.specs.BindFront.{BindFront}
+use Rattle.mysql_prepared.specs.ExecuteRead.{given_types}
+use Rattle.mysql_prepared.specs.SentTypes.{NamedType, under_types}
 use Rattle.mysql_prepared.specs.declared.execute_view.BoundParam.{BoundParam}
 use Rattle.mysql_conversation.specs.Agreements.{Agreed}
 use Rattle.mysql_conversation.specs.declared.kind.Kind.{Kind}
 use Rattle.mysql_conversation.specs.declared.kind.Kind.TheVariants as kind
 use Rattle.mysql_statements.specs.Kept.{Kept}
 use Rattle.mysql_statements.specs.Statement.{types, at, without_data, with_param, with_column, with_result, with_data, with_no_data, with_type, sent_ahead as marked, param_type_of, undefined}
-use Rattle.mysql_statements.specs.Binding.{bound_in, bound_by, with_front, with_execution, front_of}
+use Rattle.mysql_statements.specs.Binding.{bound_by, with_execution, front_of}
 use Rattle.mysql_statements.specs.Table.{Table, held, change, change_of, without, without_of, named, has_capacity, has_place, following, prepared, failed_at, defined_column, defined_at, defined, executing, executed, fetched, counted_at, closed, otherwise, cleared}
-use Rattle.mysql_statements.specs.After.{after, asked, asked_one, for_data, is_of_one, layout_of, prepared_by}
+use Rattle.mysql_statements.specs.After.{after, asked, asked_one, for_data, is_of_one, prepared_by}
 use Rattle.mysql_statements.specs.Bounds.{IsWithin, expected}
 use Rattle.mysql_statements.specs.Packets.{number_at, prepared_at, column_at, data_at}
 use Rattle.mysql_statements.specs.declared.row_column.RowColumn.{RowColumn}
 use Rattle.mysql_statements.specs.declared.layout.Layout.{Layout}
-use Rattle.mysql_statements.specs.declared.layout.Layout.TheVariants.{Bulk}
+use Rattle.mysql_statements.specs.declared.layout.Layout.TheVariants.{Bulk, Single}
 use Rattle.mysql_statements.specs.declared.task.Task.{Task}
 use Rattle.mysql_statements.specs.declared.task.Task.TheVariants.{Other, Prepare, Definitions, Execution}
 
@@ -29,18 +30,18 @@ length_at k f [] = refl
 length_at zero f (p ∷ ps) = refl
 length_at (suc k) f (p ∷ ps) = ap suc (length_at k f ps)
 
-length_under : (ps : List BoundParam) (ts : List ParamType) → length (under_types ps ts) ≤ length ps
+length_under : (ps : List BoundParam) (ts : List NamedType) → length (under_types ps ts) ≤ length ps
 length_under [] ts = omega arith
 length_under (p ∷ ps) [] = omega arith
 length_under (p ∷ ps) (t ∷ ts) = let h = length_under ps ts in omega arith
 
-length_bound_in : (ps : List BoundParam) (r : Reading (List ParamType)) → length (bound_in ps r).params ≤ length ps
-length_bound_in ps (Ok x) = length_under ps x.0
-length_bound_in ps (Err e) = omega arith
+length_given : (sends : Bool) (ps : List BoundParam) (ts : List NamedType) → length (given_types sends ps ts) ≤ length ps
+length_given true ps ts = length_under ps ts
+length_given false ps ts = omega arith
 
-length_bound : (sends : Bool) (ps : List BoundParam) (bytes : List ℕ) → length (bound_by sends ps bytes).params ≤ length ps
-length_bound true ps bytes = length_bound_in ps ((types_form (length ps)).reads bytes)
-length_bound false ps bytes = omega arith
+length_bound : (ps : List BoundParam) (r : Reading BindFront) → length (bound_by ps r).params ≤ length ps
+length_bound ps (Ok x) = length_given x.0.sends_types ps x.0.types
+length_bound ps (Err e) = omega arith
 
 param_types : (left : ℕ) (c : RowColumn) (s : Kept) → types (with_param left c s) ≤ types s + 0
 param_types left c s = let e = length_at (length s.params - left) (with_type (param_type_of c)) s.params in omega arith
@@ -58,12 +59,11 @@ data_types place s = let e = length_at place marked s.params in omega arith
 no_data_types : (s : Kept) → types (with_no_data s) ≤ types s + 0
 no_data_types s = omega (arith, length-map s.params without_data)
 
-front_types : (r : Reading Bool) (s : Kept) → types (with_front r s) ≤ types s + 0
-front_types (Ok x) s = let h = length_bound x.0 s.params x.1 in omega (arith, length-map (bound_by x.0 s.params x.1).params without_data)
-front_types (Err e) s = no_data_types s
-
 execution_types : (layout : Layout) (p : List ℕ) (s : Kept) → types (with_execution layout p s) ≤ types s + 0
-execution_types layout p s = front_types ((front_of layout (length s.params)).reads p) s
+execution_types layout p s =
+    let r = (front_of layout (length s.params)).reads p in
+    let h = length_bound s.params r in
+    omega (arith, h, length-map (bound_by s.params r).params without_data)
 
 -- ---- how many all have
 
@@ -243,7 +243,7 @@ within_one a code p (Some id) t h =
     chosen (code == 0x19) _ _ (within_closed id t h) (
     chosen (code == 0x1a) _ _ (within_change t (named t.last id) with_no_data Other no_data_types refl h) (
     chosen (code == 0x1c) _ _ (within_fetched id t h) (
-    chosen (code == 0xfa) _ _ (within_executed Bulk p id t h) (within_executed (layout_of a) p id t h)
+    chosen (code == 0xfa) _ _ (within_executed Bulk p id t h) (within_executed (Single a.mysql) p id t h)
     )
     )
     )

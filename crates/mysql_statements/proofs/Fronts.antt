@@ -1,62 +1,67 @@
 -- What an execution binds is what its parameters are read under.
-use Rattle.std.proofs.Common.{◌≡◌, ◌∙◌, ℕ, suc, ◌==◌, Bool, true, false, not, ◌||◌, List, [], ◌∷◌, length, map, refl, ap, Ok, Err}
-use Rattle.mysql_wire.specs.Reading.{Reading, then_read, then_read-ok, done-value}
-use Rattle.mysql_wire.specs.Int.{byte}
-use Rattle.mysql_wire.specs.declared.int.RawInt.{RawInt}
+use Rattle.std.proofs.Common.{◌≡◌, ◌∙◌, ℕ, ◌+◌, ◌||◌, Bool, true, false, List, [], ◌∷◌, length, map, refl, sym, ap, Ok}
+use Rattle.mysql_wire.specs.Each.{each}
+use Rattle.mysql_wire.specs.Flags.{CapabilityFlags}
+use Rattle.mysql_wire.specs.Reading.{then_read, then_read-ok, done-value}
 use Rattle.mysql_values.specs.declared.param_type.ParamType.{ParamType}
-use Rattle.mysql_prepared.specs.Bitmap.{Bitmap}
-use Rattle.mysql_prepared.specs.ExecuteHead.{execute_head}
+use Rattle.mysql_prepared.specs.Attributes.{Attribute, values}
+use Rattle.mysql_prepared.specs.BindFront.{BindFront}
+use Rattle.mysql_prepared.specs.Bitmap.{cell}
+use Rattle.mysql_prepared.specs.ExecuteHead.{cursor_flags, execute_head}
 use Rattle.mysql_prepared.specs.declared.execute_head.ComStmtExecuteHead.{ComStmtExecuteHead}
-use Rattle.mysql_prepared.specs.ExecuteRead.{Front, front, bound_params, types, under_types}
-use Rattle.mysql_prepared.specs.NullBitmap.{null_bitmap}
+use Rattle.mysql_prepared.specs.ExecuteRead.{BoundType, TypedParam, execution, execution_front, given_types, in_force, param_form, typed_param}
+use Rattle.mysql_prepared.specs.SentTypes.{NamedType}
 use Rattle.mysql_prepared.specs.declared.execute_view.BoundParam.{BoundParam}
 use Rattle.mysql_statements.specs.Kept.{Kept}
 use Rattle.mysql_statements.specs.Statement.{without_data}
-use Rattle.mysql_statements.specs.Binding.{Bound, bound_in, bound_by, single_front, with_bound, with_front, with_execution}
+use Rattle.mysql_statements.specs.Binding.{bound_by, single_front, with_bound, with_execution}
 use Rattle.mysql_statements.specs.declared.layout.Layout.TheVariants.{Single}
 
-abbrev bound : Bool → List BoundParam → Bound
-bound b ps = record { is_bound = b; params = ps }
+module _ (c : CapabilityFlags) (s : Kept) (p body rest : List ℕ) (h : ComStmtExecuteHead) (head : (execute_head.form tt).reads p ≡ Ok (h, body)) where
+  front_read : (f : BindFront) (after : List ℕ) → (execution_front c (cursor_flags h) (length s.params)).reads body ≡ Ok (f, after) → (single_front c (length s.params)).reads p ≡ Ok (f, after)
+  front_read f after r = rw (head, r) refl
 
-types_bound : (ps qs : List BoundParam) (r : Reading (List ParamType)) (rest : List ℕ) → then_read r (λ ts after. Ok (under_types ps ts, after)) ≡ Ok (qs, rest) → bound_in ps r ≡ bound true qs
-types_bound ps qs (Ok x) rest h = ap (λ l. bound true l) (done-value (under_types ps x.0) qs x.1 rest h)
-types_bound ps qs (Err e) rest h = absurd cc
+  pub execution_binds : (f : BindFront) → (execution_front c (cursor_flags h) (length s.params)).reads body ≡ Ok (f, rest)
+      → with_execution (Single c) p s ≡ record s { params = map without_data (given_types f.sends_types s.params f.types); is_bound = f.sends_types || s.is_bound }
+  execution_binds f r = ap (λ x. with_bound (bound_by s.params x) s) (front_read f rest r)
 
-params_bound : (s : Bool) (ps qs : List BoundParam) (bytes rest : List ℕ) → (bound_params s ps).reads bytes ≡ Ok (qs, rest) → bound_by s ps bytes ≡ bound s qs
-params_bound true ps qs bytes rest h = types_bound ps qs ((types (length ps)).reads bytes) rest h
-params_bound false ps qs bytes rest h = ap (λ l. bound false l) (done-value ps qs bytes rest h)
+-- the type of a parameter that is in force, and of one that was read
+abbrev in_use : BoundType → ParamType
+in_use b = b.named_type.param_type
 
--- what is read before the types, and what they bind
-record Read (ps : List BoundParam) (p : List ℕ) (f : Front) : Type 0 where
-  sends : Bool
-  rest : List ℕ
-  read : (single_front (length ps)).reads p ≡ Ok (sends, rest)
-  binds : bound_by sends ps rest ≡ bound f.sends_types f.bound
+abbrev pub type_read : TypedParam → ParamType
+type_read x = x.named_type.param_type
 
-flag_read : (n : ℕ) (p body mid rest : List ℕ) (h : ComStmtExecuteHead) (nulls : Bitmap) (b : RawInt ℕ ℕ) → (execute_head.form tt).reads p ≡ Ok (h, body)
-    → (null_bitmap 0 (suc n)).reads body ≡ Ok (nulls, mid) → byte.reads mid ≡ Ok (b, rest) → (single_front (suc n)).reads p ≡ Ok (not (b.0 == 0), rest)
-flag_read n p body mid rest h nulls b e i j = rw (e, i, j) refl
+abbrev kept : BoundParam → ParamType
+kept q = q.param_type
 
-front_read : (ps : List BoundParam) (p body rest : List ℕ) (h : ComStmtExecuteHead) (f : Front) → (execute_head.form tt).reads p ≡ Ok (h, body) → (front ps).reads body ≡ Ok (f, rest) → Read ps p f
-front_read [] p body rest h f e r =
-    let same : record { nulls = []; sends_types = false; bound = [] } ≡ f = done-value _ f body rest r in
-    record { sends = false; rest = p; read = refl; binds = ap (λ g. bound g.sends_types g.bound) same }
-front_read (q ∷ ps) p body rest h f e r =
-    let all = q ∷ ps in
-    let one = then_read-ok ((null_bitmap 0 (length all)).reads body) _ (f, rest) r in
-    let two = then_read-ok (byte.reads one.1) _ (f, rest) one.3 in
-    let s = not (two.0.0 == 0) in
-    let three = then_read-ok ((bound_params s all).reads two.1) _ (f, rest) two.3 in
-    let same = done-value _ f three.1 rest three.3 in
-    record {
-      sends = s;
-      rest = two.1;
-      read = flag_read (length ps) p body one.1 two.1 h one.0 two.0 e one.2 two.2;
-      binds = params_bound s all three.0 two.1 three.1 three.2 ∙ ap (λ g. bound g.sends_types g.bound) same;
-    }
+-- parameters are read under the types that are in force
+types_read : (nulls : List ℕ) (place : ℕ) (bs : List BoundType) (bytes rest : List ℕ) (xs : List TypedParam) → (each (typed_param nulls) place bs).reads bytes ≡ Ok (xs, rest) → map in_use bs ≡ map type_read xs
+unfolding each
+types_read nulls place [] bytes rest xs e = ap (λ l. map type_read l) (done-value [] xs bytes rest e)
+types_read nulls place (b ∷ bs) bytes rest xs e =
+    let one = then_read-ok ((typed_param nulls place b).reads bytes) _ (xs, rest) e in
+    let more = then_read-ok ((each (typed_param nulls) (place + 1) bs).reads one.1) _ (xs, rest) one.3 in
+    let made = then_read-ok ((param_form b.is_sent_ahead _ b.named_type.param_type).reads bytes) _ (one.0, one.1) one.2 in
+    let first : in_use b ≡ type_read one.0 = ap type_read (done-value _ one.0 made.1 one.1 made.3) in
+    ap (λ t. t ∷ map in_use bs) first ∙ ap (λ l. type_read one.0 ∷ l) (types_read nulls (place + 1) bs one.1 more.1 more.0 more.2) ∙ ap (λ l. map type_read l) (done-value (one.0 ∷ more.0) xs more.1 rest more.3)
 
-pub execution_binds : (s : Kept) (p body rest : List ℕ) (h : ComStmtExecuteHead) (f : Front) → (execute_head.form tt).reads p ≡ Ok (h, body) → (front s.params).reads body ≡ Ok (f, rest)
-    → with_execution Single p s ≡ record s { params = map without_data f.bound; is_bound = f.sends_types || s.is_bound }
-execution_binds s p body rest h f e r =
-    let x = front_read s.params p body rest h f e r in
-    ap (λ y. with_front y s) x.read ∙ ap (λ b. with_bound b s) x.binds
+-- they are those that are kept
+types_kept : (s : Bool) (ps : List BoundParam) (ts : List NamedType) → map kept (map without_data (given_types s ps ts)) ≡ map in_use (in_force s ps ts)
+types_kept true [] ts = refl
+types_kept true (p ∷ ps) [] = refl
+types_kept true (p ∷ ps) (t ∷ ts) = ap (λ l. t.param_type ∷ l) (types_kept true ps ts)
+types_kept false [] ts = refl
+types_kept false (p ∷ ps) ts = ap (λ l. p.param_type ∷ l) (types_kept false ps ts)
+
+pub execution_keeps : (c : CapabilityFlags) (s : Kept) (p body rest : List ℕ) (h : ComStmtExecuteHead) (params : List TypedParam) (attributes : List Attribute) → (execute_head.form tt).reads p ≡ Ok (h, body)
+    → (execution c (cursor_flags h) s.params).reads body ≡ Ok ((params, attributes), rest) → map kept (with_execution (Single c) p s).params ≡ map type_read params
+execution_keeps c s p body rest h params attributes head e =
+    let front = then_read-ok ((execution_front c (cursor_flags h) (length s.params)).reads body) _ ((params, attributes), rest) e in
+    let f = front.0 in
+    let bs = in_force f.sends_types s.params f.types in
+    let all = then_read-ok ((each (typed_param f.nulls) 0 bs).reads front.1) _ ((params, attributes), rest) front.3 in
+    let others = then_read-ok ((values f.nulls (length s.params) _).reads all.1) _ ((params, attributes), rest) all.3 in
+    let same = ap (λ x. x.0) (done-value (all.0, others.0) (params, attributes) others.1 rest others.3) in
+    ap (λ k. map kept k.params) (execution_binds c s p body front.1 h head f front.2)
+    ∙ types_kept f.sends_types s.params f.types ∙ types_read f.nulls 0 bs front.1 all.1 all.0 all.2 ∙ ap (λ l. map type_read l) same

@@ -1,7 +1,6 @@
 pub mod Numbers
 pub mod Params
 pub mod Refused
-pub mod Types
 pub mod Bounds
 pub mod Runs
 pub mod Fronts

@@ -3,19 +3,13 @@ use Rattle.std.specs.Prelude.{ℕ, ◌==◌, ◌||◌, List, Bool, Option, Some,
 use Rattle.mysql_conversation.specs.Agreements.{Agreed}
 use Rattle.mysql_conversation.specs.declared.kind.Kind.{Kind}
 use Rattle.mysql_conversation.specs.declared.kind.Kind.TheVariants as kind
-use Rattle.mysql_statements.specs.Binding.{has_attributes}
-use Rattle.mysql_statements.specs.declared.layout.Layout.{Layout}
-use Rattle.mysql_statements.specs.declared.layout.Layout.TheVariants.{Single, Bulk, Closed}
+use Rattle.mysql_statements.specs.declared.layout.Layout.TheVariants.{Single, Bulk}
 use Rattle.mysql_statements.specs.Packets.{number_at, prepared_at, column_at, data_at}
 use Rattle.mysql_statements.specs.Table.{Table, otherwise, preparing, prepared, failed, defined, executed, fetched, counted, sent_ahead, reset, closed, cleared}
 
 abbrev pub for_data : Option (ℕ × ℕ) → Table → Table
 for_data None t = otherwise t
 for_data (Some x) t = sent_ahead x.0 x.1 t
-
--- how a COM_STMT_EXECUTE lies in the bytes
-abbrev pub layout_of : Agreed → Layout
-layout_of a = if has_attributes a then Closed else Single
 
 -- a command that is of one statement
 abbrev pub asked_one : Agreed → ℕ → List ℕ → Option ℕ → Table → Table
@@ -25,7 +19,7 @@ asked_one a code p (Some id) t =
     else (if code == 0x1a then reset id t  -- COM_STMT_RESET
     else (if code == 0x1c then fetched id t  -- COM_STMT_FETCH
     else (if code == 0xfa then executed Bulk p id t  -- COM_STMT_BULK_EXECUTE
-    else executed (layout_of a) p id t)))  -- COM_STMT_EXECUTE
+    else executed (Single a.mysql) p id t)))  -- COM_STMT_EXECUTE
 
 abbrev pub is_of_one : ℕ → Bool
 is_of_one code = code == 0x17 || code == 0xfa || code == 0x1c || code == 0x19 || code == 0x1a

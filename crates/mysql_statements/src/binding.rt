@@ -1,92 +1,77 @@
 //! The types that executions give their parameters.
 
-ghost use Rattle.std.specs.Prelude.{◌≡◌, length, false, true, IfOk, IfErr, Ok, Err, List, ℕ};
+ghost use Rattle.std.specs.Prelude.{◌≡◌, length, false};
 ghost use Rattle.mysql_wire.specs.Reading.{Answers};
-ghost use Rattle.mysql_prepared.specs.ExecuteRead.{HasTypes, bound_left};
 ghost use Rattle.mysql_statements.specs.Binding as spec;
 
 use crate::layout::Layout;
-use mysql_prepared::{BoundParam, ComStmtExecuteHead, NullBitmap, skip_param_types};
-use mysql_replies::SessionCapabilities;
-use mysql_values::{ClientSide, ParamType};
-use mysql_wire::{CapabilityFlags, FaultOf, Flags, LeU16, LeU32, MyDeserialize, ParseBuf, RawInt};
+use mysql_prepared::{BoundParam, ComStmtExecuteHead, ExecuteParamsBytes, SentParamTypes};
+use mysql_wire::{CapabilityFlags, FaultOf, LeU16, LeU32, ParseBuf, RawInt};
 
-/// Whether executions have attributes, and lie otherwise: `CLIENT_QUERY_ATTRIBUTES`.
-pub(crate) fn has_attributes(agreed: SessionCapabilities) -> bool
-    ensures { result ≡ spec.has_attributes agreed }
+/// Gives the parameters the types that a `COM_STMT_EXECUTE` sends, and answers whether it sends any.
+fn bind_single(
+    capabilities: CapabilityFlags,
+    params: &mut [BoundParam],
+    payload: ParseBuf<'_>,
+) -> bool
+    ensures is_bound { result ≡ (spec.bound_by params.old ((spec.single_front capabilities (length params.old)).reads payload.entry)).is_bound }
+    ensures params { params.new ≡ (spec.bound_by params.old ((spec.single_front capabilities (length params.old)).reads payload.entry)).params }
 {
-    agreed
-        .mysql
-        .contains(CapabilityFlags::CLIENT_QUERY_ATTRIBUTES)
-}
-
-/// Whether types are sent, of an execution of so many parameters.
-fn read_single<'s>(count: usize, buf: &mut ParseBuf<'_>) -> Result<bool, FaultOf<'s>>
-    ensures value { Answers false result buf.new ((spec.single_front count).reads buf.old) }
-{
-    if count == 0 {
-        return Ok(false);
+    let mut rest = payload;
+    let head: Result<ComStmtExecuteHead, FaultOf> = rest.parse(());
+    let Ok(head) = head else {
+        return false;
+    };
+    match ExecuteParamsBytes::new(capabilities, &head, params.len(), rest) {
+        Ok(sent) => {
+            sent.set_types(params);
+            sent.sends_types()
+        }
+        Err(_) => false,
     }
-    let _head: ComStmtExecuteHead = buf.parse(())?;
-    let _nulls = NullBitmap::<'_, ClientSide>::deserialize(count, buf)?;
-    let new_params_bound: RawInt<u8> = buf.parse(())?;
-    Ok(new_params_bound.0 != 0)
 }
 
-/// Whether types are sent, of a bulk execution.
-fn read_bulk<'s>(buf: &mut ParseBuf<'_>) -> Result<bool, FaultOf<'s>>
-    ensures value { Answers false result buf.new (spec.bulk_front.reads buf.old) }
+/// The types that a bulk execution of so many parameters sends, if it sends any.
+fn read_bulk<'s, 'a>(
+    count: usize,
+    buf: &mut ParseBuf<'a>,
+) -> Result<Option<SentParamTypes<'a>>, FaultOf<'s>>
+    ensures value { Answers false (spec.bulk_read result) buf.new ((spec.bulk_front count).reads buf.old) }
+    ensures count { spec.HasBulkTypes count result }
 {
     let _code: RawInt<u8> = buf.parse(())?;
     let _id: RawInt<LeU32> = buf.parse(())?;
     let flags: RawInt<LeU16> = buf.parse(())?;
-    Ok(flags.0 & 128 == 128)
+    if flags.0 & 128 != 128 {
+        return Ok(None);
+    }
+    Ok(Some(SentParamTypes::read(false, count, buf)?))
 }
 
-/// Whether types are sent.
-pub(crate) fn read_front<'s>(
-    layout: Layout,
-    count: usize,
-    buf: &mut ParseBuf<'_>,
-) -> Result<bool, FaultOf<'s>>
-    ensures value { Answers false result buf.new ((spec.front_of layout count).reads buf.old) }
+/// Gives the parameters the types that a bulk execution sends, and answers whether it sends any.
+fn bind_bulk(params: &mut [BoundParam], payload: ParseBuf<'_>) -> bool
+    ensures is_bound { result ≡ (spec.bound_by params.old ((spec.bulk_front (length params.old)).reads payload.entry)).is_bound }
+    ensures params { params.new ≡ (spec.bound_by params.old ((spec.bulk_front (length params.old)).reads payload.entry)).params }
 {
-    match layout {
-        Layout::Single => read_single(count, buf),
-        Layout::Bulk => read_bulk(buf),
-        Layout::Closed => Ok(false),
-    }
-}
-
-/// Gives the parameters the types in these bytes, of which there are as many.
-fn set_types(params: &mut [BoundParam], types: ParseBuf<'_>)
-    requires { HasTypes (length params.old) types }
-    ensures { params.new ≡ bound_left true params.old types.entry }
-{
-    let mut types = types;
-    for place in 0..params.len() {
-        let read: Result<ParamType, FaultOf> = types.parse(());
-        match read {
-            Ok(param_type) => params[place].param_type = param_type,
-            Err(_) => return,
-        }
-    }
-}
-
-/// Gives the parameters the types in these bytes, where types are sent, and are types.
-pub(crate) fn bind(params: &mut [BoundParam], sends: bool, types: ParseBuf<'_>) -> bool
-    ensures is_bound { result ≡ (spec.bound_by sends params.old types.entry).is_bound }
-    ensures params { params.new ≡ (spec.bound_by sends params.old types.entry).params }
-{
-    if !sends {
-        return false;
-    }
-    let mut rest = types.rest();
-    match skip_param_types(params.len(), &mut rest) {
-        Ok(()) => {
-            set_types(params, types);
+    let mut rest = payload;
+    match read_bulk(params.len(), &mut rest) {
+        Ok(Some(types)) => {
+            types.set_types(params);
             true
         }
+        Ok(None) => false,
         Err(_) => false,
+    }
+}
+
+/// Gives the parameters the types that an execution sends, and answers whether it sends any. An execution that is malformed before its
+/// values gives none.
+pub(crate) fn bind(layout: Layout, params: &mut [BoundParam], payload: ParseBuf<'_>) -> bool
+    ensures is_bound { result ≡ (spec.bound_by params.old ((spec.front_of layout (length params.old)).reads payload.entry)).is_bound }
+    ensures params { params.new ≡ (spec.bound_by params.old ((spec.front_of layout (length params.old)).reads payload.entry)).params }
+{
+    match layout {
+        Layout::Single(capabilities) => bind_single(capabilities, params, payload),
+        Layout::Bulk => bind_bulk(params, payload),
     }
 }

@@ -3,8 +3,11 @@
 ghost use Rattle.std.specs.Prelude.{◌≡◌, ◌+◌, ◌++◌, List, ℕ, Bool, true, false, Some, Ok, length, map, ◌||◌};
 ghost use Rattle.mysql_conversation.specs.Agreements as agreement;
 ghost use Rattle.mysql_conversation.specs.declared.kind.Kind as declared;
-ghost use Rattle.mysql_prepared.specs.ExecuteHead.{execute_head};
-ghost use Rattle.mysql_prepared.specs.ExecuteRead.{Front, front};
+ghost use Rattle.mysql_prepared.specs.Attributes.{Attribute};
+ghost use Rattle.mysql_prepared.specs.BindFront.{BindFront};
+ghost use Rattle.mysql_prepared.specs.ExecuteHead.{cursor_flags, execute_head};
+ghost use Rattle.mysql_prepared.specs.ExecuteRead.{TypedParam, execution, execution_front, given_types};
+ghost use Rattle.mysql_wire.specs.Flags.{CapabilityFlags};
 ghost use Rattle.mysql_prepared.specs.declared.execute_head.ComStmtExecuteHead as head;
 ghost use Rattle.mysql_statements.specs.After.{after};
 ghost use Rattle.mysql_statements.specs.Binding.{with_execution};
@@ -45,8 +48,13 @@ pub fn rows_without_definitions_have_the_columns_of_their_statement()
         → tables.columns_of_rows (after true a (kind.ColumnCount (length s.columns) false) p t) ≡ Some s.columns }
 {}
 
-/// An execution gives its statement the types under which its parameters are read, and uses up the data that was sent ahead.
+/// An execution gives its statement the types under which its parameters are read, and never those of its attributes; and uses up the
+/// data that was sent ahead.
 pub fn an_execution_binds_what_its_parameters_are_read_under()
-    ensures { (s : kept.Kept) (p body rest : List ℕ) (h : head.ComStmtExecuteHead) (f : Front) → (execute_head.form tt).reads p ≡ Ok (h, body) → (front s.params).reads body ≡ Ok (f, rest)
-        → with_execution layout.Single p s ≡ record s { params = map without_data f.bound; is_bound = f.sends_types || s.is_bound } }
+    ensures binds { (capabilities : CapabilityFlags) (s : kept.Kept) (p body rest : List ℕ) (h : head.ComStmtExecuteHead) (f : BindFront) → (execute_head.form tt).reads p ≡ Ok (h, body)
+        → (execution_front capabilities (cursor_flags h) (length s.params)).reads body ≡ Ok (f, rest)
+        → with_execution (layout.Single capabilities) p s ≡ record s { params = map without_data (given_types f.sends_types s.params f.types); is_bound = f.sends_types || s.is_bound } }
+    ensures read { (capabilities : CapabilityFlags) (s : kept.Kept) (p body rest : List ℕ) (h : head.ComStmtExecuteHead) (params : List TypedParam) (attributes : List Attribute) → (execute_head.form tt).reads p ≡ Ok (h, body)
+        → (execution capabilities (cursor_flags h) s.params).reads body ≡ Ok ((params, attributes), rest)
+        → map (λ q. q.param_type) (with_execution (layout.Single capabilities) p s).params ≡ map (λ x. x.named_type.param_type) params }
 {}

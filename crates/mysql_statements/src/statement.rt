@@ -4,12 +4,12 @@ ghost use Rattle.std.specs.Prelude.{◌≡◌, ◌<◌, ◌+◌, ◌-◌, length
 ghost use Rattle.mysql_statements.specs.Binding as binding;
 ghost use Rattle.mysql_statements.specs.Statement as spec;
 
-use crate::binding::{bind, read_front};
+use crate::binding::bind;
 use crate::layout::Layout;
 use crate::row_column::RowColumn;
 use mysql_prepared::BoundParam;
 use mysql_values::ParamType;
-use mysql_wire::{ColumnType, FaultOf, Flags, ParseBuf, StmtExecuteParamFlags};
+use mysql_wire::{ColumnType, Flags, ParseBuf, StmtExecuteParamFlags};
 use std::alloc::{AllocError, Global};
 use std::marker::Model;
 
@@ -178,12 +178,8 @@ impl Statement {
     pub(crate) fn execute(&mut self, alloc: Global, layout: Layout, payload: &[u8])
         ensures { self.new ≡ binding.with_execution layout payload.now self.old }
     {
-        let mut buf = ParseBuf::new(alloc, payload);
-        let read: Result<bool, FaultOf> = read_front(layout, self.params.len(), &mut buf);
-        if let Ok(sends) = read {
-            if bind(&mut self.params, sends, buf) {
-                self.is_bound = true;
-            }
+        if bind(layout, &mut self.params, ParseBuf::new(alloc, payload)) {
+            self.is_bound = true;
         }
         drop_data(&mut self.params);
     }

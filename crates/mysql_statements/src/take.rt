@@ -5,24 +5,12 @@ ghost use Rattle.mysql_statements.specs.After as spec;
 ghost use Rattle.mysql_statements.specs.Bounds as bounds;
 ghost use Rattle.mysql_statements.specs.Packets as packets;
 
-use crate::binding::has_attributes;
 use crate::layout::Layout;
 use crate::packets::{column_at, data_at, number_at, prepared_at};
 use crate::table::Statements;
 use mysql_conversation::Kind;
 use mysql_replies::SessionCapabilities;
 use std::alloc::AllocError;
-
-/// How a `COM_STMT_EXECUTE` lies in the bytes.
-fn layout_of(agreed: SessionCapabilities) -> Layout
-    ensures { result ≡ spec.layout_of agreed }
-{
-    if has_attributes(agreed) {
-        Layout::Closed
-    } else {
-        Layout::Single
-    }
-}
 
 impl Statements {
     /// Takes the packet that comes next in a conversation, of the kind that it has there, and keeps what it says of statements.
@@ -121,7 +109,7 @@ impl Statements {
             0x1a => self.reset(id),
             0x1c => self.fetch(id),
             0xfa => self.execute(id, Layout::Bulk, payload),
-            _ => self.execute(id, layout_of(agreed), payload),
+            _ => self.execute(id, Layout::Single(agreed.mysql), payload),
         }
     }
 }

@@ -13,13 +13,12 @@ pub use mysql_cuts::{BulkRule, cut_is_fewest};
 pub use mysql_prepared::{
     AsExecuteParam, BinaryRowError, BinaryRowView, BoundParam, ColumnIndex, ComQuery, ComStmtClose,
     ComStmtCloseHeader, ComStmtExecuteHead, ComStmtExecuteHeader, ComStmtExecuteOptionsBuilder,
-    ComStmtExecuteRequest, ComStmtExecuteRequestBuilder, ComStmtExecuteTyped,
-    ComStmtExecuteTypedBuilder, ComStmtExecuteWithOptions, ComStmtSendLongData,
-    ComStmtSendLongDataHeader, ComStmtSendLongDataRef, Cursor, ExecuteParam, ExecuteParamsBytes,
-    ExecuteParamsView, InvalidComStmtCloseHeader, InvalidComStmtExecuteHeader,
+    ComStmtExecuteRequest, ComStmtExecuteRequestBuilder, ComStmtExecuteWithOptions,
+    ComStmtSendLongData, ComStmtSendLongDataHeader, ComStmtSendLongDataRef, Cursor, ExecuteParam,
+    ExecuteParamsBytes, ExecuteParamsView, InvalidComStmtCloseHeader, InvalidComStmtExecuteHeader,
     InvalidComStmtSendLongDataHeader, InvalidIterationCount, InvalidStmtPacketStatus, ItemForm,
-    Items, IterationCount, NullBitmap, QueryAttribute, Row, RowDeserializer, RowProtocol,
-    StmtPacket, StmtPacketWithMetadata, TextRowView, TypedColumn, TypedExecuteParam,
+    Items, IterationCount, NullBitmap, QueryAttribute, QueryAttributesView, Row, RowDeserializer,
+    RowProtocol, StmtPacket, StmtPacketWithMetadata, TextRowView, TypedColumn, TypedExecuteParam,
     TypedExecutionError, laws, new_row, new_row_raw, write_binary_row, write_binary_row_to_slice,
     write_text_row,
 };

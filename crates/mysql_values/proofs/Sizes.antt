@@ -6,6 +6,8 @@ use Rattle.mysql_wire.specs.Writing.{le_bytes}
 use Rattle.mysql_wire.specs.LenEnc.{lenenc_bytes, lenenc_string_bytes}
 use Rattle.mysql_values.specs.declared.temporal.DateTime.{DateTime}
 use Rattle.mysql_values.specs.declared.temporal.TimeSpan.{TimeSpan}
+use Rattle.mysql_values.specs.declared.date_time_with_offset.DateTimeWithOffset.{DateTimeWithOffset}
+use Rattle.mysql_values.specs.DateTimeWithOffset.{date_with_offset}
 use Rattle.mysql_values.specs.Temporal.{day_bytes, date_time_bytes, date_time_size, time_span_bytes, time_span_size}
 use Rattle.mysql_values.specs.Value.{Content, NULL, Bytes, Int, UInt, Float, Double, Date, Time, bin, bin_size, length_size}
 
@@ -49,4 +51,8 @@ length-bin (Double bits) = refl
 length-bin (Date date) = length-date_time_bytes date
 length-bin (Time time) = length-time_span_bytes time
 
-pub ruleset sizes = (length-lenenc_bytes, length-date_time_bytes, length-time_span_bytes, length-bin)
+pub length-date_with_offset : (d : DateTimeWithOffset) → length (date_with_offset.bytes d) ≡ 14
+unfolding date_with_offset le_bytes
+length-date_with_offset d = refl
+
+pub ruleset sizes = (length-lenenc_bytes, length-date_time_bytes, length-time_span_bytes, length-bin, length-date_with_offset)

@@ -15,3 +15,5 @@ pub mod ByContent
 pub mod ValueRef
 pub mod FromValueRef
 pub mod TypedValue
+pub mod DateTimeWithOffset
+pub mod ParamValue

@@ -11,6 +11,7 @@ use Rattle.mysql_values.specs.declared.typed_value.TypedValue.{TypedValue}
 use Rattle.mysql_values.specs.declared.typed_value.TypedValue.TheVariants as typed
 use Rattle.mysql_values.specs.declared.value_kind.ValueKind.{ValueKind}
 use Rattle.mysql_values.specs.declared.value_kind.ValueKind.TheVariants as kind
+use Rattle.mysql_values.specs.DateTimeWithOffset.{date_with_offset}
 use Rattle.mysql_values.specs.Value.{Content, NULL, Int, UInt, bin}
 use Rattle.mysql_values.specs.ValueDeserializer.{bin_value}
 use Rattle.mysql_values.specs.ValueKind.{kind_of, is_longlong, suits}
@@ -63,6 +64,7 @@ typed_bytes (typed.Tiny bits) = le_bytes 1 bits
 typed_bytes (typed.Short bits) = le_bytes 2 bits
 typed_bytes (typed.Long bits) = le_bytes 4 bits
 typed_bytes (typed.Wide value) = bin (ref_content value)
+typed_bytes (typed.WithOffset date) = date_with_offset.bytes date
 
 -- ---- what is read of them
 

@@ -7,6 +7,8 @@ ghost use Rattle.mysql_values.specs.declared.param_type.ParamType.{ParamType};
 ghost use Rattle.mysql_values.specs.Value.{Content, NULL, bin, bin_size, content_of};
 ghost use Rattle.mysql_wire.specs.Flags.{ColumnFlags};
 ghost use Rattle.mysql_values.specs.ValueDeserializer.{bin_value, reads_bytes, starts_null, text_value, value_in_column};
+ghost use Rattle.mysql_values.specs.ParamValue.{ParamContent, ParamIsInRange, ParamReadsUnder, Plain, param_spelled};
+ghost use Rattle.mysql_values.specs.declared.date_time_with_offset.DateTimeWithOffset.{DateTimeWithOffset};
 ghost use Rattle.mysql_values.specs.ReadingBack.{Agrees, IsInRange, ReadsBack};
 ghost use Rattle.mysql_values.specs.ValueKind.{is_string};
 ghost use Rattle.mysql_values.specs.SentType.{sent_type, is_uint};
@@ -20,6 +22,7 @@ ghost use Rattle.mysql_values.specs.FromValue.{AsBytes, AsI64, AsText, AsU64};
 ghost use Rattle.mysql_values.specs.FromValueRef.{ContentAsBytes, ContentAsI64, ContentAsText, ContentAsU64};
 ghost use Rattle.mysql_values.specs.ParamType.{param_type, type_flags};
 
+pub use crate::date_time_with_offset::date_with_offset_size;
 use crate::param_type::ParamType;
 pub use crate::param_type::param_type_size;
 pub use crate::temporal::{clock_size, day_size, no_date_or_time_has_a_constant_size};
@@ -55,6 +58,17 @@ pub fn sent_value_agrees()
 pub fn value_under_a_type_round_trips()
     ensures read { (t : ParamType) (content : Content) (bytes : List ℕ) → IsInRange content → spelled t content ≡ Some bytes → ReadsUnder t content bytes }
     ensures none { (t : ParamType) → spelled t NULL ≡ Some [] }
+{}
+
+/// A parameter or an attribute that a type spells is read again under it, whatever follows, a date with its offset too.
+pub fn a_parameter_under_its_type_round_trips()
+    ensures read { (t : ParamType) (value : ParamContent) (bytes : List ℕ) → ParamIsInRange value → param_spelled t value ≡ Some bytes → ParamReadsUnder t value bytes }
+    ensures none { (t : ParamType) → param_spelled t (Plain NULL) ≡ Some [] }
+{}
+
+/// A date with an offset is equal to another exactly where all its numbers are, its offset too.
+pub fn equal_dates_with_offset_are_the_same()
+    ensures same { (x y : DateTimeWithOffset) → IsTrue (⟦<crate::date_time_with_offset::DateTimeWithOffset as PartialEq>⟧.eq x y) ↔ (x ≡ y) }
 {}
 
 /// Values are equal exactly where they hold the same: the same kind, with the same bytes or numbers, and floats with the

@@ -2,10 +2,12 @@
 #![tactic(auto)]
 
 mod bin_cell;
+mod date_time_with_offset;
 mod from_value;
 mod from_value_ref;
 pub mod laws;
 mod param_type;
+mod param_value;
 mod params;
 mod sent_type;
 mod side;
@@ -18,9 +20,11 @@ mod value_ref;
 mod value_ref_reader;
 
 pub use bin_cell::read_bin_cell;
+pub use date_time_with_offset::{DateTimeWithOffset, InvalidOffsetDateLength};
 pub use from_value::{FromValue, FromValueError};
 pub use from_value_ref::{FromValueRef, FromValueRefError};
 pub use param_type::ParamType;
+pub use param_value::{ParamValue, read_param_value};
 pub use params::{Params, ParamsError};
 pub use side::{Binary, ClientSide, SerializationSide, ServerSide, Text};
 pub use typed_value::TypedValue;

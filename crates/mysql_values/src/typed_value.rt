@@ -2,10 +2,13 @@
 
 ghost use Rattle.std.specs.Prelude.{◌≡◌, ◌*◌, ◌^◌, ◌≤◌, ◌<◌, length, IfSome, Some, Option, ℕ, None, pos};
 ghost use Rattle.std.specs.Option.{option_map};
-ghost use Rattle.mysql_values.specs.TypedValue.{content_bits, number_bits, spelled, typed_bytes, wide_value};
+ghost use Rattle.mysql_values.specs.TypedValue.{content_bits, kind_spelled, number_bits, spelled, typed_bytes, wide_value};
+ghost use Rattle.mysql_values.specs.ParamValue.{param_content, param_spelled};
 ghost use Rattle.mysql_values.specs.ValueRef.{ref_content};
 
+use crate::date_time_with_offset::DateTimeWithOffset;
 use crate::param_type::ParamType;
+use crate::param_value::ParamValue;
 use crate::value_kind::ValueKind;
 use crate::value_ref::ValueRef;
 use mysql_wire::{Buffer, Flags, IntRepr, LeU16, LeU32, MySerialize, StmtExecuteParamFlags};
@@ -21,6 +24,8 @@ pub enum TypedValue<'a> {
     Long(u32),
     /// A number of eight bytes, a float, a date, a time or bytes, in its binary form; NULL, which has no bytes.
     Wide(ValueRef<'a>),
+    /// A date and a time with an offset from UTC, which only parameters and attributes have.
+    WithOffset(DateTimeWithOffset),
 }
 
 /// How many negative numbers a signed type of one, of two and of four bytes has.
@@ -74,11 +79,36 @@ impl<'a> TypedValue<'a> {
     pub fn new(param_type: ParamType, value: ValueRef<'a>) -> Option<Self>
         ensures value { option_map typed_bytes result ≡ spelled param_type (ref_content value.entry) }
     {
+        let is_unsigned = param_type.flags().contains(StmtExecuteParamFlags::UNSIGNED);
+        TypedValue::of_kind(ValueKind::of(param_type.column_type()), is_unsigned, value)
+    }
+
+    /// The value of a parameter or an attribute under its type, where the type spells it.
+    ///
+    /// It is [`new`](Self::new), but `INT24`, `YEAR` and the reserved types are strings
+    /// ([`read_param_value`](crate::read_param_value)), and `DATETIME` and `TIMESTAMP` spell a date with an offset.
+    pub fn of_param(param_type: ParamType, value: ParamValue<'a>) -> Option<Self>
+        ensures value { option_map typed_bytes result ≡ param_spelled param_type (param_content value.entry) }
+    {
+        let is_unsigned = param_type.flags().contains(StmtExecuteParamFlags::UNSIGNED);
+        let kind = ValueKind::of_param(param_type.column_type());
+        match value {
+            ParamValue::Value(value) => TypedValue::of_kind(kind, is_unsigned, value),
+            ParamValue::DateTimeWithOffset(date) => match kind {
+                ValueKind::DateTime => Some(TypedValue::WithOffset(date)),
+                _ => None,
+            },
+        }
+    }
+
+    /// The value under a kind, where the kind spells it.
+    fn of_kind(kind: ValueKind, is_unsigned: bool, value: ValueRef<'a>) -> Option<Self>
+        ensures value { option_map typed_bytes result ≡ kind_spelled kind is_unsigned (ref_content value.entry) }
+    {
         if let ValueRef::NULL = value {
             return Some(TypedValue::Wide(value));
         }
-        let is_unsigned = param_type.flags().contains(StmtExecuteParamFlags::UNSIGNED);
-        match ValueKind::of(param_type.column_type()) {
+        match kind {
             ValueKind::Tiny => {
                 let bits = bits_of(TINY, is_unsigned, &value)?;
                 Some(TypedValue::Tiny(bits as u8))
@@ -106,6 +136,7 @@ impl<'a> TypedValue<'a> {
             TypedValue::Short(_) => 2,
             TypedValue::Long(_) => 4,
             TypedValue::Wide(value) => value.bin_len(),
+            TypedValue::WithOffset(_) => 14,
         }
     }
 }
@@ -143,6 +174,7 @@ impl MySerialize for TypedValue<'_> {
             TypedValue::Short(_) => 2,
             TypedValue::Long(_) => 4,
             TypedValue::Wide(value) => value.defined_len(),
+            TypedValue::WithOffset(date) => date.defined_len(),
         }
     }
 
@@ -153,6 +185,7 @@ impl MySerialize for TypedValue<'_> {
             TypedValue::Short(bits) => <LeU16 as IntRepr>::append(*bits, out),
             TypedValue::Long(bits) => <LeU32 as IntRepr>::append(*bits, out),
             TypedValue::Wide(value) => value.append(out),
+            TypedValue::WithOffset(date) => date.append(out),
         }
     }
 }

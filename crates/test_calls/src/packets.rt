@@ -201,6 +201,12 @@ fn server(out: &mut Out, packet: ServerPacket<'_, '_, Typed>) {
         ServerPacket::LocalInfile(packet) => length(out, packet.file_name()),
         ServerPacket::ColumnCount(packet) => number(out, packet.count()),
         ServerPacket::Column(packet) => column(out, packet.column()),
+        ServerPacket::FieldListColumn(packet) => {
+            column(out, packet.column().column());
+            if let Some(text) = packet.default_value() {
+                length(out, text);
+            }
+        }
         ServerPacket::Eof(packet) => ok(out, &packet),
         ServerPacket::OkTerminator(packet) => ok(out, &packet),
         ServerPacket::TextRow(row) => text_row(out, row),

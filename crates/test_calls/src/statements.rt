@@ -5,10 +5,12 @@
 //! client or the server; `?` and a number asks what is known of that statement, and `clear` forgets all. Of an execution its parameters are read, and of each binary row its values.
 
 use crate::conversation::{agreed_by, piece_of};
+use mysql_packets::constants::CapabilityFlags;
 use mysql_packets::conversation::{Format, Kind, Opening, Pipeline};
 use mysql_packets::io::{FaultOf, ParseBuf};
 use mysql_packets::packets::{
-    ComStmtExecuteHead, ExecuteParam, ExecuteParamsView, SessionCapabilities,
+    ComStmtExecuteHead, ComStmtExecuteOptionsBuilder, ExecuteParam, ExecuteParamsView,
+    QueryAttribute, SessionCapabilities, TypedExecuteParam,
 };
 use mysql_packets::row::BinaryRowView;
 use mysql_packets::statements::{
@@ -17,7 +19,7 @@ use mysql_packets::statements::{
 use mysql_packets::value::{ServerSide, ValueRef};
 use std::alloc::AllocError;
 use test_probe::counted;
-use test_probe::prelude::{Out, Request};
+use test_probe::prelude::{Flags, Out, Request, push};
 
 /// Who watches.
 #[derive(Drop)]
@@ -47,28 +49,85 @@ fn show(out: &mut Out, bytes: &[u8]) {
 /// Adds the parameters of an execution.
 fn show_params<'s>(
     out: &mut Out,
+    agreed: SessionCapabilities,
     statement: &Statement,
     payload: &[u8],
 ) -> Result<(), FaultOf<'s>> {
     let mut buf = ParseBuf::new(out.alloc(), payload);
-    let _head: ComStmtExecuteHead = buf.parse(())?;
-    let mut view = ExecuteParamsView::new(statement.params(), buf)?;
+    let head: ComStmtExecuteHead = buf.parse(())?;
+    let mut view = ExecuteParamsView::new(agreed.mysql, &head, statement.params(), buf)?;
     if !view.sends_types() && !statement.is_bound() && view.left() > 0 {
         out.word("unbound");
         return Ok(());
     }
+    let sends_types = view.sends_types();
+    let mut params = Vec::new(out.alloc());
     for _ in 0..view.left() {
-        if let Some((param_type, param)) = view.next_param()? {
+        if let Some(it) = view.next_param()? {
+            push(out, &mut params, it);
             out.word("param:");
-            out.display(&(param_type.column_type() as u8));
+            out.display(&(it.param_type.column_type() as u8));
             out.push("=");
-            match param {
+            match it.param {
                 ExecuteParam::Value(value) => show_value(out, value),
+                ExecuteParam::DateTimeWithOffset(date) => out.display(&date.offset_minutes),
                 ExecuteParam::SentAhead => out.push("ahead"),
             }
         }
     }
+    let mut attributes = Vec::new(out.alloc());
+    if let Some(mut view) = view.attributes() {
+        for _ in 0..view.left() {
+            if let Some(attribute) = view.next_attribute()? {
+                push(out, &mut attributes, attribute);
+            }
+        }
+    }
+    let has_attributes = agreed
+        .mysql
+        .contains(CapabilityFlags::CLIENT_QUERY_ATTRIBUTES);
+    let builder = options_of(&head, sends_types, has_attributes, &attributes);
+    write_again(out, builder, &params, payload);
     Ok(())
+}
+
+/// The options of an execution that was read.
+fn options_of<'a>(
+    head: &ComStmtExecuteHead,
+    sends_types: bool,
+    has_attributes: bool,
+    attributes: &'a [QueryAttribute<'a>],
+) -> ComStmtExecuteOptionsBuilder<'a> {
+    let attributes = if has_attributes {
+        Some(attributes)
+    } else {
+        None
+    };
+    ComStmtExecuteOptionsBuilder {
+        stmt_id: head.stmt_id(),
+        flags: head.flags(),
+        iteration_count: head.iteration_count(),
+        sends_types,
+        attributes,
+    }
+}
+
+/// Writes an execution again as it was read, and adds whether it is the same.
+fn write_again(
+    out: &mut Out,
+    builder: ComStmtExecuteOptionsBuilder<'_>,
+    params: &[TypedExecuteParam<'_>],
+    payload: &[u8],
+) {
+    let mut written = Vec::new(out.alloc());
+    match builder.write_ref(params, &mut written) {
+        Ok(_as_long_data) if written.as_slice() == payload => out.field("written", "same"),
+        Ok(_as_long_data) => {
+            out.word("written=");
+            show(out, &written);
+        }
+        Err(_) => out.field("written", "refused"),
+    }
 }
 
 /// Adds the values of a row.
@@ -112,7 +171,7 @@ fn take(out: &mut Out, watcher: &mut Watcher, kind: Kind, payload: &[u8]) {
         };
         match watcher.statements.statement(id) {
             Some(statement) => {
-                let read = show_params(out, statement, payload);
+                let read = show_params(out, watcher.agreed, statement, payload);
                 show_fault(out, read);
             }
             None => out.word("statement=unknown"),

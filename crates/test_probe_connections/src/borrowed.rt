@@ -98,7 +98,7 @@ fn is_copied_response(
 impl<'a> InPlace<HandshakeResponse<'a>, HandshakeResponseRef<'a>> for Connections {
     fn is(place: &HandshakeResponseRef<'a>, owned: &HandshakeResponse<'a>, out: &mut Out) -> bool {
         let plugin = place.auth_plugin();
-        fields!(place, owned; alike capabilities, mariadb_ext_capabilities, collation, user, scramble_buf, db_name)
+        fields!(place, owned; alike capabilities, mariadb_ext_capabilities, collation, user, scramble_buf, db_name, zstd_level)
             && place.max_packet_size() == owned.ssl_request().max_packet_size()
             && place.mariadb_ext_capabilities() == owned.ssl_request().mariadb_capabilities()
             && is_plugin(

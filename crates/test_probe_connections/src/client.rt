@@ -1,6 +1,7 @@
 //! What a client says of itself: its answer to a handshake, and the change of a session's user.
 //!
-//! `response BYTES`, `tls_of BYTES`, and `make_response VERSION CAPABILITIES MARIADB SIZE SCRAMBLE USER DATABASE PLUGIN ATTRIBUTES`;
+//! `response BYTES`, `tls_of BYTES`, and `make_response VERSION CAPABILITIES MARIADB SIZE SCRAMBLE USER DATABASE PLUGIN ATTRIBUTES
+//! [ZSTD_LEVEL]`;
 //! `change_user CAPABILITIES BYTES`, `more_data CAPABILITIES BYTES`, and
 //! `make_change_user CAPABILITIES USER DATA DATABASE CHARACTER_SET PLUGIN ATTRIBUTES`: its capabilities are for its reading.
 
@@ -12,7 +13,10 @@ use mysql_auth::laws;
 fn show_response(it: &HandshakeResponse<'_>, out: &mut Out) {
     fields!(out, it; capabilities, collation, mariadb = mariadb_ext_capabilities, user, scramble_buf, db_name);
     show_plugin(it.auth_plugin(), out);
-    show_attributes(it, out)
+    show_attributes(it, out);
+    if let Some(level) = it.zstd_level() {
+        out.show("zstd_level", level);
+    }
 }
 
 impl Shows<HandshakeResponse<'_>> for Connections {
@@ -110,7 +114,14 @@ fn response_of<'a>(request: &Request<'a>, attributes: Attributes) -> Result<Hand
         request.number(4),
     ))?;
     let flags = MariadbCapabilities::from_bits_retain(request.number(3));
-    let made = made.with_mariadb_ext_capabilities(flags);
+    let level = request.word(10);
+    let made = made
+        .with_mariadb_ext_capabilities(flags)
+        .with_zstd_level(if level.is_empty() {
+            None
+        } else {
+            Some(words::number(level))
+        });
     Ok(match request.word(1).strip_prefix('c') {
         Some(collation) => made.with_collation(words::number(collation)),
         None => made,

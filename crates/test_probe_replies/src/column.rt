@@ -32,19 +32,14 @@ pub fn flags(request: &Request<'_>) -> SessionCapabilities {
 
 impl Shows<ColumnCount> for Server {
     fn show(it: &ColumnCount, out: &mut Out) {
-        fields!(out, it; optional_metadata_byte, count, metadata_byte, metadata_follows);
+        fields!(out, it; count, metadata_byte, metadata_follows);
         let made = ColumnCount::new(it.count());
-        let made = match it.optional_metadata_byte() {
-            Some(byte) => made.with_optional_metadata(byte != 0),
-            None => made,
-        };
         let made = match it.metadata_byte() {
             Some(byte) => made.with_metadata_follows(byte != 0),
             None => made,
         };
         // (of the bytes that say that definitions follow, 1 is made)
-        let is_other = it.optional_metadata_byte().is_some_and(|byte| byte > 1)
-            || it.metadata_byte().is_some_and(|byte| byte > 1);
+        let is_other = it.metadata_byte().is_some_and(|byte| byte > 1);
         made_anew(out, if is_other { it } else { &made }, it.clone());
         laws::this_column_count_round_trips(it)
     }

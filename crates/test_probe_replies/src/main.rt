@@ -4,6 +4,7 @@
 mod column;
 mod errors;
 mod extended;
+mod field_list;
 mod kinds;
 mod ok;
 mod prelude;
@@ -32,7 +33,7 @@ fn of_replies(out: &mut Out, request: &Request<'_>) -> bool {
         both extended::capabilities(request) => "extended_column": ExtendedColumn, ExtendedColumnRef<'_>,
         both request.capabilities() => "err": ErrPacket<'_>, ErrPacketRef<'_>,
         both errors::context(request) => "server_error": ServerError<'_>, ServerErrorRef<'_>,
-        call "ok": ok::ok::<CommonOkPacket>, "ok_end": ok::ok::<ResultSetTerminator>,
+        call "field_list_column": field_list::field_list_column, "ok": ok::ok::<CommonOkPacket>, "ok_end": ok::ok::<ResultSetTerminator>,
             "ok_eof": ok::ok::<OldEofPacket>, "ok_stream": ok::ok::<NetworkStreamTerminator>,
             "ok_sent": sent::sent::<CommonOkPacket>, "ok_end_sent": sent::sent::<ResultSetTerminator>,
             "ok_eof_sent": sent::sent::<OldEofPacket>, "ok_stream_sent": sent::sent::<NetworkStreamTerminator>,

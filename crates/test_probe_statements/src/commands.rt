@@ -6,7 +6,8 @@
 //!
 //! `make_query ATTRIBUTES TEXT` is one that is sent with attributes as `execute_with` has them, and read again.
 
-use crate::execute::attribute_of;
+use crate::execute::{attribute_of, show_refused};
+use crate::execute_read::show_value;
 use crate::prelude::*;
 use mysql_auth::ComChangeUserRef;
 use mysql_repl::{ComBinlogDumpGtidRef, ComBinlogDumpRef, ComRegisterSlaveRef, ComTableDump};
@@ -53,7 +54,8 @@ impl Shows<ComStmtExecuteRef<'_>> for Statements {
         let head = it.head();
         fields!(out, head; stmt_id, flags);
         fields!(out, it; params);
-        let head = ComStmtExecuteHead::new(head.stmt_id(), head.flags());
+        let anew = ComStmtExecuteHead::new(head.stmt_id(), head.flags());
+        let head = anew.with_iteration_count(head.iteration_count());
         anew!(out, it; ComStmtExecuteRef::new(head, it.params()))
     }
 }
@@ -97,14 +99,14 @@ impl Shows<QueryAttributesRef<'_>> for Statements {
     }
 }
 
-fn show_attribute(out: &mut Out, it: &QueryAttributeRef<'_>) {
-    let param_type = it.param_type();
-    fields!(out, it; name);
+fn show_attribute(out: &mut Out, it: &QueryAttribute<'_>) {
+    let param_type = it.param_type;
+    out.show("name", it.name);
     out.item(u8::from(param_type.column_type()));
     out.push("-");
     param_type.flags().shown(out);
     out.push("=");
-    Spelled(it.value()).shown(out);
+    show_value(out, ExecuteParam::sent(it.value));
 }
 
 impl Shows<ComQueryRef<'_>> for Statements {
@@ -281,8 +283,8 @@ pub fn make_query(out: &mut Out, request: &Request<'_>) {
     if request.word(1) == "-" {
         return write_query(out, &query, CapabilityFlags::empty());
     }
-    let made = counted!(alloc; query.with_attributes(alloc, &attributes));
-    if let Some(query) = or_memory(out, made) {
-        write_query(out, &query, CapabilityFlags::CLIENT_QUERY_ATTRIBUTES);
+    match counted!(alloc; query.with_attributes(&attributes)) {
+        Ok(query) => write_query(out, &query, CapabilityFlags::CLIENT_QUERY_ATTRIBUTES),
+        Err(error) => show_refused(out, &error),
     }
 }

@@ -95,36 +95,56 @@ fn params_of<'v>(out: &mut Out, text: &str, values: &'v [Value]) -> Vec<ExecuteP
 
 pub fn attribute_of<'n>(named: &'n (Vec<u8>, Value)) -> QueryAttribute<'n> {
     let (name, value) = (named.0.as_slice(), named.1.as_ref());
-    QueryAttribute { name, value }
+    QueryAttribute::new(name, value)
 }
+
+/// An execution with options, and whether its builder says that byte strings are long data.
+pub type MadeWith<'a, V> = Result<(ComStmtExecuteWithOptions<'a, V>, bool), TypedExecutionError>;
 
 /// The execution that a request asks for, with these parameters and attributes.
 fn made_with<'a, 'v>(
     request: &Request<'_>,
     params: &'a [ExecuteParam<'v>],
     attributes: &'a [QueryAttribute<'a>],
-) -> Made<ComStmtExecuteWithOptions<'a, ExecuteParam<'v>>> {
+) -> MadeWith<'a, ExecuteParam<'v>> {
     let alloc = request.alloc;
     let builder = ComStmtExecuteRequestBuilder::new(request.number(1));
     counted!(alloc; match (cursor_of(request.word(2)), request.word(3)) {
-        (None, "-") => builder.build_ref(alloc, params),
-        (None, _) => builder.with_query_attributes(attributes).build(alloc, params),
-        (Some(cursor), "-") => builder.with_cursor(cursor).build(alloc, params),
-        (Some(cursor), _) => builder.with_cursor(cursor).with_query_attributes(attributes).build(alloc, params),
+        (None, "-") => builder.build_ref(params),
+        (None, _) => builder.with_query_attributes(attributes).build_ref(params),
+        (Some(cursor), "-") => builder.with_cursor(cursor).build_ref(params),
+        (Some(cursor), _) => builder.with_cursor(cursor).with_query_attributes(attributes).build_ref(params),
     })
 }
 
-/// Shows an execution with options, and writes it.
-fn show_with<'v>(out: &mut Out, made: Made<ComStmtExecuteWithOptions<'_, ExecuteParam<'v>>>) {
-    if let Some((execution, as_long_data)) = or_memory(out, made) {
-        fields!(out, execution; stmt_id, flags);
-        out.show("params", execution.params().len());
-        let attributes = execution.attributes();
-        out.show("attributes", attributes.map(|attributes| attributes.len()));
-        show_long_data(out, as_long_data, execution.as_long_data());
-        fields!(out, execution; bitmap);
-        write_made(out, &execution);
+/// Adds why there is no execution.
+pub fn show_refused(out: &mut Out, error: &TypedExecutionError) {
+    match error {
+        TypedExecutionError::UnspelledValue { place } => out.show("UnspelledValue", *place),
+        TypedExecutionError::UnspelledAttribute { place } => out.show("UnspelledAttribute", *place),
+        TypedExecutionError::Memory => out.word("Memory"),
     }
+    out.text("text", error);
+}
+
+/// Shows an execution with options, and writes it.
+pub fn show_with<V: AsExecuteParam>(out: &mut Out, made: MadeWith<'_, V>) {
+    let (execution, as_long_data) = match made {
+        Ok(made) => made,
+        Err(error) => return show_refused(out, &error),
+    };
+    fields!(out, execution; stmt_id, flags);
+    if execution.iteration_count() != 1 {
+        out.show("iteration_count", execution.iteration_count());
+    }
+    if !execution.sends_types() {
+        out.show("sends_types", false);
+    }
+    out.show("params", execution.params().len());
+    let attributes = execution.attributes();
+    out.show("attributes", attributes.map(|attributes| attributes.len()));
+    show_long_data(out, as_long_data, execution.as_long_data());
+    write_made(out, &execution);
 }
 
 pub fn execute_with(out: &mut Out, request: &Request<'_>) {

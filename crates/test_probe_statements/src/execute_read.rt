@@ -1,12 +1,20 @@
 //! `com_execute BOUND BYTES`: an execution, as a server reads it, of parameters that have these types of an earlier one: codes with
 //! commas between them, each with `u` after it where it is unsigned and `+` at the end where it was sent ahead; or `()`.
 
+use crate::execute::show_refused;
 use crate::prelude::*;
+use mysql_wire::Flags;
 
 impl Shows<ComStmtExecuteHead> for Statements {
     fn show(it: &ComStmtExecuteHead, out: &mut Out) {
         fields!(out, it; stmt_id, flags);
-        anew!(out, it; ComStmtExecuteHead::new(it.stmt_id(), it.flags()))
+        if it.has_parameter_count() {
+            fields!(out, it; cursor);
+        }
+        if it.iteration_count() != 1 {
+            out.show("iteration_count", it.iteration_count());
+        }
+        anew!(out, it; ComStmtExecuteHead::new(it.stmt_id(), it.flags()).with_iteration_count(it.iteration_count()))
     }
 }
 
@@ -20,27 +28,120 @@ impl FromWord for BoundParam {
 }
 
 /// Shows an execution whose parameters are read one after another, which are fewer by one each time; or says why it is refused.
-fn show_execution(out: &mut Out, bound: &[BoundParam], bytes: &[u8]) -> Result<(), Fault> {
+fn show_execution(
+    out: &mut Out,
+    capabilities: CapabilityFlags,
+    bound: &[BoundParam],
+    bytes: &[u8],
+) -> Result<(), Fault> {
     let alloc = out.alloc();
     let mut buf = ParseBuf::new(alloc, bytes);
     let head: ComStmtExecuteHead = buf.parse(())?;
     out.word("read");
     fields!(out, head; stmt_id, flags);
-    let mut view = counted!(alloc; ExecuteParamsView::new(bound, buf))?;
-    out.show("types", view.sends_types());
+    let mut view = counted!(alloc; ExecuteParamsView::new(capabilities, &head, bound, buf))?;
+    let sends_types = view.sends_types();
+    out.show("types", sends_types);
+    let mut params = Vec::new(alloc);
     let mut end = Ok(());
     for left in (0..view.left().saturating_add(1)).rev() {
         match counted!(alloc; view.next_param()) {
-            Ok(Some((param_type, param))) if left.checked_sub(1) == Some(view.left()) => {
-                show_param(out, param_type, param);
+            Ok(Some(it)) if left.checked_sub(1) == Some(view.left()) => {
+                if !it.name.is_empty() {
+                    out.show("name", it.name);
+                }
+                show_param(out, it.param_type, it.param);
+                push(out, &mut params, it);
             }
             Ok(None) if left == 0 => {}
             Ok(_) => end = Err(Fault::InvalidInput("left")),
             Err(fault) => end = Err(fault),
         }
     }
-    out.show("rest", view.rest().len());
-    end
+    let mut attributes = Vec::new(alloc);
+    match view.attributes() {
+        Some(view) if end.is_ok() => end = show_attributes(out, view, &mut attributes),
+        _ => out.show("rest", view.rest().len()),
+    }
+    end?;
+    let has_attributes = capabilities.contains(CapabilityFlags::CLIENT_QUERY_ATTRIBUTES);
+    let builder = options_of(&head, sends_types, has_attributes, &attributes);
+    write_again(out, builder, &params, bytes);
+    Ok(())
+}
+
+/// The options of an execution that was read.
+fn options_of<'a>(
+    head: &ComStmtExecuteHead,
+    sends_types: bool,
+    has_attributes: bool,
+    attributes: &'a [QueryAttribute<'a>],
+) -> ComStmtExecuteOptionsBuilder<'a> {
+    let attributes = if has_attributes {
+        Some(attributes)
+    } else {
+        None
+    };
+    ComStmtExecuteOptionsBuilder {
+        stmt_id: head.stmt_id(),
+        flags: head.flags(),
+        iteration_count: head.iteration_count(),
+        sends_types,
+        attributes,
+    }
+}
+
+/// Writes an execution again as it was read: `written=same`, or what is written.
+fn write_again(
+    out: &mut Out,
+    builder: ComStmtExecuteOptionsBuilder<'_>,
+    params: &[TypedExecuteParam<'_>],
+    bytes: &[u8],
+) {
+    let mut buffer = begun(out);
+    match counted!(out.alloc(); builder.write_ref(params, &mut buffer)) {
+        Ok(_as_long_data) => show_written(out, true, &buffer, bytes.get(..after(&buffer).len())),
+        Err(error) => show_refused(out, &error),
+    }
+}
+
+/// Shows the attributes after the parameters, and how many bytes are left.
+fn show_attributes<'s, 'a>(
+    out: &mut Out,
+    attributes: QueryAttributesView<'a>,
+    read: &mut Vec<QueryAttribute<'a>>,
+) -> Result<(), FaultOf<'s>> {
+    let mut attributes = attributes;
+    for left in (0..attributes.left().saturating_add(1)).rev() {
+        match counted!(out.alloc(); attributes.next_attribute()) {
+            Ok(Some(it)) if left.checked_sub(1) == Some(attributes.left()) => {
+                out.show("name", it.name);
+                show_param(out, it.param_type, ExecuteParam::sent(it.value));
+                push(out, read, it);
+            }
+            Ok(None) if left == 0 => {}
+            Ok(_) => return Err(Fault::InvalidInput("left")),
+            Err(fault) => return Err(fault),
+        }
+    }
+    out.show("rest", attributes.rest().len());
+    Ok(())
+}
+
+/// Adds a date with its offset: its numbers with `-` between them, and the offset in minutes with its sign.
+fn show_offset_date(out: &mut Out, date: DateTimeWithOffset) {
+    out.push("D");
+    out.display(&date.year);
+    for part in [date.month, date.day, date.hour, date.minute, date.second] {
+        out.push("-");
+        out.display(&part);
+    }
+    out.push("-");
+    out.display(&date.micros);
+    if date.offset_minutes >= 0 {
+        out.push("+");
+    }
+    out.display(&date.offset_minutes);
 }
 
 /// Adds a parameter after its type.
@@ -49,16 +150,36 @@ fn show_param(out: &mut Out, param_type: ParamType, param: ExecuteParam<'_>) {
     out.push("-");
     param_type.flags().shown(out);
     out.push("=");
+    show_value(out, param);
+}
+
+/// Adds what is sent of a parameter.
+pub fn show_value(out: &mut Out, param: ExecuteParam<'_>) {
     match param {
         ExecuteParam::Value(value) => Spelled(value).shown(out),
+        ExecuteParam::DateTimeWithOffset(date) => show_offset_date(out, date),
         ExecuteParam::SentAhead => out.push("ahead"),
     }
 }
 
 pub fn com_execute(out: &mut Out, request: &Request<'_>) {
+    read_execution(out, request, CapabilityFlags::from_bits_retain(0));
+}
+
+/// `com_execute_attributes BOUND BYTES`: the same under CLIENT_QUERY_ATTRIBUTES.
+pub fn com_execute_attributes(out: &mut Out, request: &Request<'_>) {
+    read_execution(out, request, CapabilityFlags::CLIENT_QUERY_ATTRIBUTES);
+}
+
+fn read_execution(out: &mut Out, request: &Request<'_>, capabilities: CapabilityFlags) {
     let bound = list::<BoundParam>(out, request.word(1), "()", ',');
     let mut shown = Out::new(out.alloc());
-    match show_execution(&mut shown, bound.as_slice(), request.bytes.as_slice()) {
+    match show_execution(
+        &mut shown,
+        capabilities,
+        bound.as_slice(),
+        request.bytes.as_slice(),
+    ) {
         Ok(()) => {
             out.word("");
             out.push_made(shown.into_text());

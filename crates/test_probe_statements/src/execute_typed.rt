@@ -1,27 +1,60 @@
 //! Executions whose types are chosen, and those that send none.
 //!
-//! `execute_typed ID CURSOR KIND PARAMETERS`: with a cursor, or `-`; with `types`, or under those of an `earlier` execution; each
-//! parameter `TYPE=VALUE`, with `/` between them, where `ahead` is one sent ahead. It is built, and written at once.
+//! `execute_typed ID CURSOR KIND PARAMETERS ATTRIBUTES`: with a cursor, or `-`; with `types`, or under those of an `earlier` execution;
+//! each parameter `TYPE=VALUE`, with `/` between them, where `ahead` is one sent ahead and `ZOFFSET` before a date its offset from UTC in
+//! minutes; attributes `NAME:TYPE=VALUE`, names in hexadecimal, or none where CLIENT_QUERY_ATTRIBUTES is not agreed on. It is built, and
+//! written at once to a buffer and to a slice.
 
-use crate::execute::cursor_of;
+use crate::execute::{cursor_of, show_refused, show_with};
 use crate::prelude::*;
 
-/// A parameter of a request.
+/// A parameter or an attribute of a request.
 #[derive(Drop)]
 struct TypedWord {
+    name: Vec<u8>,
     param_type: ParamType,
     value: Value,
+    offset: Option<i16>,
     is_ahead: bool,
 }
 
 impl FromWord for TypedWord {
     fn from_word(out: &mut Out, word: &str) -> Self {
-        let (param_type, value) = word.split_once('=').unwrap_or((word, "N"));
+        let (name, typed) = word.split_once(':').unwrap_or(("", word));
+        let (param_type, text) = typed.split_once('=').unwrap_or((typed, "N"));
+        let (offset, text) = match text.strip_prefix('Z').map(|text| text.split_once('D')) {
+            Some(Some((offset, _))) => (
+                offset.parse::<i16>().ok(),
+                text.trim_start_matches(|c| c != 'D'),
+            ),
+            _ => (None, text),
+        };
         TypedWord {
+            name: bytes(out, name),
             param_type: ParamType::from_word(out, param_type),
-            value: Value::from_word(out, value),
-            is_ahead: value == "ahead",
+            value: Value::from_word(out, text),
+            offset,
+            is_ahead: text == "ahead",
         }
+    }
+}
+
+/// The value of a word.
+fn value_of<'v>(word: &'v TypedWord) -> ParamValue<'v> {
+    match (word.offset, word.value.as_ref()) {
+        (Some(offset_minutes), ValueRef::Date(year, month, day, hour, minute, second, micros)) => {
+            ParamValue::DateTimeWithOffset(DateTimeWithOffset {
+                year,
+                month,
+                day,
+                hour,
+                minute,
+                second,
+                micros,
+                offset_minutes,
+            })
+        }
+        (_, value) => ParamValue::Value(value),
     }
 }
 
@@ -29,61 +62,49 @@ fn param_of<'v>(word: &'v TypedWord) -> TypedExecuteParam<'v> {
     let param = if word.is_ahead {
         ExecuteParam::SentAhead
     } else {
-        ExecuteParam::Value(word.value.as_ref())
+        ExecuteParam::sent(value_of(word))
     };
     TypedExecuteParam {
         param_type: word.param_type,
+        name: word.name.as_slice(),
         param,
     }
 }
 
-fn builder_of(request: &Request<'_>) -> ComStmtExecuteTypedBuilder {
-    let builder = ComStmtExecuteRequestBuilder::new(request.number(1));
-    let typed = match request.word(3) {
-        "earlier" => builder.with_earlier_types(),
-        _ => builder.with_types(),
+fn attribute_of<'v>(word: &'v TypedWord) -> QueryAttribute<'v> {
+    QueryAttribute {
+        param_type: word.param_type,
+        name: word.name.as_slice(),
+        value: value_of(word),
+    }
+}
+
+fn builder_of<'a>(
+    request: &Request<'_>,
+    attributes: &'a [QueryAttribute<'a>],
+) -> ComStmtExecuteOptionsBuilder<'a> {
+    let plain = ComStmtExecuteRequestBuilder::new(request.number(1));
+    let builder = match (request.word(3), request.word(5)) {
+        ("earlier", "") => plain.with_earlier_types(),
+        ("earlier", _) => plain.with_earlier_types().with_query_attributes(attributes),
+        (_, "") => ComStmtExecuteOptionsBuilder::new(request.number(1)),
+        (_, _) => plain.with_query_attributes(attributes),
     };
     match cursor_of(request.word(2)) {
-        Some(cursor) => typed.with_cursor(cursor),
-        None => typed,
+        Some(cursor) => builder.with_cursor(cursor),
+        None => builder,
     }
 }
 
-/// Adds why there is no execution.
-fn show_refused(out: &mut Out, error: &TypedExecutionError) {
-    match error {
-        TypedExecutionError::UnspelledValue { place } => out.show("UnspelledValue", *place),
-        TypedExecutionError::Memory => out.word("Memory"),
-    }
-    out.text("text", error);
-}
-
-/// Shows an execution, and writes it.
-fn show_built(out: &mut Out, execution: &ComStmtExecuteTyped<'_>, as_long_data: bool) {
-    fields!(out, execution; stmt_id, flags, sends_types);
-    out.show("params", execution.params().len());
-    out.show("as_long_data", as_long_data);
-    out.same(
-        "as_long_data_said",
-        Ok(as_long_data == execution.as_long_data()),
-    );
-    fields!(out, execution; bitmap);
-    write_made(out, execution);
-}
-
-pub fn execute_typed(out: &mut Out, request: &Request<'_>) {
+/// Writes an execution to a buffer at once, and to a slice.
+fn write_at_once(
+    out: &mut Out,
+    builder: ComStmtExecuteOptionsBuilder<'_>,
+    params: &[TypedExecuteParam<'_>],
+) {
     let alloc = out.alloc();
-    let words = list::<TypedWord>(out, request.word(4), "()", '/');
-    let params = or_empty(out, words.iter().map(param_of).collect(alloc));
-    let builder = builder_of(request);
-    let built = counted!(alloc; builder.build_ref(alloc, &params));
-    match built {
-        Ok((execution, as_long_data)) => show_built(out, &execution, as_long_data),
-        Err(error) => show_refused(out, &error),
-    }
     let mut buffer = begun(out);
-    let written = counted!(alloc; builder.write_ref(&params, &mut buffer));
-    match written {
+    match counted!(alloc; builder.write_ref(params, &mut buffer)) {
         Ok(as_long_data) => {
             out.show("at_once", after(&buffer));
             out.show("as_long_data", as_long_data);
@@ -93,4 +114,25 @@ pub fn execute_typed(out: &mut Out, request: &Request<'_>) {
             show_refused(out, &error);
         }
     }
+    let mut places = or_empty(out, Vec::from_slice(alloc, after(&buffer)));
+    places.fill(0);
+    let written = counted!(alloc; builder.write_to_slice(params, &mut places));
+    if let Ok((len, _)) = written {
+        out.or_other(
+            "slice",
+            Ok(len == places.len() && places.as_slice() == after(&buffer)),
+        );
+    }
+}
+
+pub fn execute_typed(out: &mut Out, request: &Request<'_>) {
+    let alloc = out.alloc();
+    let words = list::<TypedWord>(out, request.word(4), "()", '/');
+    let params = or_empty(out, words.iter().map(param_of).collect(alloc));
+    let named = list::<TypedWord>(out, request.word(5), "()", '/');
+    let attributes = or_empty(out, named.iter().map(attribute_of).collect(alloc));
+    let builder = builder_of(request, &attributes);
+    let built = counted!(alloc; builder.build_ref(&params));
+    show_with(out, built);
+    write_at_once(out, builder, &params);
 }

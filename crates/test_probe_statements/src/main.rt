@@ -33,7 +33,7 @@ fn of_statements(out: &mut Out, request: &Request<'_>) -> bool {
         call "row_text": views::text::<ServerSide>, "row": views::binary::<ServerSide>,
             "row_text_client": views::text::<ClientSide>, "row_client": views::binary::<ClientSide>,
             "execute": execute::execute, "execute_many": execute::execute_many,
-            "execute_with": execute::execute_with, "execute_at_once": execute::at_once, "execute_typed": execute_typed::execute_typed, "com_execute": execute_read::com_execute, "long_data": stmt::long_data,
+            "execute_with": execute::execute_with, "execute_at_once": execute::at_once, "execute_typed": execute_typed::execute_typed, "com_execute": execute_read::com_execute, "com_execute_attributes": execute_read::com_execute_attributes, "long_data": stmt::long_data,
             "close": stmt::close, "bitmap": bitmaps::bitmap, "bits": bitmaps::bits, "row_equal": rows::row_equal,
             "write_row_text": written::text, "write_row": written::binary,
             "row_text_again": written::text_again, "row_again": written::binary_again,

@@ -29,7 +29,7 @@ pub fn text(out: &mut Out, name: &str) -> bool {
 fn text_of_commands(out: &mut Out, name: &str) -> bool {
     error_texts!(out, name;
         InvalidComQueryHeader, InvalidComFieldListHeader, InvalidComSetOptionHeader, InvalidComStmtFetchHeader,
-        InvalidComStmtResetHeader, InvalidParameterSetCount, InvalidNewParamsBindFlag,)
+        InvalidComStmtResetHeader, InvalidParameterSetCount,)
 }
 
 /// The same of errors of rows that are bulk executed.

@@ -37,9 +37,9 @@ pub fn this_handshake_round_trips(packet: &HandshakePacket<'_>)
     let _mariadb_ext_capabilities = packet.mariadb_ext_capabilities();
 }
 
-/// What is written of this response to a handshake is read again, whatever follows, where its parts fit.
+/// What is written of this response to a handshake is read again, where its parts fit before what follows.
 pub fn this_handshake_response_round_trips(response: &HandshakeResponse<'_>)
-    ensures spelled { (rest : List ℕ) → ResponsePartsFit response.now → (handshake_response.form tt).Spells response.now (handshake_response.bytes response.now ++ rest) rest }
+    ensures spelled { (rest : List ℕ) → ResponsePartsFit response.now rest → (handshake_response.form tt).Spells response.now (handshake_response.bytes response.now ++ rest) rest }
 {
     response.widths();
     response.keys_stand_once();

@@ -6,6 +6,7 @@ ghost use Rattle.mysql_wire.specs.Flags.{MariadbCapabilities};
 ghost use Rattle.mysql_replies.specs.Column.{column};
 ghost use Rattle.mysql_replies.specs.ColumnAttribute.{attribute_code, attribute_text, column_attribute};
 ghost use Rattle.mysql_replies.specs.ExtendedColumn.{extended, extended_column, sends_metadata, without_metadata, ExtendedColumnFits};
+ghost use Rattle.mysql_replies.specs.FieldListColumn.{Definition, FieldListColumnFits, field_list_column};
 ghost use Rattle.mysql_replies.specs.declared.column.Column.{Column};
 ghost use Rattle.mysql_replies.specs.declared.column_attribute.ColumnAttribute.{ColumnAttribute};
 ghost use Rattle.mysql_replies.specs.declared.extended_column.ExtendedColumn.{ExtendedColumn};
@@ -16,6 +17,13 @@ use mysql_wire::MyDeserialize;
 pub fn extended_column_round_trips()
     ensures spelled { (capabilities : MariadbCapabilities) (c : ExtendedColumn) (rest : List ℕ) → extended_column.fits capabilities c rest → (extended_column.form capabilities).Spells c (extended_column.bytes c ++ rest) rest }
     ensures plain { (capabilities : MariadbCapabilities) (c : ExtendedColumn) (rest : List ℕ) → ExtendedColumnFits capabilities c → (extended_column.form capabilities).Spells c (extended_column.bytes c ++ rest) rest }
+{}
+
+/// What is written of a column with its default value is read again under the same capabilities, whatever follows.
+#[tactic(auto, using(mysql_wire::proofs::Packets::packets, crate::proofs::FieldListColumns::field_list_columns))]
+pub fn field_list_column_round_trips()
+    ensures spelled { (capabilities : MariadbCapabilities) (d : Definition) (rest : List ℕ) → field_list_column.fits capabilities d rest → (field_list_column.form capabilities).Spells d (field_list_column.bytes d ++ rest) rest }
+    ensures plain { (capabilities : MariadbCapabilities) (d : Definition) (rest : List ℕ) → FieldListColumnFits capabilities d → (field_list_column.form capabilities).Spells d (field_list_column.bytes d ++ rest) rest }
 {}
 
 /// What is written of an attribute of a column is read again, whatever follows.

@@ -11,6 +11,7 @@ ghost use Rattle.mysql_replies.specs.ColumnAttribute.{column_attribute};
 ghost use Rattle.mysql_replies.specs.ExtendedColumn.{extended_column, metadata_of, sends_metadata};
 ghost use Rattle.mysql_replies.specs.ColumnCount.{column_count, SuitsSession};
 ghost use Rattle.mysql_replies.specs.ErrPacket.{err_packet, HasWidths, StateHasWidth, SuitsFlags};
+ghost use Rattle.mysql_replies.specs.FieldListColumn.{column_of, field_list_column};
 ghost use Rattle.mysql_replies.specs.LocalInfile.{local_infile};
 ghost use Rattle.mysql_replies.specs.declared.session_capabilities.SessionCapabilities.{SessionCapabilities};
 ghost use Rattle.mysql_replies.specs.declared.ok_kind.CommonOkPacket.{CommonOkPacket};
@@ -31,8 +32,10 @@ ghost use Rattle.mysql_replies.specs.SqlState.{sql_state};
 use crate::column::Column;
 use crate::column_attribute::ColumnAttribute;
 use crate::column_count::ColumnCount;
+use crate::column_ref::ColumnRef;
 use crate::err_packet::ErrPacket;
 use crate::extended_column::ExtendedColumn;
+use crate::field_list_column::FieldListColumn;
 use crate::greeting_error::GreetingError;
 use crate::local_infile::LocalInfilePacket;
 use crate::ok_packet::OkPacket;
@@ -81,6 +84,40 @@ pub fn this_extended_column_round_trips(column: &ExtendedColumn)
     }
 }
 
+/// What is written of this column with its default value is read again under these capabilities, whatever follows, where it has metadata
+/// just where the flag asks for it.
+#[inline]
+#[tactic(auto, using(crate::proofs::FieldListColumns::field_list_columns))]
+pub fn this_field_list_column_round_trips(definition: &FieldListColumn<'_>)
+    ensures spelled { (capabilities : MariadbCapabilities) (rest : List ℕ) → is_some (metadata_of (column_of definition.now)) ≡ sends_metadata capabilities
+        → (field_list_column.form capabilities).Spells definition.now (field_list_column.bytes definition.now ++ rest) rest }
+{
+    let extended = definition.column();
+    has_widths_in_place(extended.column());
+    if let Some(metadata) = extended.metadata() {
+        let _metadata = metadata.len();
+    }
+    if let Some(text) = definition.default_value() {
+        let _text = text.len();
+    }
+}
+
+/// The lengths and numbers of a column that stays in its packet have their widths.
+#[inline]
+fn has_widths_in_place(column: &ColumnRef<'_>)
+    ensures value { spec.ColumnFits column.now }
+{
+    let _schema = column.schema().len();
+    let _table = column.table().len();
+    let _org_table = column.org_table().len();
+    let _name = column.name().len();
+    let _org_name = column.org_name().len();
+    let _character_set = column.character_set();
+    let _column_length = column.column_length();
+    let _flags = column.flags();
+    let _decimals = column.decimals();
+}
+
 /// What is written of this attribute of a column is read again, whatever follows.
 #[inline]
 #[tactic(auto, using(crate::proofs::ExtendedColumns::extended_columns))]
@@ -91,17 +128,14 @@ pub fn this_column_attribute_round_trips(attribute: &ColumnAttribute<'_>)
     let _text = attribute.text_ref().len();
 }
 
-/// What is written of this count of columns is read again, whatever follows, where bytes say whether definitions follow just
-/// where the flags ask for them.
+/// What is written of this count of columns is read again, whatever follows, where a byte says whether definitions follow just
+/// where the flags ask for it.
 #[inline]
 pub fn this_column_count_round_trips(columns: &ColumnCount)
     ensures spelled { (capabilities : SessionCapabilities) (rest : List ℕ) → SuitsSession capabilities columns.now
         → (column_count.form capabilities).Spells columns.now (column_count.bytes columns.now ++ rest) rest }
 {
     let _count = columns.count();
-    if let Some(byte) = columns.optional_metadata_byte() {
-        let _byte = byte;
-    }
     if let Some(byte) = columns.metadata_byte() {
         let _byte = byte;
     }

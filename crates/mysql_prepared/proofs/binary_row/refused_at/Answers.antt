@@ -1,5 +1,4 @@
-use Rattle.std.proofs.Common.{◌≡◌, ◌+◌, ◌<◌, ◌&&◌, Bool, false, add-one, length, drop, get_or, slice_get, Some, IsTrue, not, sym, ap, ◌∙◌, arith, true}
-use Rattle.std.specs.Prelude.{IsFalse}
+use Rattle.std.proofs.Common.{◌≡◌, ◌+◌, ◌<◌, ◌&&◌, Bool, false, add-one, length, drop, slice_get, Some, IsTrue, sym, ap, ◌∙◌, arith}
 use Rattle.std.proofs.lemmas.Option.{slice_get-get_or}
 use Rattle.mysql_values.specs.Value.{Content}
 use Rattle.mysql_prepared.specs.BinaryRow.{takes, takes_row}

@@ -1,4 +1,4 @@
-use Rattle.std.proofs.Common.{◌≡◌, length, ap, arith}
+use Rattle.std.proofs.Common.{ap, arith}
 use Rattle.std.proofs.lemmas.List.{length-map, length-take-le}
 use Rattle.mysql_wire.specs.Writing.{saturated}
 use Rattle.mysql_prepared.specs.Bitmap.{bytes_for}

@@ -1,12 +1,11 @@
--- src/laws.rt: execution_round_trips
-use Rattle.mysql_prepared.proofs.ExecutionAgain.{head-read, params-spelled, params-read}
+use Rattle.mysql_prepared.proofs.ExecutionAgain.{execution-again, execution-read, head-read}
 use Rattle.mysql_prepared.proofs.laws.execution_round_trips.Goals as goal
 
 pub returns-clause-head : goal.returns-clause-head
-returns-clause-head g c = λ r rest none id flags. head-read g.V.AsExecuteParam.param r rest none id flags
+returns-clause-head c = head-read
 
 pub returns-clause-spelled : goal.returns-clause-spelled
-returns-clause-spelled g c = λ bound r rest is. params-spelled g.V.AsExecuteParam.param bound r rest is
+returns-clause-spelled c = λ caps bound h ps attributes s l rest is. execution-again caps bound h ps attributes s l is rest
 
 pub returns-clause-read : goal.returns-clause-read
-returns-clause-read g c = λ bound r rest is. params-read g.V.AsExecuteParam.param bound r rest is
+returns-clause-read c = execution-read

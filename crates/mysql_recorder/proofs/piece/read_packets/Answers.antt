@@ -37,6 +37,7 @@ packets-preserved c = record {
   passed = ap (λ s. s.passed) c.give_back.ensures ∙ c.in-Ok-Some.ensures.passed ∙ c.packets.invariant.passed;
   layout = c.take-taken.ensures.layout ∙ c.packets.invariant.layout;
   may_wait = c.take-taken.ensures.may_wait ∙ c.packets.invariant.may_wait;
+  deciphered = c.take-taken.ensures.deciphered ∙ c.packets.invariant.deciphered;
   sums = c.take-taken.ensures.sums ∙ c.packets.invariant.sums;
   stays = stays_then (string_bytes c.args.out.now) (string_bytes c.packets.out) (string_bytes c.take-taken.new.out) c.packets.invariant.stays (rw c.in-Ok-Shown.is at c.take-taken.ensures.stays);
   numbered = λ n. subst (λ s. IsNumbered s.reader) (sym c.give_back.ensures)

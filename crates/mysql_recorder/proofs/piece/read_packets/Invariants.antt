@@ -11,6 +11,7 @@ invariant-packets l = record {
   passed : l.stream.passed ≡ l.fn.stream.passed;
   layout : l.packets.layout ≡ l.fn.packets.layout;
   may_wait : may_wait l.packets.followed ≡ may_wait l.fn.packets.followed;
+  deciphered : l.packets.followed.is_deciphered ≡ l.fn.packets.followed.is_deciphered;
   sums : is_some l.packets.sums ≡ is_some l.fn.packets.sums;
   stays : Stays (string_bytes l.fn.out) (string_bytes l.out);
   numbered : IsNumbered l.fn.stream.reader → IsNumbered l.stream.reader;

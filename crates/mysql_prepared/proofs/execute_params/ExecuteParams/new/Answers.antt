@@ -1,15 +1,12 @@
-use Rattle.std.proofs.Common.{List, arith, ltb-true, nat_lt, subst}
+use Rattle.std.proofs.Common.{arith, ltb-true, nat_lt}
 use Rattle.std.proofs.lemmas.Bool.{lt-ltb}
-use Rattle.std.proofs.lemmas.List.{append-nil}
 use Rattle.mysql_wire.specs.Writing.{saturated}
-use Rattle.mysql_values.specs.Value.{Content, contents_of}
-use Rattle.mysql_prepared.specs.NullMarks.{MarksNulls}
 use Rattle.mysql_prepared.proofs.ParamLengths.{params_fit}
 use Rattle.mysql_prepared.proofs.execute_params.ExecuteParams.new.Goals as goal
 
 pub returns-clause-bitmap : goal.returns-clause-bitmap
 returns-clause-bitmap c =
-    subst (λ (held : List Content). MarksNulls 0 held c.in_ok-nulls_of.field-0.bytes) (append-nil (contents_of c.args.values.now)) c.in_ok-nulls_of.ensures
+    c.in_ok-nulls_of.ensures
 
 pub returns-clause-as_long_data : goal.returns-clause-as_long_data
 unfolding saturated

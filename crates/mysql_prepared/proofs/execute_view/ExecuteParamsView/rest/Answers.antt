@@ -1,6 +1,6 @@
 use Rattle.std.proofs.Common.{◌≡◌, ◌∙◌, Ok, subst}
-use Rattle.mysql_prepared.specs.ExecuteRead.{ParamsLeft, bound_left}
-use Rattle.mysql_prepared.proofs.ParamViews.{no-param, none-bound}
+use Rattle.mysql_prepared.specs.ExecuteRead.{ParamsLeft}
+use Rattle.mysql_prepared.proofs.ParamViews.{no-param}
 use Rattle.mysql_prepared.proofs.execute_view.ExecuteParamsView.rest.Goals as goal
 
 pub returns-clause-value : goal.returns-clause-value
@@ -8,4 +8,4 @@ returns-clause-value c =
     let b = c.self.inside.bytes in
     let ps = c.self.inside.params.now in
     subst (λ (r : ParamsLeft). r.left ≡ 0 → r.end ≡ Ok c.rest.result) c.self.view_is
-    (λ none. rw c.rest.ensures.value (no-param b.nulls b.place (bound_left b.sends_types ps b.types) b.values (none-bound b.sends_types ps b.types (c.self.invariant ∙ none))).1)
+    (λ none. rw c.rest.ensures.value (no-param b.sends_types b.nulls b.place ps b.types b.values (c.self.invariant ∙ none)).1)

@@ -11,7 +11,7 @@ use Rattle.mysql_recorder.proofs.Stopped.{stops_after, stops_on_err}
 use Rattle.mysql_recorder.proofs.recording.Recording.take.Goals as goal
 
 pub loop-byte-init : goal.loop-byte-init
-loop-byte-init c = record { goes = loop_starts c.args.input.now c.args.self.now (string_bytes c.args.out.now); lost = λ e. e; layout = refl; longest = refl; may_wait = refl; sums = refl; loses = loses_none (Ok tt) ALL (take 0 c.args.input.now) c.args.self.now c.args.self.now (string_bytes c.args.out.now) (string_bytes c.args.out.now) refl; text = stays_same (string_bytes c.args.out.now) }
+loop-byte-init c = record { goes = loop_starts c.args.input.now c.args.self.now (string_bytes c.args.out.now); lost = λ e. e; layout = refl; longest = refl; may_wait = refl; deciphered = refl; sums = refl; loses = loses_none (Ok tt) ALL (take 0 c.args.input.now) c.args.self.now c.args.self.now (string_bytes c.args.out.now) (string_bytes c.args.out.now) refl; text = stays_same (string_bytes c.args.out.now) }
 
 pub loop-byte-preserved : goal.loop-byte-preserved
 loop-byte-preserved c = record {
@@ -22,6 +22,7 @@ loop-byte-preserved c = record {
   layout = c.in_ok-take_byte.ensures.settings.layout ∙ c.loop-byte.invariant.layout;
   longest = c.in_ok-take_byte.ensures.settings.longest ∙ c.loop-byte.invariant.longest;
   may_wait = c.in_ok-take_byte.ensures.settings.may_wait ∙ c.loop-byte.invariant.may_wait;
+  deciphered = c.in_ok-take_byte.ensures.settings.deciphered ∙ c.loop-byte.invariant.deciphered;
   sums = c.in_ok-take_byte.ensures.settings.sums ∙ c.loop-byte.invariant.sums;
   loses = loop_loses ALL c.args.input.now c.loop-byte.byte-index (get_or c.args.input.now c.loop-byte.byte-index 0) c.args.self.now c.loop-byte.self c.take_byte.new.self
       (string_bytes c.args.out.now) (string_bytes c.loop-byte.out) (string_bytes c.take_byte.new.out)

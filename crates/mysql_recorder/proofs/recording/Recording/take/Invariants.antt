@@ -2,7 +2,7 @@ use Rattle.std.proofs.Common.{◌≡◌, true, take, Ok, string_bytes}
 use Rattle.mysql_conversation.specs.declared.kind_name.TheConstants.KindName.{ALL}
 use Rattle.mysql_fields.specs.Entries.{Stays}
 use Rattle.mysql_recorder.specs.Losses.{Loses}
-use Rattle.mysql_recorder.specs.Recorded.{GoesOn, has_lost, has_sums, layout, longest, may_wait}
+use Rattle.mysql_recorder.specs.Recorded.{GoesOn, has_lost, has_sums, is_deciphered, layout, longest, may_wait}
 use Rattle.mysql_recorder.proofs.recording.Recording.take.Given as goal
 
 abbrev pub invariant-loop-byte : goal.invariant-loop-byte
@@ -12,6 +12,7 @@ invariant-loop-byte l = record {
   layout : layout l.self ≡ layout l.fn.self;
   longest : longest l.self ≡ longest l.fn.self;
   may_wait : may_wait l.self ≡ may_wait l.fn.self;
+  deciphered : is_deciphered l.self ≡ is_deciphered l.fn.self;
   sums : has_sums l.self ≡ has_sums l.fn.self;
   loses : Loses (Ok tt) ALL (take l.byte-index l.input) l.fn.self l.self (string_bytes l.fn.out) (string_bytes l.out);
   text : Stays (string_bytes l.fn.out) (string_bytes l.out);

@@ -1,9 +1,0 @@
-use Rattle.std.proofs.Common.{◌≡◌, ◌+◌}
-use Rattle.mysql_repl.specs.InPlace.{passed}
-use Rattle.mysql_commands.proofs.query_attributes.QueryAttributesView.pass.Given as goal
-
-abbrev pub invariant-loop : goal.invariant-loop
-invariant-loop l = record {
-  passed : passed l.self.all ≡ passed l.view.all;
-  left : l.view.left + l.counter ≡ l.self.left;
-}

@@ -1,0 +1,85 @@
+//! The attributes of an execution.
+#![tactic(auto, using(crate::proofs::QueryAttributes::attributes, crate::proofs::Executions::executions))]
+
+ghost use Rattle.std.specs.Prelude.{◌≡◌, IfErr, OnOk, length};
+ghost use Rattle.mysql_prepared.specs.ExecuteHead.{cursor_flags};
+ghost use Rattle.mysql_prepared.specs.ExecuteRead.{RefusesParam};
+ghost use Rattle.mysql_packets_c.specs.Execution.{KeepsRest, bound_list, last_left};
+ghost use Rattle.mysql_packets_c.specs.ExecutionAttribute as spec;
+ghost use Rattle.mysql_packets_c.specs.QueryAttribute.{AttributeInto, AttributesAre};
+
+use crate::code::{END, OK, code_of};
+use crate::execution::{CParam, attributes_of, bound_of};
+use crate::flags::capabilities_of;
+use crate::query_attribute::{CQueryAttribute, attribute_at, put_attribute};
+use mysql_prepared::QueryAttributesView;
+use mysql_stmt::{ComStmtExecuteHead, ExecuteParamsBytes};
+use mysql_wire::{CapabilityFlags, Fault, ParseBuf};
+use std::alloc::Global;
+
+/// Reads past all the parameters.
+fn pass_params(sent: &mut ExecuteParamsBytes<'_>, params: &[CParam]) -> Result<(), Fault>
+    requires all { sent.old.left ≡ length params.now }
+    ensures rest { KeepsRest (last_left sent.old params.now) (last_left sent.new params.now) }
+    ensures all { OnOk result (sent.new.left ≡ 0) }
+    ensures refused { IfErr result (λ e. RefusesParam e (last_left sent.new params.now)) }
+{
+    for param in params {
+        let _passed = sent.next_param(bound_of(param))?;
+    }
+    Ok(())
+}
+
+/// The attributes of an execution of these parameters, which all are good.
+fn attributes_after<'a>(
+    capabilities: CapabilityFlags,
+    head: &ComStmtExecuteHead,
+    params: &[CParam],
+    buf: ParseBuf<'a>,
+) -> Result<QueryAttributesView<'a>, Fault>
+    ensures value { AttributesAre (spec.attributes_after capabilities (cursor_flags head.now) (bound_list params.now) buf.entry) result }
+{
+    let mut sent = ExecuteParamsBytes::new(capabilities, head, params.len(), buf)?;
+    pass_params(&mut sent, params)?;
+    let attributes = attributes_of(&sent);
+    let _rest = attributes.pass()?;
+    Ok(attributes)
+}
+
+/// The attributes of an execution that begins here.
+fn execution_attributes<'a>(
+    buf: &mut ParseBuf<'a>,
+    capabilities: CapabilityFlags,
+    params: &[CParam],
+) -> Result<QueryAttributesView<'a>, Fault>
+    ensures value { AttributesAre (spec.attributes_in capabilities (bound_list params.now) buf.old) result }
+{
+    let head: ComStmtExecuteHead = buf.parse(())?;
+    attributes_after(capabilities, &head, params, buf.rest())
+}
+
+/// Reads one attribute of `COM_STMT_EXECUTE`, the first being 0: 0; 7 where there are fewer; or 1 or 2. After another code than 0
+/// the struct is as it was.
+#[unsafe(no_mangle)]
+pub extern "C" fn myp_read_execution_attribute<'a>(
+    alloc: Global,
+    packet: &'a [u8],
+    capabilities: u32,
+    params: &[CParam],
+    place: usize,
+    out: &mut CQueryAttribute<'a>,
+) -> u32
+    ensures value { AttributeInto (λ x. x) place (spec.attributes_in (record { 0 = capabilities; 1 = record {} }) (bound_list params.now) packet.now) result out.old out.new }
+{
+    let mut buf = ParseBuf::new(alloc, packet);
+    match execution_attributes(&mut buf, capabilities_of(capabilities), params) {
+        Ok(attributes) => match attribute_at(attributes, place) {
+            Some(attribute) => {
+                put_attribute(&attribute, out);
+                OK
+            }
+            None => END,
+        },
+        Err(fault) => code_of(&fault),
+    }
+}

@@ -1,9 +1,0 @@
-use Rattle.std.proofs.Common.{arith, ltb-true}
-use Rattle.std.proofs.lemmas.Bool.{lt-ltb}
-use Rattle.mysql_wire.specs.Writing.{saturated}
-use Rattle.mysql_prepared.proofs.execute_with_options.ComStmtExecuteOptionsBuilder.build.Goals as goal
-
-pub returns-clause-as_long_data : goal.returns-clause-as_long_data
-unfolding saturated
-returns-clause-as_long_data g c =
-    (λ past. omega (arith, ltb-true _ _ past, c.defined_len.ensures), λ past. lt-ltb _ _ (omega (arith, c.defined_len.ensures)))

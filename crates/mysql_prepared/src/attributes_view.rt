@@ -1,0 +1,172 @@
+//! The attributes of a query or an execution, where they lie.
+#![tactic(auto, using(mysql_wire::proofs::Packets::packets))]
+
+ghost use Rattle.std.specs.Prelude.{false, ◌≡◌, ◌<◌, ◌≤◌, ◌*◌, ◌+◌, [], Ok, length, IsTrue, ◌↔◌};
+ghost use Rattle.mysql_wire.specs.Reading.{Answers};
+ghost use Rattle.mysql_values.specs.ParamValue.{param_contents};
+ghost use Rattle.mysql_prepared.specs.Bitmap.{cell};
+ghost use Rattle.mysql_prepared.specs.Attributes as spec;
+ghost use Rattle.mysql_prepared.specs.BindFront.{AttributesThere};
+
+use crate::bind_front::BindFront;
+use crate::execute_param::QueryAttribute;
+use crate::null_bitmap::NullBitmap;
+use crate::sent_types::SentParamTypes;
+use mysql_values::{ClientSide, ParamType, ParamValue, ValueRef, read_param_value};
+use mysql_wire::{FaultOf, ParseBuf};
+use std::alloc::AllocError;
+use std::borrow::CowSlice;
+use std::marker::Model;
+
+/// Whether that bit is set.
+#[inline(always)]
+pub(crate) fn is_marked(nulls: &ParseBuf<'_>, place: usize) -> bool
+    requires { place < 8 * length nulls.now }
+    ensures value { IsTrue result ↔ (cell nulls.now place ≡ 1) }
+{
+    let bytes = nulls.rest().eat_all();
+    NullBitmap::<'_, ClientSide>::from_bytes(CowSlice::Borrowed(bytes)).is_null(place)
+}
+
+/// The value of a parameter or an attribute: NULL takes no bytes.
+#[inline(always)]
+pub(crate) fn read_value<'s, 'de>(
+    is_null: bool,
+    param_type: ParamType,
+    buf: &mut ParseBuf<'de>,
+) -> Result<ParamValue<'de>, FaultOf<'s>>
+    ensures value { Answers false (param_contents result) buf.new ((spec.value_of is_null param_type).reads buf.old) }
+{
+    if is_null {
+        return Ok(ParamValue::Value(ValueRef::NULL));
+    }
+    read_param_value(param_type, buf)
+}
+
+/// The attributes of a query or an execution, one by one, without memory.
+///
+/// In a clause it is how many are left, what reading all of them gives, and the bytes after those that were read.
+#[derive(Drop)]
+pub struct QueryAttributesView<'a> {
+    nulls: ParseBuf<'a>,
+    place: usize,
+    types: SentParamTypes<'a>,
+    values: ParseBuf<'a>,
+}
+
+impl<'a> Model for QueryAttributesView<'a> {
+    ghost use Rattle.std.specs.Prelude.{length};
+    ghost use Rattle.mysql_prepared.specs.Attributes.{AttributesLeft, HasMarks, attributes_left};
+
+    ghost Value = { AttributesLeft };
+
+    ghost view = { λ v. attributes_left v.nulls v.place v.types v.values };
+
+    ghost invariant = { λ v. HasMarks v.nulls v.place (length v.types) };
+}
+
+impl Clone for QueryAttributesView<'_> {
+    ghost is_clone = { λ v copy. copy ≡ v };
+
+    fn clone(&self) -> Result<Self, AllocError> {
+        Ok(self.again())
+    }
+}
+
+impl<'a> QueryAttributesView<'a> {
+    /// The attributes of these types from that place of the bitmap on, whose values stand in these bytes.
+    #[inline]
+    pub(crate) fn of(
+        nulls: ParseBuf<'a>,
+        place: usize,
+        types: SentParamTypes<'a>,
+        values: ParseBuf<'a>,
+    ) -> Self
+        requires { spec.HasMarks nulls place (length types) }
+        ensures value { result ≡ spec.attributes_left nulls.entry place types.entry values.entry }
+    {
+        QueryAttributesView {
+            nulls,
+            place,
+            types,
+            values,
+        }
+    }
+
+    /// Reads what stands before the values of so many attributes of a query: the bitmap of NULLs, a byte that is not 0, and the types
+    /// with the names.
+    ///
+    /// Missing bytes are `UnexpectedEof`; a byte 0 and a type that is none are `InvalidData`.
+    pub fn read<'s>(count: usize, buf: ParseBuf<'a>) -> Result<Self, FaultOf<'s>>
+        ensures value { AttributesThere count buf.entry result }
+    {
+        let mut rest = buf;
+        let front = BindFront::read(true, count, 0, &mut rest)?;
+        Ok(QueryAttributesView::of(front.nulls, 0, front.types, rest))
+    }
+
+    /// The same attributes once more.
+    #[inline]
+    pub fn again(&self) -> Self
+        ensures value { result ≡ self.now }
+    {
+        QueryAttributesView {
+            nulls: self.nulls.rest(),
+            place: self.place,
+            types: self.types.again(),
+            values: self.values.rest(),
+        }
+    }
+
+    /// How many are left.
+    #[inline]
+    pub fn left(&self) -> usize
+        ensures value { result ≡ self.now.left }
+    {
+        self.types.left()
+    }
+
+    /// The bytes after the attributes that were read.
+    #[inline]
+    pub fn rest(&self) -> ParseBuf<'a>
+        ensures value { result ≡ self.now.rest }
+        ensures done { self.now.left ≡ 0 → self.now.all ≡ Ok ([], result) }
+    {
+        self.values.rest()
+    }
+
+    /// The next attribute, or none after the last. After a refusal the view is as it was.
+    ///
+    /// The attributes of a query that was read are good, and none of them is refused.
+    #[inline]
+    pub fn next_attribute<'s>(&mut self) -> Result<Option<QueryAttribute<'a>>, FaultOf<'s>>
+        ensures value { spec.NextAttribute self.old result self.new }
+    {
+        let mut types = self.types.again();
+        let Some(named_type) = types.next_type() else {
+            return Ok(None);
+        };
+        let is_null = is_marked(&self.nulls, self.place);
+        let mut rest = self.values.rest();
+        let value = read_value(is_null, named_type.param_type, &mut rest)?;
+        self.values = rest;
+        self.types = types;
+        self.place += 1;
+        Ok(Some(QueryAttribute {
+            param_type: named_type.param_type,
+            name: named_type.name,
+            value,
+        }))
+    }
+
+    /// The bytes after the last attribute, where all are good.
+    pub fn pass<'s>(&self) -> Result<ParseBuf<'a>, FaultOf<'s>>
+        ensures value { spec.PassedTo self.now result }
+    {
+        let mut view = self.again();
+        for _ in 0..self.left() {
+            view.next_attribute()?;
+        }
+        Ok(view.rest())
+    }
+}
