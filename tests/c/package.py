@@ -5,6 +5,7 @@ server recorded, packets of the protocol's pages, an exception a code, and where
 package.py PREFIX    PREFIX is where ./mypackets-c put the library
 The last line is 'N passed, N failed'. Without venv it says that it is not run."""
 import datetime
+import decimal
 import os
 import shutil
 import subprocess
@@ -85,6 +86,12 @@ def inside():
         except my.PacketError as error:
             expect(name, type(error), kind)
 
+    def invalid(name, row, column, call, *arguments):
+        try:
+            expect(name, call(*arguments), my.InvalidValue)
+        except my.InvalidValue as error:
+            expect(name, (error.row, error.column), (row, column))
+
     session, p = my.Session(), my.Library()
     # what a MariaDB 10.11 sent to a client that prepares and executes
     greeting, ok, prepared, *rest = frames((TOP / "crates/examples_driver/stdin").read_bytes())
@@ -152,7 +159,21 @@ def inside():
     refused("a cut packet", my.UnexpectedEof, session.read_ok, ok[:5])
     refused("another first byte", my.InvalidData, session.read_ok, b"\1" + ok[1:])
     refused("a length that no header has", my.InvalidInput, session.write_header, 1 << 24, 0)
-    refused("a row past the limit", my.RowTooLarge, list, session.write_bulk(statement, [("x" * 2000,)], 1004))
+
+    # what can't be sent is named by its place
+    invalid("a row of fewer values", 1, 2, session.write_bulk, statement, [(1, 2, 3), (4, 5)])
+    invalid("a row of more values", 2, 1, session.write_bulk, statement, [(1,), (2,), (3, 4)])
+    invalid("an int outside 64 bits", 1, 0, session.write_bulk, statement, [(1, "a"), (2**64, "b")])
+    invalid("a list is no bytes", 0, 1, session.write_bulk, statement, [(1, [1, 2])])
+    invalid("an int and a text in one column", 1, 0, session.write_bulk, statement, [(1,), ("a",)])
+    invalid("an int outside 64 bits as a parameter", None, 1, session.write_execution, statement, [1, -(2**63) - 1])
+    aware = datetime.datetime(2024, 1, 1, tzinfo=datetime.timezone.utc)
+    invalid("an aware datetime", None, 0, session.write_execution, statement, [aware])
+    expect("ints and floats in one column", b"".join(session.write_bulk(statement, [(1,), (2.5,)])),
+           bytes.fromhex("fa01000000" "8000" "0500" "00" "000000000000f03f" "00" "0000000000000440"))
+    expect("a decimal is its text", session.write_execution(statement, [decimal.Decimal("1.50")]), [bytes.fromhex("170100000000010000000001fd0004312e3530")])
+    expect("a date", session.write_execution(statement, [datetime.date(2010, 10, 17)]), [bytes.fromhex("170100000000010000000001" "0c00" "04da070a11")])
+    refused("a row past the limit", my.RowTooLarge, list,    refused("a row past the limit", my.RowTooLarge, list, session.write_bulk(statement, [("x" * 2000,)], 1004))
     print(f"{passed} passed, {failed} failed")
     return 1 if failed else 0
 

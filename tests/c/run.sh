@@ -9,6 +9,7 @@
 # conversations.py   which packet comes next, in recorded conversations and changed ones, compared with the second tracker
 # live.py      the examples against a MariaDB server, where one is installed
 # package.py   the Python package, installed in an environment of its own
+# python_rows.py   10,000 random lists of rows, written in bulk by the Python package and read back by the reference decoder
 # aarch64.sh   abi.c, memory.c and hostile.c over the library for aarch64, as qemu runs them, where its compiler and qemu are installed
 # release.sh   what is handed out: made twice it is the same, and the driver is built with it in another folder
 #
@@ -68,6 +69,7 @@ counted "$top/tests/c/rows.py" "$prefix/lib/libmysql_packets.so" "$count"
 counted "$top/tests/c/conversations.py" "$prefix/lib/libmysql_packets.so"
 counted "$top/tests/c/live.py" "$prefix"
 counted "$top/tests/c/package.py" "$prefix"
+MYSQL_PACKETS_PREFIX=$prefix counted "$top/tests/c/python_rows.py"
 counted "$top/tests/c/aarch64.sh"
 counted "$top/tests/c/release.sh"
 

@@ -1,5 +1,5 @@
 """An exception for each code of enum myp_code that is a refusal."""
-from typing import Dict, Type
+from typing import Dict, Optional, Type
 
 
 class PacketError(Exception):
@@ -36,6 +36,16 @@ class BufferTooSmall(PacketError):
 
 class RowTooLarge(PacketError):
     text = "a row is too large for a request"
+
+
+class InvalidValue(ValueError):
+    """A value that can't be sent: nothing was written. `column` is its place in its row or among the parameters and `row` the place of its row,
+    both counted from 0; None where there is none."""
+
+    def __init__(self, reason: str, column: Optional[int] = None, row: Optional[int] = None):
+        places = [f"{name} {at}" for name, at in (("row", row), ("column", column)) if at is not None]
+        super().__init__(f"{', '.join(places)}: {reason}" if places else reason)
+        self.reason, self.column, self.row = reason, column, row
 
 
 NAMES: Dict[str, Type[PacketError]] = {

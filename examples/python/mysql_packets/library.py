@@ -8,14 +8,14 @@ value, a function of each call. So this file names no field and no number of its
     payload = packets.write("myp_write_close", statement_id)
 """
 import ctypes
-import datetime
+import decimal
 import os
 import re
-import struct
 import sys
 from pathlib import Path
 
-from .errors import NAMES, PacketError
+from .errors import NAMES, InvalidValue, PacketError
+from .values import Packed, Structs, converted
 
 NUMBERS = {
     "uint8_t": ctypes.c_uint8, "uint16_t": ctypes.c_uint16, "uint32_t": ctypes.c_uint32, "uint64_t": ctypes.c_uint64,
@@ -69,6 +69,7 @@ class Library:
             self.calls[name] = [it for it, _ in of]
         if self.dll.myp_version() != self.MYP_VERSION:
             raise ImportError("the library and its header have different versions")
+        self.structs = Structs(self.numbers, self.types["myp_value"])
 
     def __getattr__(self, name):
         try:
@@ -160,53 +161,31 @@ class Library:
             raise self.refusal(call, code)
         return code == self.MYP_OK
 
+    def converted(self, values):
+        """Parameters as they are sent: None, numbers, bytes, dates and spans of time. InvalidValue if one can't be."""
+        sent = []
+        for place, value in enumerate(values):
+            try:
+                it = converted(value)
+            except InvalidValue as error:
+                raise InvalidValue(error.reason, place) from None
+            sent.append(str(it).encode() if isinstance(it, decimal.Decimal) else it)
+        return sent
+
+    def packed(self, values):
+        """Converted values as an array of `myp_value`, which keeps what it points to."""
+        packed = Packed(self.structs, [[it] for it in values])
+        it = (self.types["myp_value"] * packed.count).from_buffer(packed.array)
+        it.held = packed
+        return it
+
     def value(self, value):
-        """A value as a `myp_value`."""
-        if value is None:
-            return self.new("myp_value", kind=self.MYP_NULL)
-        if isinstance(value, int):
-            return self.new("myp_value", kind=self.MYP_INT if value < 2**63 else self.MYP_UINT, number=value & 2**64 - 1)
-        if isinstance(value, float):
-            return self.new("myp_value", kind=self.MYP_DOUBLE, number=int.from_bytes(struct.pack("<d", value), "little"))
-        if isinstance(value, datetime.datetime):
-            return self.new("myp_value", kind=self.MYP_DATE, days=value.year, month=value.month, day=value.day, hour=value.hour,
-                            minute=value.minute, second=value.second, micros=value.microsecond)
-        if isinstance(value, datetime.timedelta):
-            whole = abs(value)
-            minutes, second = divmod(whole.seconds, 60)
-            return self.new("myp_value", kind=self.MYP_TIME, is_negative=int(value < datetime.timedelta()), days=whole.days, hour=minutes // 60,
-                            minute=minutes % 60, second=second, micros=whole.microseconds)
-        return self.new("myp_value", kind=self.MYP_BYTES, bytes=value.encode() if isinstance(value, str) else bytes(value))
+        """A value as a `myp_value`. InvalidValue if it can't be sent."""
+        return self.packed(self.converted([value]))[0]
 
     def content(self, value):
         """What a `myp_value` is in Python. A date that is none is a text."""
-        kind, number = value.kind, value.number
-        if kind == self.MYP_NULL:
-            return None
-        if kind == self.MYP_BYTES:
-            return self.text(value.bytes)
-        if kind == self.MYP_INT:
-            return number - (number >> 63 << 64)
-        if kind == self.MYP_UINT:
-            return number
-        if kind in (self.MYP_FLOAT, self.MYP_DOUBLE):
-            single = kind == self.MYP_FLOAT
-            return struct.unpack("<f" if single else "<d", number.to_bytes(4 if single else 8, "little"))[0]
-        time = value.hour, value.minute, value.second, value.micros
-        if kind == self.MYP_TIME:
-            of = datetime.timedelta(value.days, hours=time[0], minutes=time[1], seconds=time[2], microseconds=time[3])
-            return -of if value.is_negative else of
-        try:
-            return datetime.datetime(value.days, value.month, value.day, *time)
-        except ValueError:
-            return "%04d-%02d-%02d %02d:%02d:%02d.%06d" % (value.days, value.month, value.day, *time)
-
-    def type_of(self, values):
-        """The type under which these values of a column are sent: that of the first which is not None."""
-        first = next((it for it in values if it is not None), None)
-        name = {int: "LONGLONG", float: "DOUBLE", datetime.datetime: "DATETIME", datetime.timedelta: "TIME"}.get(type(first), "VAR_STRING")
-        unsigned = isinstance(first, int) and any(it is not None and it >= 2**63 for it in values)
-        return self.new("myp_column_type", column_type=getattr(self, f"MYP_TYPE_{name}"), is_unsigned=int(unsigned))
+        return self.structs.read(bytes(value))[0]
 
     def write(self, call, *arguments, size=512, after=()):
         """What a writer writes, into a buffer that grows once where it is too small. A struct is handed in as its place, and
@@ -217,7 +196,7 @@ class Library:
                 it = self.bytes(it)
                 flat += [it.data, it.len]
             elif isinstance(it, ctypes.Array):
-                flat += [it, len(it.held)]
+                flat += [it, len(it.held) if isinstance(it.held, list) else len(it)]
             else:
                 flat.append(ctypes.byref(it) if isinstance(it, ctypes.Structure) else it)
         while True:
@@ -228,4 +207,4 @@ class Library:
             size = written.value
         if code:
             raise self.refusal(call, code, written.value)
-        return bytes(out[:written.value])
+        return ctypes.string_at(out, written.value)

@@ -1,9 +1,15 @@
 """What packets say, as tuples with names."""
 import datetime
+import decimal
+import uuid
 from typing import NamedTuple, Optional, Tuple, Union
 
-# A value: None, a byte string, a number, a date with its time of day, or a time. A date that is none, as of the year 0, is a text.
-Value = Union[None, bytes, int, float, datetime.datetime, datetime.timedelta, str]
+# A value: None, a byte string, a number, a date with its time of day, or a span of time. A date that does not exist, as of the year 0, is a text.
+# Those below are only sent: a UUID as its text, a time of day as a span of time since midnight.
+Value = Union[
+    None, bytes, int, float, datetime.datetime, datetime.timedelta, str,
+    bytearray, memoryview, datetime.date, datetime.time, decimal.Decimal, uuid.UUID,
+]
 Row = Tuple[Value, ...]
 
 

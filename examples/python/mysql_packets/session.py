@@ -1,10 +1,11 @@
 """The packets of a connection, by what both sides agreed on."""
 import ctypes
-from typing import Iterator, List, Optional, Sequence, Tuple
+from typing import Iterable, Iterator, List, Optional, Sequence, Tuple
 
 from .errors import InvalidData
 from .library import Library
 from .records import Change, Column, Handshake, OkPacket, Row, ServerError, Statement, Value
+from .rows import BulkRows, RowReader
 
 # the most bytes of a payload that are asked for at once
 LIMIT = 1 << 24
@@ -104,25 +105,17 @@ class Session:
         names = (self._text(span) for span in (it.schema, it.table, it.org_table, it.name, it.org_name))
         return Column(*names, it.character_set, it.column_length, it.column_type, it.flags, it.decimals)
 
+    def row_reader(self, columns: Sequence[Column], is_binary: bool) -> RowReader:
+        """A reader of all rows of a result with these columns, faster than a call of its own for each row."""
+        return RowReader(self.library, columns, is_binary)
+
     def read_text_row(self, payload: bytes, columns: Sequence[Column]) -> Row:
         """The values of a text row: a byte string each, or None."""
-        return self._row("myp_read_text_row", payload, len(columns))
+        return self.row_reader(columns, False).read(payload)
 
     def read_binary_row(self, payload: bytes, columns: Sequence[Column]) -> Row:
         """The values of a binary row, by the types of its columns."""
-        types = self.library.array("myp_column_type", [self._type(it.column_type, it.is_unsigned) for it in columns])
-        return self._row("myp_read_binary_row", payload, len(columns), types, len(columns))
-
-    def _type(self, column_type: int, is_unsigned: bool):
-        return self.library.new("myp_column_type", column_type=column_type, is_unsigned=int(is_unsigned))
-
-    def _row(self, call: str, payload: bytes, count: int, *types) -> Row:
-        p = self.library
-        values, used, held = p.array("myp_value", [p.new("myp_value") for _ in range(count)]), ctypes.c_size_t(), p.bytes(payload)
-        code = getattr(p.dll, call)(held.data, held.len, *types, values, count, ctypes.byref(used))
-        if code:
-            raise p.refusal(call, code)
-        return tuple(p.content(it) for it in values[:count])
+        return self.row_reader(columns, True).read(payload)
 
     # ---- commands
 
@@ -140,9 +133,9 @@ class Session:
     def write_execution(self, statement: Statement, values: Sequence[Value]) -> List[bytes]:
         """The commands of an execution: one, after which the answer comes, and before it the long data that it is too large with."""
         p, long_data = self.library, ctypes.c_uint8()
-        held = p.array("myp_value", [p.value(it) for it in values])
-        request = p.write("myp_write_execution", statement.statement_id, held, after=[long_data])
-        ahead = [it for it in enumerate(values) if long_data.value and isinstance(it[1], (bytes, str))]
+        sent = p.converted(values)
+        request = p.write("myp_write_execution", statement.statement_id, p.packed(sent), after=[long_data])
+        ahead = [(place, it) for place, it in enumerate(sent) if long_data.value and isinstance(it, bytes)]
         return [*(self.write_long_data(statement, place, it) for place, it in ahead), request]
 
     def write_long_data(self, statement: Statement, param: int, content: "bytes | str") -> bytes:
@@ -165,13 +158,9 @@ class Session:
         """The set of such a request."""
         return self.library.write("myp_gtid_dump_to_text", dump, size=64 + 4 * len(dump)).decode()
 
-    def write_bulk(self, statement: Statement, rows: Sequence[Sequence[Value]], limit: int = LIMIT) -> Iterator[bytes]:
-        """The fewest requests of at most `limit` - 4 bytes with all rows, which are of one length. Each is answered by an OK packet."""
-        p, columns = self.library, len(rows[0]) if rows else 0
-        types = p.array("myp_column_type", [p.type_of(column) for column in zip(*rows)])
-        values = p.array("myp_value", [p.value(it) for row in rows for it in row])
-        place, size, left, taken = ctypes.addressof(values), ctypes.sizeof(p.types["myp_value"]), len(rows), ctypes.c_size_t()
-        while left:
-            some = ctypes.cast(place, ctypes.POINTER(p.types["myp_value"]))
-            yield p.write("myp_write_bulk", statement.statement_id, 0, limit, types, some, left * columns, size=limit, after=[taken])
-            place, left = place + taken.value * columns * size, left - taken.value
+    def write_bulk(self, statement: Statement, rows: Iterable[Sequence[Value]], limit: int = LIMIT) -> Iterator[bytes]:
+        """The fewest requests of at most `limit` - 4 bytes with all rows. Each is answered by an OK packet.
+
+        The rows, of one length, are read whole before the first request, since each column has one type. InvalidValue names the row and the
+        column of a value that can't be sent; then nothing is."""
+        return BulkRows(self.library, rows).requests(statement.statement_id, limit)
