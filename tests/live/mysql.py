@@ -73,7 +73,7 @@ class MysqlConnection(Connection):
         """The status flags of an EOF packet."""
         packet = self.receive()
         self.known("eof")
-        return int(self.replies.fields(f"eof {self.flags} {packet.hex()}")["status_flags"])
+        return int(self.replies.fields(f"ok_eof {self.flags} {packet.hex()}")["status_flags"])
 
     def types(self):
         return ",".join(it["column_type"] + "u" * bool(int(it["flags"]) & 32) for it in self.columns)
@@ -92,7 +92,7 @@ class MysqlConnection(Connection):
                 if self.flags & DEPRECATE_EOF:
                     return rows, int(self.ok("ok_end", packet)["status_flags"])
                 self.known("eof")
-                return rows, int(self.replies.fields(f"eof {self.flags} {packet.hex()}")["status_flags"])
+                return rows, int(self.replies.fields(f"ok_eof {self.flags} {packet.hex()}")["status_flags"])
             self.known("binary_row" if binary else "text_row")
             columns = self.types() if binary or self.columns else ",".join(["254"] * self.width)
             words = self.statements.ask(f"{'row' if binary else 'row_text'} {columns} {packet.hex()}")
@@ -117,7 +117,7 @@ class MysqlConnection(Connection):
         self.known("prepare_ok")
         statement = self.statements.fields(f"stmt_metadata {self.flags} {packet.hex()}")
         for count in (int(statement["num_params"]), int(statement["num_columns"])):
-            if count and statement["definitions_follow"] == "yes":
+            if count and statement["metadata"] != "0":
                 for _ in range(count):
                     self.column()
             if count and not self.flags & DEPRECATE_EOF:
@@ -259,7 +259,8 @@ class MysqlSessions:
         it.query("create table if not exists live.tracked (n int)")
         seen = [bytes.fromhex(one.split("=x")[1]) for one in it.changes if one.startswith("gtids=")]
         done = it.texts("select @@global.gtid_executed")[0][0]
-        self.check("GTIDs", seen and seen[0].split(b":")[0] == done.split(b":")[0], (seen, done))
+        # (the last is read as servers send it, after the byte of its encoding)
+        self.check("GTIDs", seen and seen[-1].split(b":")[0] == done.split(b":")[0], (seen, done))
         it.close()
 
     def mysql_dump(self):

@@ -162,7 +162,7 @@ class Connection:
         """The fields of an OK packet, and the words of its changes."""
         self.known("ok_terminator" if kind == "ok_end" else "ok")
         words = self.replies.ask(f"{kind} {self.flags} {packet.hex()}")
-        self.changes = [it for it in words if it.split("=")[0] in ("schema", "name", "value", "is_tracked", "state", "characteristics")]
+        self.changes = [it for it in words if it.split("=")[0] in ("schema", "name", "value", "is_tracked", "state", "characteristics", "gtids")]
         return dict(reversed([it.split("=", 1) for it in words if "=" in it]))
 
     def column(self):
