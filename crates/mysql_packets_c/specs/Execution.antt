@@ -13,7 +13,7 @@ use Rattle.mysql_prepared.specs.declared.execute_head.ComStmtExecuteHead.{ComStm
 use Rattle.mysql_prepared.specs.declared.execute_view.BoundParam.{BoundParam}
 use Rattle.mysql_values.specs.ParamType.{typed}
 use Rattle.mysql_values.specs.ParamValue.{ParamContent, Plain}
-use Rattle.mysql_values.specs.Value.{NULL}
+use Rattle.mysql_values.specs.Value.{Bytes, NULL}
 use Rattle.mysql_values.specs.declared.param_type.ParamType.{ParamType}
 use Rattle.mysql_wire.specs.ColumnType.{column_type_code, column_type_of}
 use Rattle.mysql_wire.specs.FlagMasks.{UNSIGNED}
