@@ -49,9 +49,10 @@ class Executions(Watcher):
         _, sends_types, params, _ = record
         if params and not sends_types and number not in self.is_bound:
             return ["unbound"]
-        again = written.execution(payload[:len(payload) - len(buf.data)], self.params[number], self.session.flags)
+        sent = payload[:len(payload) - len(buf.data)]
+        again = written.execution(sent, self.params[number], self.session.flags)
         words = [f"param:{kind}={'ahead' if is_sent_ahead else shown(value)}" for kind, _, _, is_sent_ahead, value in params]
-        return [*words, "written=same" if again == payload else f"written={again.hex()}"]
+        return [*words, "written=same" if again == sent else f"written={again.hex()}"]
 
     def binary_row(self, payload):
         columns, buf = self.columns or self.statements.get(self.runs, []), Buf(payload)

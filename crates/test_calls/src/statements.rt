@@ -78,11 +78,10 @@ fn show_params<'s>(
     write_again(out, agreed, &head, as_sent, payload)
 }
 
-/// Reads the parameters and the attributes of an execution as they were sent.
-fn read_as_sent<'s, 'a>(
+/// Reads the parameters of an execution as they were sent.
+fn read_params<'s, 'a>(
     out: &mut Out,
     view: &mut ExecuteParamsView<'a, '_>,
-    attributes: &mut Vec<TypedExecuteParam<'a>>,
 ) -> Result<Vec<TypedExecuteParam<'a>>, FaultOf<'s>> {
     let mut params = Vec::new(out.alloc());
     for _ in 0..view.left() {
@@ -90,17 +89,27 @@ fn read_as_sent<'s, 'a>(
             push(out, &mut params, param);
         }
     }
-    if let Some(mut left) = view.attributes() {
-        for _ in 0..left.left() {
-            if let Some(attribute) = left.next_as_sent()? {
-                push(out, attributes, attribute);
-            }
-        }
-    }
     Ok(params)
 }
 
-/// Writes an execution again as it was sent, and adds whether it is the same.
+/// Reads its attributes as they were sent, and what is left after them.
+fn read_attributes<'s, 'a>(
+    out: &mut Out,
+    view: &ExecuteParamsView<'a, '_>,
+    attributes: &mut Vec<TypedExecuteParam<'a>>,
+) -> Result<usize, FaultOf<'s>> {
+    let Some(mut left) = view.attributes() else {
+        return Ok(view.rest().len());
+    };
+    for _ in 0..left.left() {
+        if let Some(attribute) = left.next_as_sent()? {
+            push(out, attributes, attribute);
+        }
+    }
+    Ok(left.rest().len())
+}
+
+/// Writes an execution again as it was sent, and adds whether the bytes are those that it was read from.
 fn write_again<'s>(
     out: &mut Out,
     agreed: SessionCapabilities,
@@ -111,7 +120,9 @@ fn write_again<'s>(
     let mut view = view;
     let mut attributes = Vec::new(out.alloc());
     let sends_types = view.sends_types();
-    let params = read_as_sent(out, &mut view, &mut attributes)?;
+    let params = read_params(out, &mut view)?;
+    let left = read_attributes(out, &view, &mut attributes)?;
+    let sent = payload.get(..payload.len().saturating_sub(left));
     let has_attributes = agreed
         .mysql
         .contains(CapabilityFlags::CLIENT_QUERY_ATTRIBUTES);
@@ -126,7 +137,7 @@ fn write_again<'s>(
     };
     let mut written = Vec::new(out.alloc());
     match builder.write_ref(&params, &mut written) {
-        Ok(_as_long_data) if written.as_slice() == payload => out.field("written", "same"),
+        Ok(_as_long_data) if Some(written.as_slice()) == sent => out.field("written", "same"),
         Ok(_as_long_data) => {
             out.word("written=");
             show(out, &written);
