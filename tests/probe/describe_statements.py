@@ -38,7 +38,7 @@ def describe_execution(record):
 
 def execution(bound, capabilities):
     read = by("ComStmtExecute", describe_execution, bound_of(bound), capabilities)
-    read.written = lambda record: written.execution(record, capabilities)
+    read.written = lambda content: written.execution(content, bound_of(bound), capabilities)
     return read
 
 

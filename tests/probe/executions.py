@@ -42,15 +42,17 @@ class Executions(Watcher):
         if number not in self.params:
             return ["statement=unknown"]
         try:
-            record = statements.stmt_execute(Buf(payload), self.params[number], self.session.flags)
+            buf = Buf(payload)
+            record = statements.stmt_execute(buf, self.params[number], self.session.flags)
         except (Eof, Invalid):
             return ["fault"]
         _, sends_types, params, _ = record
         if params and not sends_types and number not in self.is_bound:
             return ["unbound"]
-        again = written.execution(record, self.session.flags)
+        sent = payload[:len(payload) - len(buf.data)]
+        again = written.execution(sent, self.params[number], self.session.flags)
         words = [f"param:{kind}={'ahead' if is_sent_ahead else shown(value)}" for kind, _, _, is_sent_ahead, value in params]
-        return [*words, "written=same" if again == payload else f"written={again.hex()}"]
+        return [*words, "written=same" if again == sent else f"written={again.hex()}"]
 
     def binary_row(self, payload):
         columns, buf = self.columns or self.statements.get(self.runs, []), Buf(payload)

@@ -119,7 +119,7 @@ def wrong(describer_, content, answer):
     if "written" not in answered:
         return ""
     if hasattr(describer_, "written"):
-        written = describer_.written(right.words.record)
+        written = describer_.written(content[:len(content) - right.left])
         is_same = content.startswith(written)
         return "" if answered["written"] == ("same" if is_same else x(written)) else f"the reference decoder writes {x(written)}"
     taken = len(content) - right.left

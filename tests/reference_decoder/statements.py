@@ -40,17 +40,18 @@ def stmt_execute_head(buf):
 QUERY_ATTRIBUTES, PARAMETER_COUNT_AVAILABLE = 1 << 27, 8
 
 
-def stmt_execute(buf, bound, capabilities=0):
-    """An execution of parameters of which these are the type, its flags, and whether it was sent ahead: the parameters, and the attributes after
-    them, as `parse_com_stmt_execute` and `parse_query_bind_params` in sql/protocol_classic.cc read them."""
+def execution_front(buf, bound, capabilities):
+    """What stands before the values of an execution: its head, whether it has a count, how many parameters and attributes there are, the bits of
+    those that are NULL, whether it sends types, and the types that are in force."""
     head = stmt_execute_head(buf)
     has_names, count = bool(capabilities & QUERY_ATTRIBUTES), len(bound)
-    if has_names and (bound or head[1] & PARAMETER_COUNT_AVAILABLE):
+    has_count = has_names and (bound or head[1] & PARAMETER_COUNT_AVAILABLE)
+    if has_count:
         count = buf.lenenc()
         if count < len(bound):
             raise Invalid
     if not count:
-        return head, False, [], []
+        return head, has_count, 0, 0, False, []
     bits = int.from_bytes(buf.take((count + 7) // 8), "little")
     sends_types = buf.number(1) != 0
     if sends_types:
@@ -59,6 +60,15 @@ def stmt_execute(buf, bound, capabilities=0):
         raise Invalid
     else:
         types = [(kind, flags, b"") for kind, flags, _ in bound]
+    return head, has_count, count, bits, sends_types, types
+
+
+def stmt_execute(buf, bound, capabilities=0):
+    """An execution of parameters of which these are the type, its flags, and whether it was sent ahead: the parameters, and the attributes after
+    them, as `parse_com_stmt_execute` and `parse_query_bind_params` in sql/protocol_classic.cc read them."""
+    head, _, count, bits, sends_types, types = execution_front(buf, bound, capabilities)
+    if not count:
+        return head, False, [], []
     ahead = [is_sent_ahead for _, _, is_sent_ahead in bound] + [False] * (count - len(bound))
     read = []
     for i, ((kind, flags, name), is_sent_ahead) in enumerate(zip(types, ahead)):

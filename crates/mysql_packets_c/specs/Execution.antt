@@ -5,7 +5,7 @@ use Rattle.std.specs.Prelude.{◌≡◌, ℕ, ◌-◌, ◌==◌, ◌++◌, Bool,
 use Rattle.mysql_prepared.specs.Attributes.{Attribute}
 use Rattle.mysql_prepared.specs.BindFront.{BindFront}
 use Rattle.mysql_prepared.specs.ExecuteHead as head
-use Rattle.mysql_prepared.specs.ExecuteParam.{Param, Sent, SentAhead}
+use Rattle.mysql_prepared.specs.ExecuteParam.{Param, Sent, SentAhead, AsSent}
 use Rattle.mysql_prepared.specs.ExecuteRead.{ParamsBytes, ParamsLeft, TypedParam, execution, execution_front, left_of}
 use Rattle.mysql_prepared.specs.SentParam.{type_of_param}
 use Rattle.mysql_prepared.specs.SentTypes.{NamedType}
@@ -13,7 +13,7 @@ use Rattle.mysql_prepared.specs.declared.execute_head.ComStmtExecuteHead.{ComStm
 use Rattle.mysql_prepared.specs.declared.execute_view.BoundParam.{BoundParam}
 use Rattle.mysql_values.specs.ParamType.{typed}
 use Rattle.mysql_values.specs.ParamValue.{ParamContent, Plain}
-use Rattle.mysql_values.specs.Value.{NULL}
+use Rattle.mysql_values.specs.Value.{Bytes, NULL}
 use Rattle.mysql_values.specs.declared.param_type.ParamType.{ParamType}
 use Rattle.mysql_wire.specs.ColumnType.{column_type_code, column_type_of}
 use Rattle.mysql_wire.specs.FlagMasks.{UNSIGNED}
@@ -59,10 +59,11 @@ last_left sent params = left_of sent (bound_list (drop (length params - sent.lef
 
 -- ---- what is answered
 
--- what was sent ahead is answered as NULL
+-- what was sent ahead is answered as NULL, and bytes as they were sent, which this library reads no parameter as, as a byte string
 abbrev pub content_of : Param → ParamContent
 content_of (Sent content) = content
 content_of SentAhead = Plain NULL
+content_of (AsSent has_null_bit bytes) = Plain (Bytes bytes)
 
 abbrev pub type_held : ParamType → CColumnType
 type_held t = record { column_type = column_type_code t.column_type; is_unsigned = if has t.flags.0 UNSIGNED then 1 else 0 }

@@ -103,6 +103,7 @@ pub(crate) fn put_param<'a>(place: &mut CValue<'a>, param: ExecuteParam<'a>)
         ExecuteParam::Value(value) => put_ref(place, value),
         ExecuteParam::DateTimeWithOffset(date) => put_date_with_offset(place, date),
         ExecuteParam::SentAhead => put_ref(place, ValueRef::NULL),
+        ExecuteParam::AsSent { bytes, .. } => put_ref(place, ValueRef::Bytes(bytes)),
     }
 }
 

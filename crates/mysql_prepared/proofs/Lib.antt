@@ -21,6 +21,7 @@ pub mod TextRowAgain
 pub mod RowBytes
 pub mod BinaryRowAgain
 pub mod SentTypes
+pub mod ReadBytes
 pub mod AttributeViews
 pub mod ParamViews
 pub mod PlainOptions

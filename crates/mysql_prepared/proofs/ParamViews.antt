@@ -1,11 +1,12 @@
 -- An execution that is read parameter by parameter: one parameter, and what is read after it.
-use Rattle.std.proofs.Common.{◌≡◌, ◌≢◌, ◌∙◌, sym, ap, subst, suc, zero, ℕ, ◌+◌, ◌-◌, ◌≤◌, ◌==◌, ◌↔◌, List, [], ◌∷◌, Result, Ok, Err, Bool, true, false, IsTrue, length, drop, refl, arith, zero-add}
+use Rattle.std.proofs.Common.{◌≡◌, ◌≢◌, ◌∙◌, sym, ap, subst, suc, zero, ℕ, ◌+◌, ◌-◌, ◌≤◌, ◌==◌, ◌↔◌, List, [], ◌∷◌, Result, Ok, Err, Bool, true, false, IsTrue, length, drop, replicate, refl, arith, zero-add}
+use Rattle.std.proofs.lemmas.List.{length-replicate}
 use Rattle.std.specs.List.{All}
 use Rattle.mysql_wire.specs.Flags.{CapabilityFlags}
 use Rattle.mysql_wire.specs.declared.fault.FaultOf.{FaultOf}
 use Rattle.mysql_wire.specs.declared.fault.FaultOf.TheVariants as fault
 use Rattle.mysql_wire.specs.declared.fault.FaultKind.{FaultKind}
-use Rattle.mysql_wire.specs.Reading.{Reading, Faults, then_read}
+use Rattle.mysql_wire.specs.Reading.{Reading, Faults, IsTail, then_read}
 use Rattle.mysql_wire.specs.Each.{each}
 use Rattle.mysql_values.specs.declared.param_type.ParamType.{ParamType}
 use Rattle.mysql_prepared.specs.Attributes.{attributes_left}
@@ -13,7 +14,7 @@ use Rattle.mysql_prepared.specs.BindFront.{AreSent, BindFront}
 use Rattle.mysql_prepared.specs.Bitmap.{cell}
 use Rattle.mysql_prepared.specs.ExecuteBytes.{IsBound, Suffice}
 use Rattle.mysql_prepared.specs.ExecuteParam.{Param}
-use Rattle.mysql_prepared.specs.ExecuteRead.{BoundType, Gives, HasFrontOf, ParamsLeft, RefusesParam, Several, TakesInForce, TypedParam, bytes_after, execution, execution_front, execution_of, in_force, left_of, param_form, params_in, params_left, params_of, params_to, then_params, typed_param}
+use Rattle.mysql_prepared.specs.ExecuteRead.{BoundType, Gives, HasFrontOf, ParamsBytes, ParamsLeft, RefusesParam, Several, TakesInForce, TypedParam, bytes_after, execution, execution_front, execution_of, in_force, left_of, param_form, params_in, params_left, params_of, params_to, then_params, typed_param}
 use Rattle.mysql_prepared.specs.SentTypes.{NamedType}
 use Rattle.mysql_prepared.specs.declared.execute_view.BoundParam.{BoundParam}
 use Rattle.mysql_prepared.proofs.NullBits.{is-one}
@@ -218,3 +219,27 @@ pub read-counted : (c : CapabilityFlags) (flags : ℕ) (params : List BoundParam
 read-counted c flags params bytes count len f after =
     let P : ℕ → Type 0 = λ n. (execution_front c flags n).reads bytes ≡ Ok (f, after) → execution_of (left_of (bytes_after n f after) params) ≡ (execution c flags params).reads bytes in
     subst P len (read-all c flags params bytes f after)
+
+-- ---- as it was sent
+
+first-of : (nulls : List ℕ) (place : ℕ) (p : BoundType) (ps : List BoundType) (bytes : List ℕ) (read : Reading TypedParam) (after : List ℕ) (tails : List (List ℕ)) → (typed_param nulls place p).reads bytes ≡ read
+    → (then_params read (params_in nulls (place + 1) ps)).tails ≡ after ∷ tails → IsTail after bytes
+first-of nulls place p ps bytes (Ok x) after tails e h =
+    let here : x.1 ≡ after = cc in
+    subst (λ (l : List ℕ). IsTail l bytes) here ((typed_param nulls place p).front x.0 bytes x.1 e)
+first-of nulls place p ps bytes (Err k) after tails e h = absurd cc
+
+-- the bytes after the first parameter are a tail of all
+tail-first : (nulls : List ℕ) (place : ℕ) (ps : List BoundType) (bytes after : List ℕ) (tails : List (List ℕ)) → (params_in nulls place ps bytes).tails ≡ after ∷ tails → IsTail after bytes
+unfolding params_in
+tail-first nulls place [] bytes after tails h = absurd cc
+tail-first nulls place (p ∷ ps) bytes after tails h = first-of nulls place p ps bytes ((typed_param nulls place p).reads bytes) after tails refl h
+
+pub tail-given : (old new : ParamsBytes) (bound : BoundParam) (others : List BoundParam) (x : TypedParam) → Gives (left_of old (bound ∷ others)) x (left_of new others) → IsTail new.values old.values
+tail-given old new bound others x g =
+    tail-first old.nulls old.place (in_force old.sends_types (bound ∷ others) old.types) old.values new.values (left_of new others).tails g.tails
+
+-- so many others
+pub others-of : (bound : BoundParam) (left : ℕ) → left ≢ 0 → (others : List BoundParam) × (length (bound ∷ others) ≡ left)
+others-of bound zero some = absurd (some refl)
+others-of bound (suc n) some = (replicate n bound, ap suc (length-replicate n bound))

@@ -11,7 +11,9 @@ use Rattle.mysql_values.specs.declared.value_kind.ValueKind.{ValueKind}
 use Rattle.mysql_values.specs.declared.value_kind.ValueKind.TheVariants as kind
 use Rattle.mysql_values.specs.Value.{Content, Int}
 use Rattle.mysql_values.specs.ValueKind.{kind_of}
-use Rattle.mysql_prepared.specs.BinaryRow.{integer_size, bin_in, takes, takes_row, values_bytes}
+use Rattle.mysql_prepared.specs.BinaryRow.{integer_size, bin_in, takes, takes_param, takes_row, takes_values, values_bytes}
+use Rattle.mysql_prepared.specs.ExecuteParam.{Param, Sent, SentAhead, AsSent, contents, value_of}
+use Rattle.mysql_values.specs.ParamValue.{Plain, WithOffset}
 
 -- ---- integers
 
@@ -33,7 +35,7 @@ pub ruleset row_bytes = (low_bytes, length-le_bytes, integer-small)
 
 -- ---- what is left of a row
 
-module _ {C V : Type 0} (type_of : C → ColumnType) (unsigned : C → Bool) (held : V → Content) (columns : List C) (values : List V) (i : ℕ) (column : C) (value : V)
+module _ {C V : Type 0} (columns : List C) (values : List V) (i : ℕ) (column : C) (value : V)
     (same : length columns ≡ length values) (within : i < length values) (c_is : column ≡ get_or columns i column) (v_is : value ≡ get_or values i value) where
   columns-left : drop i columns ≡ column ∷ drop (i + 1) columns
   columns-left = drop_more columns i column (omega (arith, same, within)) ∙ ap (λ (c : C). c ∷ drop (i + 1) columns) (sym c_is)
@@ -41,32 +43,60 @@ module _ {C V : Type 0} (type_of : C → ColumnType) (unsigned : C → Bool) (he
   values-left : drop i values ≡ value ∷ drop (i + 1) values
   values-left = drop_more values i value within ∙ ap (λ (v : V). v ∷ drop (i + 1) values) (sym v_is)
 
+module _ {C V : Type 0} (type_of : C → ColumnType) (unsigned : C → Bool) (held : V → Content) (columns : List C) (values : List V) (i : ℕ) (column : C) (value : V)
+    (same : length columns ≡ length values) (within : i < length values) (c_is : column ≡ get_or columns i column) (v_is : value ≡ get_or values i value) where
   pub bytes-next : values_bytes type_of unsigned (drop i columns) (map held (drop i values)) ≡ bin_in (type_of column) (held value) ++ values_bytes type_of unsigned (drop (i + 1) columns) (map held (drop (i + 1) values))
-  bytes-next = rw (columns-left, values-left) refl
+  bytes-next =
+      let cs = columns-left columns values i column value same within c_is v_is in
+      let vs = values-left columns values i column value same within c_is v_is in
+      rw (cs, vs) refl
 
   pub length-next : length (values_bytes type_of unsigned (drop i columns) (map held (drop i values))) ≡ length (bin_in (type_of column) (held value)) + length (values_bytes type_of unsigned (drop (i + 1) columns) (map held (drop (i + 1) values)))
   length-next = ap length bytes-next ∙ length-append (bin_in (type_of column) (held value)) (values_bytes type_of unsigned (drop (i + 1) columns) (map held (drop (i + 1) values)))
 
-  pub taken-next : takes_row type_of unsigned (drop i columns) (map held (drop i values)) ≡ (takes (type_of column) (unsigned column) (held value) && takes_row type_of unsigned (drop (i + 1) columns) (map held (drop (i + 1) values)))
-  taken-next = rw (columns-left, values-left) refl
+module _ {C V : Type 0} (type_of : C → ColumnType) (unsigned : C → Bool) (param : V → Param) (columns : List C) (values : List V) (i : ℕ) (column : C) (value : V)
+    (same : length columns ≡ length values) (within : i < length values) (c_is : column ≡ get_or columns i column) (v_is : value ≡ get_or values i value) where
+  pub taken-next : takes_values type_of unsigned param (drop i columns) (drop i values) ≡ (takes_param (type_of column) (unsigned column) (param value) && takes_values type_of unsigned param (drop (i + 1) columns) (drop (i + 1) values))
+  taken-next =
+      let cs = columns-left columns values i column value same within c_is v_is in
+      let vs = values-left columns values i column value same within c_is v_is in
+      rw (cs, vs) refl
 
 both_parts : (a b : Bool) → IsTrue (a && b) → IsTrue a × IsTrue b
 both_parts true b h = (refl, h)
 both_parts false b h = let f : IsTrue false = h in absurd cc
 
 -- one more column takes its value
-pub taken_more : {C : Type 0} (type_of : C → ColumnType) (unsigned : C → Bool) (columns : List C) (values : List Content) (i : ℕ) (column : C) (value : Content) → slice_get columns i ≡ Some column
-    → slice_get values i ≡ Some value → IsTrue (takes (type_of column) (unsigned column) value) → IsTrue (takes_row type_of unsigned (take i columns) (take i values))
-    → IsTrue (takes_row type_of unsigned (take (suc i) columns) (take (suc i) values))
-taken_more type_of unsigned [] values i column value a b one before = absurd cc
-taken_more type_of unsigned (c ∷ cs) [] i column value a b one before = absurd cc
-taken_more type_of unsigned (c ∷ cs) (v ∷ vs) zero column value a b one before =
-    let s : c ≡ column = cc in
-    let t : v ≡ value = cc in
-    rw (s, t, one) refl
-taken_more type_of unsigned (c ∷ cs) (v ∷ vs) (suc i) column value a b one before =
-    let both = both_parts (takes (type_of c) (unsigned c) v) (takes_row type_of unsigned (take i cs) (take i vs)) before in
-    rw (both.0) (taken_more type_of unsigned cs vs i column value a b one both.1)
+module _ {C V : Type 0} (type_of : C → ColumnType) (unsigned : C → Bool) (param : V → Param) where
+  pub taken_more : (columns : List C) (values : List V) (i : ℕ) (column : C) (value : V) → slice_get columns i ≡ Some column
+      → slice_get values i ≡ Some value → IsTrue (takes_param (type_of column) (unsigned column) (param value)) → IsTrue (takes_values type_of unsigned param (take i columns) (take i values))
+      → IsTrue (takes_values type_of unsigned param (take (suc i) columns) (take (suc i) values))
+  taken_more [] values i column value a b one before = absurd cc
+  taken_more (c ∷ cs) [] i column value a b one before = absurd cc
+  taken_more (c ∷ cs) (v ∷ vs) zero column value a b one before =
+      let s : c ≡ column = cc in
+      let t : v ≡ value = cc in
+      rw (s, t, one) refl
+  taken_more (c ∷ cs) (v ∷ vs) (suc i) column value a b one before =
+      let both = both_parts (takes_param (type_of c) (unsigned c) (param v)) (takes_values type_of unsigned param (take i cs) (take i vs)) before in
+      rw (both.0) (taken_more cs vs i column value a b one both.1)
+
+-- a column that takes a parameter takes its value
+taken-value : (t : ColumnType) (u : Bool) (p : Param) → IsTrue (takes_param t u p) → IsTrue (takes t u (value_of p))
+taken-value t u (Sent (Plain value)) h = h
+taken-value t u (Sent (WithOffset date)) h = let f : IsTrue false = h in absurd cc
+taken-value t u SentAhead h = h
+taken-value t u (AsSent has_null_bit bytes) h = let f : IsTrue false = h in absurd cc
+
+-- the same of all columns of a row
+pub taken-contents : {C V : Type 0} (type_of : C → ColumnType) (unsigned : C → Bool) (param : V → Param) (columns : List C) (values : List V) → IsTrue (takes_values type_of unsigned param columns values)
+    → IsTrue (takes_row type_of unsigned columns (contents param values))
+taken-contents type_of unsigned param [] [] h = h
+taken-contents type_of unsigned param [] (v ∷ vs) h = h
+taken-contents type_of unsigned param (c ∷ cs) [] h = h
+taken-contents type_of unsigned param (c ∷ cs) (v ∷ vs) h =
+    let both = both_parts (takes_param (type_of c) (unsigned c) (param v)) (takes_values type_of unsigned param cs vs) h in
+    rw (taken-value (type_of c) (unsigned c) (param v) both.0) (taken-contents type_of unsigned param cs vs both.1)
 
 module _ {C V : Type 0} (type_of : C → ColumnType) (unsigned : C → Bool) (held : V → Content) where
   -- nothing is left of a row past its end
@@ -78,16 +108,11 @@ module _ {C V : Type 0} (type_of : C → ColumnType) (unsigned : C → Bool) (he
   bytes-end (c ∷ cs) (v ∷ vs) zero same past = absurd (omega (arith, past))
   bytes-end (c ∷ cs) (v ∷ vs) (suc i) same past = bytes-end cs vs i (omega (arith, same)) (omega (arith, past))
 
-  pub taken-end : (columns : List C) (values : List V) (i : ℕ) → length columns ≡ length values → length values ≤ i → takes_row type_of unsigned (drop i columns) (map held (drop i values)) ≡ true
+module _ {C V : Type 0} (type_of : C → ColumnType) (unsigned : C → Bool) (param : V → Param) where
+  pub taken-end : (columns : List C) (values : List V) (i : ℕ) → length columns ≡ length values → length values ≤ i → takes_values type_of unsigned param (drop i columns) (drop i values) ≡ true
   taken-end [] [] zero same past = refl
   taken-end [] [] (suc i) same past = refl
   taken-end [] (v ∷ vs) i same past = absurd (omega (arith, same))
   taken-end (c ∷ cs) [] i same past = absurd (omega (arith, same))
   taken-end (c ∷ cs) (v ∷ vs) zero same past = absurd (omega (arith, past))
   taken-end (c ∷ cs) (v ∷ vs) (suc i) same past = taken-end cs vs i (omega (arith, same)) (omega (arith, past))
-
--- what the value at a place holds
-pub held-at : {V : Type 0} (held : V → Content) (values : List V) (i : ℕ) (value : V) → slice_get values i ≡ Some value → slice_get (map held values) i ≡ Some (held value)
-held-at held [] i value e = absurd cc
-held-at held (v ∷ vs) zero value e = let s : v ≡ value = cc in ap (λ x. Some (held x)) s
-held-at held (v ∷ vs) (suc i) value e = held-at held vs i value e

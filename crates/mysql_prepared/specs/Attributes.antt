@@ -2,7 +2,7 @@
 use Rattle.std.specs.Prelude.{◌≡◌, ℕ, suc, ◌+◌, ◌*◌, ◌<◌, ◌≤◌, ◌^◌, ◌==◌, Bool, false, List, [], ◌∷◌, length, Option, Some, None, Result, Ok, Err}
 use Rattle.mysql_wire.specs.Each.{each}
 use Rattle.mysql_wire.specs.Form.{Form, give, either, map}
-use Rattle.mysql_wire.specs.Reading.{Reading, Faults, then_read}
+use Rattle.mysql_wire.specs.Reading.{Reading, Faults, IsTail, then_read}
 use Rattle.mysql_wire.specs.declared.fault.FaultOf.{FaultOf}
 use Rattle.mysql_values.specs.ParamValue.{ParamContent, Plain, param_content, param_value}
 use Rattle.mysql_values.specs.Value.{NULL}
@@ -38,15 +38,19 @@ values nulls place types = each (attribute nulls) place types
 abbrev pub more : Attribute → Reading (List Attribute) → Reading (List Attribute)
 more a later = then_read later (λ xs rest. Ok (a ∷ xs, rest))
 
--- what is left: how many, what reading all of them gives, and the bytes after what was read
+-- what is left: how many, what reading all of them gives, the bytes after what was read, the bitmap of NULLs, and the place of the
+-- next one in it
 pub record AttributesLeft : Type 0 where
   pub left : ℕ
   pub all : Reading (List Attribute)
   pub rest : List ℕ
+  pub nulls : List ℕ
+  pub place : ℕ
 
 -- those of these types, whose values stand in these bytes
 abbrev pub attributes_left : (nulls : List ℕ) → ℕ → List NamedType → List ℕ → AttributesLeft
-attributes_left nulls place types bytes = record { left = length types; all = (values nulls place types).reads bytes; rest = bytes }
+attributes_left nulls place types bytes =
+    record { left = length types; all = (values nulls place types).reads bytes; rest = bytes; nulls = nulls; place = place }
 
 -- the bitmap has a bit for each of so many, and they are as many as a machine counts
 pub record HasMarks (nulls : List ℕ) (place left : ℕ) : Type 0 where
@@ -58,6 +62,17 @@ abbrev pub NextAttribute : AttributesLeft → Result (Option QueryAttribute) Fau
 NextAttribute old (Ok (Some a)) new = (old.left ≡ suc new.left) × (old.all ≡ more (attribute_of a) new.all)
 NextAttribute old (Ok None) new = (old.left ≡ 0) × (new ≡ old)
 NextAttribute old (Err e) new = Faults false e old.all × (new ≡ old)
+
+-- one of them was read: the next place in the same bitmap, and bytes off the front
+pub record IsPast (old new : AttributesLeft) : Type 0 where
+  pub nulls : new.nulls ≡ old.nulls
+  pub place : new.place ≡ suc old.place
+  pub rest : IsTail new.rest old.rest
+
+-- an attribute that was read
+abbrev pub MovesPast : AttributesLeft → Result (Option QueryAttribute) FaultOf → AttributesLeft → Type 0
+MovesPast old (Ok (Some a)) new = IsPast old new
+MovesPast old _ new = new ≡ old
 
 -- the attributes that were read
 abbrev pub attributes_read : Reading (List Attribute) → List Attribute

@@ -3,11 +3,13 @@ use Rattle.std.specs.Prelude.{◌≡◌, ◌≢◌, ℕ, ℤ, pos, negsuc, ◌+�
 use Rattle.std.specs.Int.{w64, cast_unsigned}
 use Rattle.mysql_wire.specs.declared.codes.column_type.ColumnType.{ColumnType}
 use Rattle.mysql_wire.specs.Writing.{le_bytes}
+use Rattle.mysql_values.specs.ParamValue.{Plain, WithOffset}
 use Rattle.mysql_values.specs.Value.{Content, Int, UInt, bin}
 use Rattle.mysql_values.specs.declared.value_kind.ValueKind.{ValueKind}
 use Rattle.mysql_values.specs.declared.value_kind.ValueKind.TheVariants as kind
 use Rattle.mysql_values.specs.ValueKind.{kind_of, is_longlong, suits}
 use Rattle.mysql_prepared.specs.Bitmap.{bytes_for}
+use Rattle.mysql_prepared.specs.ExecuteParam.{Param, Sent, SentAhead, AsSent, value_of}
 use Rattle.mysql_prepared.specs.NullMarks.{MarksNulls}
 use Rattle.mysql_prepared.specs.declared.binary_row.BinaryRowError.{BinaryRowError}
 use Rattle.mysql_prepared.specs.declared.binary_row.BinaryRowError.TheVariants as error
@@ -33,6 +35,13 @@ abbrev pub takes : ColumnType → (is_unsigned : Bool) → Content → Bool
 takes t u (Int n) = takes_integer (kind_of t) u n
 takes t u (UInt n) = is_longlong (kind_of t) && u
 takes t u value = suits (kind_of t) value
+
+-- the same of what is a parameter too: a row has no place for an offset, nor for what was read of an execution
+abbrev pub takes_param : ColumnType → (is_unsigned : Bool) → Param → Bool
+takes_param t u (Sent (Plain value)) = takes t u value
+takes_param t u (Sent (WithOffset date)) = false
+takes_param t u SentAhead = takes t u (value_of SentAhead)
+takes_param t u (AsSent has_null_bit bytes) = false
 
 -- ---- the bytes
 
@@ -74,18 +83,26 @@ module _ {C : Type 0} (type_of : C → ColumnType) (unsigned : C → Bool) where
   abbrev pub AppendsRow : List C → List Content → (old new : List ℕ) → Type 0
   AppendsRow columns values old new = (bytes : List ℕ) × IsRowBytes columns values bytes × (new ≡ old ++ bytes)
 
-  -- ---- refusals
+-- ---- refusals
+
+module _ {C V : Type 0} (type_of : C → ColumnType) (unsigned : C → Bool) (param : V → Param) where
+  -- there is a value for each column, which takes it
+  abbrev pub takes_values : List C → List V → Bool
+  takes_values [] [] = true
+  takes_values [] (v ∷ vs) = false
+  takes_values (c ∷ cs) [] = false
+  takes_values (c ∷ cs) (v ∷ vs) = takes_param (type_of c) (unsigned c) (param v) && takes_values cs vs
 
   -- the column at the place does not take the value there
-  abbrev pub IsRefusedAt : List C → List Content → ℕ → Type 0
-  IsRefusedAt columns values place = (c : C) × (v : Content) × (slice_get columns place ≡ Some c) × (slice_get values place ≡ Some v) × IsFalse (takes (type_of c) (unsigned c) v)
+  abbrev pub IsRefusedAt : List C → List V → ℕ → Type 0
+  IsRefusedAt columns values place = (c : C) × (v : V) × (slice_get columns place ≡ Some c) × (slice_get values place ≡ Some v) × IsFalse (takes_param (type_of c) (unsigned c) (param v))
 
   -- it is the first such place
-  pub record IsFirstRefused (columns : List C) (values : List Content) (place : ℕ) : Type 0 where
+  pub record IsFirstRefused (columns : List C) (values : List V) (place : ℕ) : Type 0 where
     pub refused : IsRefusedAt columns values place
-    pub before : IsTrue (takes_row (take place columns) (take place values))
+    pub before : IsTrue (takes_values (take place columns) (take place values))
 
-  abbrev pub RefusesRow : List C → List Content → BinaryRowError → Type 0
+  abbrev pub RefusesRow : List C → List V → BinaryRowError → Type 0
   RefusesRow columns values error.Count = length columns ≢ length values
   RefusesRow columns values (error.Value place) = (length columns ≡ length values) × IsFirstRefused columns values place
-  RefusesRow columns values error.Memory = IsTrue (takes_row columns values)
+  RefusesRow columns values error.Memory = IsTrue (takes_values columns values)

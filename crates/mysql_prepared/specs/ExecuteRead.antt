@@ -1,5 +1,5 @@
 -- The parameters and the attributes of an execution, as a server reads them.
-use Rattle.std.specs.Prelude.{◌≡◌, ℕ, suc, ◌+◌, ◌≤◌, ◌==◌, Bool, true, false, ◌&&◌, ◌||◌, not, nat_lt, List, [], ◌∷◌, length, drop, Option, Some, None, Result, Ok, Err, if◌then◌else◌}
+use Rattle.std.specs.Prelude.{◌≡◌, ℕ, suc, ◌+◌, ◌≤◌, ◌==◌, Bool, true, false, ◌&&◌, ◌||◌, ◌-◌, not, nat_lt, List, [], ◌∷◌, ◌++◌, length, drop, Option, Some, None, Result, Ok, Err, if◌then◌else◌}
 use Rattle.mysql_wire.specs.declared.fault.FaultOf.{FaultOf}
 use Rattle.mysql_wire.specs.declared.fault.FaultKind.{FaultKind}
 use Rattle.mysql_wire.specs.FlagMasks.{CLIENT_QUERY_ATTRIBUTES, PARAMETER_COUNT_AVAILABLE}
@@ -8,11 +8,12 @@ use Rattle.mysql_wire.specs.Reading.{Reading, Faults, then_read}
 use Rattle.mysql_wire.specs.Form.{Form, ◌>>=◌, decode, give, either, map}
 use Rattle.mysql_wire.specs.Each.{each}
 use Rattle.mysql_wire.specs.LenEnc.{lenenc}
+use Rattle.mysql_values.specs.ParamValue.{ParamContent}
 use Rattle.mysql_values.specs.declared.param_type.ParamType.{ParamType}
-use Rattle.mysql_prepared.specs.Attributes.{Attribute, AttributesLeft, attributes_left, value_of, values}
+use Rattle.mysql_prepared.specs.Attributes.{Attribute, AttributesLeft, IsPast, attributes_left, more, value_of, values}
 use Rattle.mysql_prepared.specs.BindFront.{BindFront, HasFront, bind_front}
 use Rattle.mysql_prepared.specs.Bitmap.{cell}
-use Rattle.mysql_prepared.specs.ExecuteParam.{Param, Sent, SentAhead, param_of}
+use Rattle.mysql_prepared.specs.ExecuteParam.{Param, Sent, SentAhead, AsSent, param_of}
 use Rattle.mysql_prepared.specs.SentTypes.{NamedType, under_types, unnamed}
 use Rattle.mysql_prepared.specs.declared.execute_param.ExecuteParam.{ExecuteParam}
 use Rattle.mysql_prepared.specs.declared.execute_view.BoundParam.{BoundParam}
@@ -206,6 +207,47 @@ GivesParam old (Err e) new = RefusesParam e old × (new ≡ old)
 abbrev pub GivesBound : ParamsBytes → BoundParam → List BoundParam → Result TypedExecuteParam FaultOf → ParamsBytes → Type 0
 GivesBound old bound others (Ok x) new = Gives (left_of old (bound ∷ others)) (read_as x) (left_of new others)
 GivesBound old bound others (Err e) new = RefusesParam e (left_of old (bound ∷ others)) × (new ≡ old)
+
+-- ---- what reading as it was sent does
+
+-- the bit of the next parameter says NULL
+abbrev pub is_next_marked : ParamsLeft → Bool
+is_next_marked view = cell view.attributes.nulls (view.attributes.place - view.left) == 1
+
+-- the first of the parameters that are good, as it was sent: its type and its name, its bit, and the bytes that its value is read of
+pub record SentAs (old : ParamsLeft) (x : TypedParam) (new : ParamsLeft) : Type 0 where
+  pub value : Param
+  pub gives : Gives old (record { named_type = x.named_type; param = value }) new
+  pub bytes : List ℕ
+  pub sent : x.param ≡ AsSent (is_next_marked old) bytes
+  pub parts : old.rest ≡ bytes ++ new.rest
+
+-- that parameter, or none is left, or the fault and all is left
+abbrev pub GivesAsSent : ParamsLeft → Result (Option TypedExecuteParam) FaultOf → ParamsLeft → Type 0
+GivesAsSent old (Ok (Some x)) new = SentAs old (read_as x) new
+GivesAsSent old (Ok None) new = HasNoParam old × (new ≡ old)
+GivesAsSent old (Err e) new = RefusesParam e old × (new ≡ old)
+
+-- the first of the parameters that are left, of which the server knows this, as it was sent, or its fault
+abbrev pub GivesBoundAsSent : ParamsBytes → BoundParam → List BoundParam → Result TypedExecuteParam FaultOf → ParamsBytes → Type 0
+GivesBoundAsSent old bound others (Ok x) new = SentAs (left_of old (bound ∷ others)) (read_as x) (left_of new others)
+GivesBoundAsSent old bound others (Err e) new = RefusesParam e (left_of old (bound ∷ others)) × (new ≡ old)
+
+-- the first of the attributes that are left, as it was sent
+pub record AttributeSentAs (old : AttributesLeft) (x : TypedParam) (new : AttributesLeft) : Type 0 where
+  pub value : ParamContent
+  pub left : old.left ≡ suc new.left
+  pub all : old.all ≡ more (record { named_type = x.named_type; value = value }) new.all
+  pub past : IsPast old new
+  pub bytes : List ℕ
+  pub sent : x.param ≡ AsSent (cell old.nulls old.place == 1) bytes
+  pub parts : old.rest ≡ bytes ++ new.rest
+
+-- that attribute, or none is left, or its fault, and then all is left
+abbrev pub NextAttributeAsSent : AttributesLeft → Result (Option TypedExecuteParam) FaultOf → AttributesLeft → Type 0
+NextAttributeAsSent old (Ok (Some x)) new = AttributeSentAs old (read_as x) new
+NextAttributeAsSent old (Ok None) new = (old.left ≡ 0) × (new ≡ old)
+NextAttributeAsSent old (Err e) new = Faults false e old.all × (new ≡ old)
 
 -- the type that is in force: the first of those that are sent, else that of an earlier execution
 abbrev pub TakesInForce : (sends_types : Bool) → ParamType → List NamedType → NamedType → List NamedType → Type 0

@@ -5,7 +5,7 @@ use Rattle.mysql_values.specs.ParamType.{param_type, type_of}
 use Rattle.mysql_values.specs.ParamValue.{ParamContent, Plain, param_spelled}
 use Rattle.mysql_values.specs.Value.{Bytes}
 use Rattle.mysql_values.specs.declared.param_type.ParamType.{ParamType}
-use Rattle.mysql_prepared.specs.ExecuteParam.{Param, Sent, SentAhead, attribute_param, value_of}
+use Rattle.mysql_prepared.specs.ExecuteParam.{Param, Sent, SentAhead, AsSent, attribute_param, value_of}
 use Rattle.mysql_prepared.specs.ExecuteRead.{TypedParam}
 use Rattle.mysql_prepared.specs.SentTypes.{NamedType}
 use Rattle.mysql_prepared.specs.declared.execute_param.QueryAttribute.{QueryAttribute}
@@ -40,10 +40,11 @@ list_of (Some attributes) = attributes
 abbrev pub type_bytes : (has_names : Bool) → TypedParam → List ℕ
 type_bytes has_names p = param_type.bytes p.named_type.param_type ++ (if has_names then lenenc_string_bytes p.named_type.name else [])
 
--- the type spells the value, if the request sends one
+-- the type spells the value, if the request sends one; the bytes of one as it was sent are those of its type
 abbrev pub is_spelled_under : ParamType → Param → Bool
 is_spelled_under t (Sent value) = is_some (param_spelled t value)
 is_spelled_under t SentAhead = true
+is_spelled_under t (AsSent has_null_bit bytes) = true
 
 abbrev pub is_spelled : TypedParam → Bool
 is_spelled p = is_spelled_under p.named_type.param_type p.param
@@ -57,10 +58,11 @@ abbrev pub is_left_out : (as_long_data : Bool) → ParamContent → Bool
 is_left_out true (Plain (Bytes bytes)) = true
 is_left_out _ value = false
 
--- the bytes of a value under its type; nothing is sent of one that was sent ahead
+-- the bytes of a value under its type; nothing is sent of one that was sent ahead, and its bytes of one as it was sent
 abbrev pub bytes_under : (as_long_data : Bool) → ParamType → Param → List ℕ
 bytes_under l t (Sent value) = if is_left_out l value then [] else unwrap_or (param_spelled t value) []
 bytes_under l t SentAhead = []
+bytes_under l t (AsSent has_null_bit bytes) = bytes
 
 abbrev pub value_bytes : (as_long_data : Bool) → TypedParam → List ℕ
 value_bytes l p = bytes_under l p.named_type.param_type p.param

@@ -1,17 +1,18 @@
 //! The attributes of a query or an execution, where they lie.
 #![tactic(auto, using(mysql_wire::proofs::Packets::packets))]
 
-ghost use Rattle.std.specs.Prelude.{false, ◌≡◌, ◌<◌, ◌≤◌, ◌*◌, ◌+◌, [], Ok, length, IsTrue, ◌↔◌};
-ghost use Rattle.mysql_wire.specs.Reading.{Answers};
+ghost use Rattle.std.specs.Prelude.{false, ◌≡◌, ◌<◌, ◌≤◌, ◌*◌, ◌+◌, ◌++◌, [], Ok, length, IsTrue, ◌↔◌};
+ghost use Rattle.mysql_wire.specs.Reading.{Answers, IsTail};
 ghost use Rattle.mysql_values.specs.ParamValue.{param_contents};
 ghost use Rattle.mysql_prepared.specs.Bitmap.{cell};
 ghost use Rattle.mysql_prepared.specs.Attributes as spec;
 ghost use Rattle.mysql_prepared.specs.BindFront.{AttributesThere};
 
 use crate::bind_front::BindFront;
-use crate::execute_param::QueryAttribute;
+use crate::execute_param::{ExecuteParam, QueryAttribute};
 use crate::null_bitmap::NullBitmap;
 use crate::sent_types::SentParamTypes;
+use crate::typed_param::TypedExecuteParam;
 use mysql_values::{ClientSide, ParamType, ParamValue, ValueRef, read_param_value};
 use mysql_wire::{FaultOf, ParseBuf};
 use std::alloc::AllocError;
@@ -43,9 +44,19 @@ pub(crate) fn read_value<'s, 'de>(
     read_param_value(param_type, buf)
 }
 
+/// The bytes between the front of a buffer and what is left of it.
+#[inline(always)]
+pub(crate) fn bytes_before<'de>(buf: &ParseBuf<'de>, rest: &ParseBuf<'_>) -> &'de [u8]
+    requires { IsTail rest.now buf.now }
+    ensures value { buf.now ≡ result.now ++ rest.now }
+{
+    buf.rest().eat(buf.len() - rest.len())
+}
+
 /// The attributes of a query or an execution, one by one, without memory.
 ///
-/// In a clause it is how many are left, what reading all of them gives, and the bytes after those that were read.
+/// In a clause it is how many are left, what reading all of them gives, the bytes after those that were read, the bitmap of NULLs, and
+/// the place of the next one in it.
 #[derive(Drop)]
 pub struct QueryAttributesView<'a> {
     nulls: ParseBuf<'a>,
@@ -74,6 +85,8 @@ impl Clone for QueryAttributesView<'_> {
 }
 
 impl<'a> QueryAttributesView<'a> {
+    ghost use Rattle.mysql_prepared.specs.ExecuteRead.{NextAttributeAsSent};
+
     /// The attributes of these types from that place of the bitmap on, whose values stand in these bytes.
     #[inline]
     pub(crate) fn of(
@@ -141,6 +154,7 @@ impl<'a> QueryAttributesView<'a> {
     #[inline]
     pub fn next_attribute<'s>(&mut self) -> Result<Option<QueryAttribute<'a>>, FaultOf<'s>>
         ensures value { spec.NextAttribute self.old result self.new }
+        ensures past { spec.MovesPast self.old result self.new }
     {
         let mut types = self.types.again();
         let Some(named_type) = types.next_type() else {
@@ -156,6 +170,32 @@ impl<'a> QueryAttributesView<'a> {
             param_type: named_type.param_type,
             name: named_type.name,
             value,
+        }))
+    }
+
+    /// The next attribute as it was sent, or none after the last: what [`next_attribute`](Self::next_attribute) reads, with its bit in the
+    /// bitmap of NULLs and the bytes of its value. After a refusal, which is the same, the view is as it was.
+    ///
+    /// A [`ComQuery`](crate::ComQuery) or an execution with these attributes is written as it was read.
+    #[inline]
+    pub fn next_as_sent<'s>(&mut self) -> Result<Option<TypedExecuteParam<'a>>, FaultOf<'s>>
+        ensures value { NextAttributeAsSent self.old result self.new }
+    {
+        if self.left() == 0 {
+            return Ok(None);
+        }
+        let has_null_bit = is_marked(&self.nulls, self.place);
+        let values = self.values.rest();
+        let Some(attribute) = self.next_attribute()? else {
+            return Ok(None);
+        };
+        Ok(Some(TypedExecuteParam {
+            param_type: attribute.param_type,
+            name: attribute.name,
+            param: ExecuteParam::AsSent {
+                has_null_bit,
+                bytes: bytes_before(&values, &self.values),
+            },
         }))
     }
 

@@ -5,11 +5,11 @@ ghost use Rattle.mysql_wire.specs.Writing.{saturated};
 ghost use Rattle.mysql_values.specs.Value.{Int};
 ghost use Rattle.mysql_values.specs.ValueKind.{kind_of};
 ghost use Rattle.mysql_values.specs.ValueRef.{ref_content};
-ghost use Rattle.mysql_prepared.specs.ExecuteParam.{contents};
+ghost use Rattle.mysql_prepared.specs.ExecuteParam.{contents, param_of, ref_param};
 ghost use Rattle.mysql_prepared.specs.RowView.{refs_held};
 ghost use Rattle.mysql_prepared.specs.BinaryRow as spec;
 
-use crate::execute_param::AsExecuteParam;
+use crate::execute_param::{AsExecuteParam, ExecuteParam};
 use crate::items::put_over;
 use crate::null_bitmap::NullBitmap;
 use crate::null_marks::{append_nulls, put_nulls};
@@ -80,11 +80,27 @@ pub(crate) fn takes(column_type: ColumnType, is_unsigned: bool, value: &ValueRef
     }
 }
 
+/// The same of what is a parameter too: a row has no place for an offset, nor for what was read of an execution.
+#[inline(always)]
+pub(crate) fn takes_param(
+    column_type: ColumnType,
+    is_unsigned: bool,
+    param: ExecuteParam<'_>,
+) -> bool
+    ensures { result ≡ spec.takes_param column_type is_unsigned (param_of param.entry) }
+{
+    match param {
+        ExecuteParam::Value(value) => takes(column_type, is_unsigned, &value),
+        ExecuteParam::SentAhead => takes(column_type, is_unsigned, &ValueRef::Bytes(&[])),
+        ExecuteParam::DateTimeWithOffset(_) | ExecuteParam::AsSent { .. } => false,
+    }
+}
+
 /// The first place whose column does not take its value. There is a value for each column.
 fn refused_at<C: TypedColumn, V: AsExecuteParam>(columns: &[C], values: &[V]) -> Option<usize>
     requires { length columns.now ≡ length values.now }
-    ensures none { IfNone result (IsTrue (spec.takes_row C.type_of C.unsigned columns.now (contents V.param values.now))) }
-    ensures some { IfSome result (λ place. spec.IsFirstRefused C.type_of C.unsigned columns.now (contents V.param values.now) place) }
+    ensures none { IfNone result (IsTrue (spec.takes_values C.type_of C.unsigned V.param columns.now values.now)) }
+    ensures some { IfSome result (λ place. spec.IsFirstRefused C.type_of C.unsigned V.param columns.now values.now place) }
 {
     for place in 0..values.len() {
         let column = &columns[place];
@@ -258,7 +274,7 @@ pub fn write_binary_row<C: TypedColumn>(
 ) -> Result<(), BinaryRowError>
     ensures taken { OnOk result (IsTrue (spec.takes_row C.type_of C.unsigned columns.now (refs_held values.now))) }
     ensures ok { OnOk result (spec.AppendsRow C.type_of C.unsigned columns.now (refs_held values.now) out.old.items out.new.items) }
-    ensures refused { IfErr result (λ e. spec.RefusesRow C.type_of C.unsigned columns.now (refs_held values.now) e) }
+    ensures refused { IfErr result (λ e. spec.RefusesRow C.type_of C.unsigned ref_param columns.now values.now e) }
     ensures err { OnErr result (out.new.items ≡ out.old.items) }
     ensures no_memory { vec_len out.old + spec.row_len C.type_of C.unsigned columns.now (refs_held values.now) ≤ vec_capacity out.old → result ≢ Err BinaryRowError.Memory }
 {
@@ -281,6 +297,8 @@ pub fn write_binary_row<C: TypedColumn>(
 
 /// Writes such a row of a server to the front of a slice, from values of any type that are parameters too. It takes no memory.
 ///
+/// No column takes a date with an offset, nor a parameter as it was sent. One that was sent ahead is an empty string.
+///
 /// The answer is how many bytes it takes, or `usize::MAX` where that is less. A slice that is shorter is as it was, and so is one
 /// after a refusal, which is `Count` or `Value`.
 pub fn write_binary_row_to_slice<C: TypedColumn, V: AsExecuteParam>(
@@ -290,10 +308,11 @@ pub fn write_binary_row_to_slice<C: TypedColumn, V: AsExecuteParam>(
 ) -> Result<usize, BinaryRowError>
     requires { length values.now < 2 ^ 63 }
     ensures taken { OnOk result (IsTrue (spec.takes_row C.type_of C.unsigned columns.now (contents V.param values.now))) }
+    ensures plain { OnOk result (IsTrue (spec.takes_values C.type_of C.unsigned V.param columns.now values.now)) }
     ensures len { IfOk result (λ len. len ≡ saturated (spec.row_len C.type_of C.unsigned columns.now (contents V.param values.now))) }
     ensures written { IfOk result (λ len. len ≤ length out.old → (bytes : List ℕ) × spec.IsRowBytes C.type_of C.unsigned columns.now (contents V.param values.now) bytes × (out.new ≡ bytes ++ drop len out.old)) }
     ensures small { IfOk result (λ len. length out.old < len → out.new ≡ out.old) }
-    ensures refused { IfErr result (λ e. spec.RefusesRow C.type_of C.unsigned columns.now (contents V.param values.now) e) }
+    ensures refused { IfErr result (λ e. spec.RefusesRow C.type_of C.unsigned V.param columns.now values.now e) }
     ensures no_memory { result ≢ Err BinaryRowError.Memory }
     ensures err { OnErr result (out.new ≡ out.old) }
 {

@@ -9,7 +9,7 @@ ghost use Rattle.mysql_prepared.specs.ExecuteHead.{cursor_flags};
 ghost use Rattle.mysql_prepared.specs.ExecuteRead as spec;
 ghost use Rattle.mysql_prepared.specs.declared.execute_view.BoundParam.{BoundParam};
 
-use crate::attributes_view::{QueryAttributesView, is_marked, read_value};
+use crate::attributes_view::{QueryAttributesView, bytes_before, is_marked, read_value};
 use crate::bind_front::BindFront;
 use crate::execute_head::ComStmtExecuteHead;
 use crate::execute_param::ExecuteParam;
@@ -252,6 +252,31 @@ impl<'a> ExecuteParamsBytes<'a> {
             param_type: named_type.param_type,
             name: named_type.name,
             param,
+        })
+    }
+
+    /// The next of the parameters that are left as it was sent: what [`next_param`](Self::next_param) reads, with its bit in the bitmap of
+    /// NULLs and the bytes of its value. After a refusal, which is the same, all is as it was.
+    ///
+    /// An execution with these parameters is written as it was read.
+    #[inline]
+    pub fn next_as_sent<'s>(
+        &mut self,
+        bound: BoundParam,
+    ) -> Result<TypedExecuteParam<'a>, FaultOf<'s>>
+        requires some { self.old.left ≢ 0 }
+        ensures value { (others : List BoundParam) → length (bound ∷ others) ≡ self.old.left → spec.GivesBoundAsSent self.old bound others result self.new }
+    {
+        let has_null_bit = is_null_at(&self.nulls, self.none, self.place);
+        let values = self.buf.rest();
+        let read = self.next_param(bound)?;
+        Ok(TypedExecuteParam {
+            param_type: read.param_type,
+            name: read.name,
+            param: ExecuteParam::AsSent {
+                has_null_bit,
+                bytes: bytes_before(&values, &self.buf),
+            },
         })
     }
 }

@@ -4,17 +4,17 @@
 ghost use Rattle.std.specs.Prelude.{◌≡◌, ◌+◌, ◌++◌, ◌≤◌, length, drop};
 ghost use Rattle.mysql_wire.specs.Writing.{saturated};
 ghost use Rattle.mysql_values.specs.ParamType.{type_of};
-ghost use Rattle.mysql_prepared.specs.BinaryRow.{bin_in, takes};
+ghost use Rattle.mysql_prepared.specs.BinaryRow.{bin_in, takes_param};
 ghost use Rattle.mysql_prepared.specs.ExecuteParam as spec;
 ghost use Rattle.mysql_prepared.specs.NullMarks.{is_null};
 ghost use Rattle.mysql_prepared.specs.SentParam.{bytes_under, is_spelled_under};
 
-use crate::binary_row::{append_cell, cell_len, takes};
+use crate::binary_row::{append_cell, cell_len, takes, takes_param};
 use crate::sent_params::{append_plain, append_sent, is_spelled, plain_len, sent_len, typed_value};
 use mysql_values::{DateTimeWithOffset, ParamType, ParamValue, Value, ValueRef};
 use mysql_wire::{Buffer, ColumnType, MySerialize};
 
-/// A parameter of an execution: a value, or one whose data was sent ahead.
+/// A parameter of an execution: a value, one whose data was sent ahead, or one as it was sent in the execution that it was read from.
 #[derive(Clone, Copy, Debug, PartialEq)]
 pub enum ExecuteParam<'a> {
     /// A value that the request sends.
@@ -24,6 +24,14 @@ pub enum ExecuteParam<'a> {
     /// The data was sent ahead by [`ComStmtSendLongData`](crate::ComStmtSendLongData): the request sends the type of a byte
     /// string, and no value.
     SentAhead,
+    /// What an execution or a query sent of it, which is written again byte for byte:
+    /// [`ExecuteParamsView::next_as_sent`](crate::ExecuteParamsView::next_as_sent) reads it.
+    AsSent {
+        /// Whether its bit in the bitmap of NULLs is set.
+        has_null_bit: bool,
+        /// The bytes of its value, in the binary form of its type: empty where none were sent.
+        bytes: &'a [u8],
+    },
 }
 
 /// A type whose values are parameters of an execution.
@@ -42,7 +50,8 @@ pub trait AsExecuteParam {
     fn as_execute_param(&self) -> ExecuteParam<'_>
         ensures value { spec.param_of result ≡ param self.now };
 
-    /// The type that it is sent as. Where none is chosen, that is the type of its value, and of a byte string where it was sent ahead.
+    /// The type that it is sent as. Where none is chosen, that is the type of its value, and of a byte string where it was sent ahead or
+    /// is one as it was sent, whose own type a [`TypedExecuteParam`](crate::TypedExecuteParam) has.
     fn sent_type(&self) -> ParamType
         ensures value { result ≡ (named_type self.now).param_type };
 
@@ -50,7 +59,7 @@ pub trait AsExecuteParam {
     fn name(&self) -> &[u8]
         ensures value { result.now ≡ (named_type self.now).name };
 
-    /// Whether it is NULL, which one that was sent ahead is not.
+    /// Whether its bit in a bitmap of NULLs is set: where it is NULL, which one that was sent ahead is not, or has the bit as it was sent.
     #[inline(always)]
     fn is_null(&self) -> bool
         ensures value { result ≡ is_null (spec.value_of (param self.now)) }
@@ -86,16 +95,12 @@ pub trait AsExecuteParam {
         append_sent(self.sent_type(), self.as_execute_param(), as_long_data, out);
     }
 
-    /// Whether it is a value that a column of the type takes, in a binary row.
+    /// Whether it is a value that a column of the type takes, in a binary row: none takes a date with an offset, nor one as it was sent.
     #[inline(always)]
     fn is_taken_by(&self, column_type: ColumnType, is_unsigned: bool) -> bool
-        ensures value { result ≡ takes column_type is_unsigned (spec.value_of (param self.now)) }
+        ensures value { result ≡ takes_param column_type is_unsigned (param self.now) }
     {
-        takes(
-            column_type,
-            is_unsigned,
-            &typed_value(self.as_execute_param()),
-        )
+        takes_param(column_type, is_unsigned, self.as_execute_param())
     }
 
     /// How many bytes it takes in such a column, or `usize::MAX` where that is less.

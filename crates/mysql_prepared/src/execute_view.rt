@@ -3,7 +3,7 @@
 ghost use Rattle.std.specs.Prelude.{false, ◌≡◌, ◌≢◌, Ok, length, IfOk, IfErr, IfSome, IfNone};
 ghost use Rattle.mysql_wire.specs.Reading.{Faults};
 ghost use Rattle.mysql_prepared.specs.ExecuteHead.{cursor_flags};
-ghost use Rattle.mysql_prepared.specs.ExecuteRead.{GivesParam, HasNoParam, IsExecution, attributes_at, execution, execution_of};
+ghost use Rattle.mysql_prepared.specs.ExecuteRead.{GivesAsSent, GivesParam, HasNoParam, IsExecution, attributes_at, execution, execution_of};
 
 use crate::attributes_view::QueryAttributesView;
 use crate::execute_bytes::ExecuteParamsBytes;
@@ -133,6 +133,23 @@ impl<'a, 'c> ExecuteParamsView<'a, 'c> {
             return Ok(None);
         };
         let param = self.bytes.next_param(*param)?;
+        self.params = params;
+        Ok(Some(param))
+    }
+
+    /// The next parameter as it was sent, or none after the last: what [`next_param`](Self::next_param) reads, with its bit in the bitmap of
+    /// NULLs and the bytes of its value. After a refusal, which is the same, the view is as it was.
+    ///
+    /// An execution with these parameters is written as it was read:
+    /// [`ComStmtExecuteOptionsBuilder`](crate::ComStmtExecuteOptionsBuilder) says how.
+    #[inline]
+    pub fn next_as_sent<'s>(&mut self) -> Result<Option<TypedExecuteParam<'a>>, FaultOf<'s>>
+        ensures value { GivesAsSent self.old result self.new }
+    {
+        let Some((param, params)) = self.params.split_first() else {
+            return Ok(None);
+        };
+        let param = self.bytes.next_as_sent(*param)?;
         self.params = params;
         Ok(Some(param))
     }

@@ -45,7 +45,15 @@ fn cursor_type(cursor: Cursor) -> CursorType
 /// Makes executions of a prepared statement with options: a cursor, types of an earlier execution, attributes of the query.
 ///
 /// ```
-/// // a proxy that writes an execution again as it was read
+/// // a proxy that writes an execution again byte for byte as it was read
+/// while let Some(param) = view.next_as_sent()? {
+///     params.push(param)?;
+/// }
+/// if let Some(mut view) = view.attributes() {
+///     while let Some(attribute) = view.next_as_sent()? {
+///         attributes.push(attribute)?;
+///     }
+/// }
 /// let builder = ComStmtExecuteOptionsBuilder {
 ///     sends_types: view.sends_types(),
 ///     attributes: Some(&attributes), // None without CLIENT_QUERY_ATTRIBUTES
@@ -83,24 +91,6 @@ impl ComStmtExecuteOptionsBuilder<'static> {
             stmt_id,
             flags: CursorType::CURSOR_TYPE_NO_CURSOR,
             iteration_count: 1,
-            sends_types: true,
-            attributes: None,
-        }
-    }
-
-    /// The builder of executions with the head of one that was read: the same statement, flags and iteration count. They send types and
-    /// have no attributes.
-    pub fn from_head(head: &ComStmtExecuteHead) -> Self
-        ensures stmt_id { result.stmt_id ≡ execute_head.stmt_id head.now }
-        ensures flags { result.flags.0 ≡ execute_head.cursor_flags head.now }
-        ensures iteration_count { result.iteration_count ≡ execute_head.iteration_count head.now }
-        ensures sends_types { result.sends_types ≡ true }
-        ensures attributes { option_copied result.attributes ≡ None }
-    {
-        ComStmtExecuteOptionsBuilder {
-            stmt_id: head.stmt_id(),
-            flags: head.flags(),
-            iteration_count: head.iteration_count(),
             sends_types: true,
             attributes: None,
         }
@@ -208,6 +198,24 @@ impl ComStmtExecuteRequestBuilder {
 }
 
 impl<'a, A> ComStmtExecuteOptionsBuilder<'a, A> {
+    /// The builder of executions with the head of one that was read: the same statement, flags and iteration count. They send types and
+    /// have no attributes.
+    pub fn from_head(head: &ComStmtExecuteHead) -> Self
+        ensures stmt_id { result.stmt_id ≡ execute_head.stmt_id head.now }
+        ensures flags { result.flags.0 ≡ execute_head.cursor_flags head.now }
+        ensures iteration_count { result.iteration_count ≡ execute_head.iteration_count head.now }
+        ensures sends_types { result.sends_types ≡ true }
+        ensures attributes { option_copied result.attributes ≡ None }
+    {
+        ComStmtExecuteOptionsBuilder {
+            stmt_id: head.stmt_id(),
+            flags: head.flags(),
+            iteration_count: head.iteration_count(),
+            sends_types: true,
+            attributes: None,
+        }
+    }
+
     /// Opens this cursor in place of another.
     pub fn with_cursor(self, cursor: Cursor) -> Self
         ensures stmt_id { result.stmt_id ≡ self.entry.stmt_id }

@@ -4,9 +4,10 @@
 ghost use Rattle.std.specs.Prelude.{◌≡◌, ◌+◌, ◌++◌, ◌≤◌, [], length, drop, unwrap_or};
 ghost use Rattle.std.specs.Option.{option_map};
 ghost use Rattle.mysql_wire.specs.Writing.{saturated};
+ghost use Rattle.mysql_values.specs.ParamValue.{param_content};
 ghost use Rattle.mysql_values.specs.TypedValue.{typed_bytes};
 ghost use Rattle.mysql_values.specs.ValueRef.{ref_content};
-ghost use Rattle.mysql_prepared.specs.ExecuteParam.{param_bytes, param_of, value_of};
+ghost use Rattle.mysql_prepared.specs.ExecuteParam.{Sent, param_bytes, param_of, value_of};
 ghost use Rattle.mysql_prepared.specs.SentParam.{bytes_under, is_spelled_under};
 
 use crate::execute_param::{AsExecuteParam, ExecuteParam};
@@ -14,7 +15,8 @@ use crate::items::{ItemForm, Items};
 use mysql_values::{ParamType, ParamValue, TypedValue, ValueRef};
 use mysql_wire::{Buffer, BytesRepr, LenEnc, MySerialize};
 
-/// The value whose type the parameter is sent as: a byte string where it was sent ahead, a date where it has an offset.
+/// The value whose type the parameter is sent as: a byte string where it was sent ahead, a date where it has an offset. As it was sent
+/// it is NULL where its bit is set, else a byte string.
 #[inline(always)]
 pub(crate) fn typed_value(param: ExecuteParam<'_>) -> ValueRef<'_>
     ensures value { ref_content result ≡ value_of (param_of param.entry) }
@@ -31,11 +33,16 @@ pub(crate) fn typed_value(param: ExecuteParam<'_>) -> ValueRef<'_>
             date.micros,
         ),
         ExecuteParam::SentAhead => ValueRef::Bytes(&[]),
+        ExecuteParam::AsSent {
+            has_null_bit: true,
+            ..
+        } => ValueRef::NULL,
+        ExecuteParam::AsSent { bytes, .. } => ValueRef::Bytes(bytes),
     }
 }
 
 /// The length of a parameter that is sent as the type of its value, or `usize::MAX` where that is less: 0 of one that was sent ahead,
-/// and of a byte string that is long data.
+/// and of a byte string that is long data. The bytes of one as it was sent are all sent.
 #[inline(always)]
 pub(crate) fn plain_len(param: ExecuteParam<'_>, as_long_data: bool) -> usize
     ensures value { result ≡ saturated (length (param_bytes as_long_data (param_of param.entry))) }
@@ -45,6 +52,7 @@ pub(crate) fn plain_len(param: ExecuteParam<'_>, as_long_data: bool) -> usize
         ExecuteParam::Value(value) => value.defined_len(),
         ExecuteParam::DateTimeWithOffset(date) => date.defined_len(),
         ExecuteParam::SentAhead => 0,
+        ExecuteParam::AsSent { bytes, .. } => bytes.len(),
     }
 }
 
@@ -62,6 +70,7 @@ pub(crate) fn append_plain<O: Buffer>(param: ExecuteParam<'_>, as_long_data: boo
         ExecuteParam::Value(value) => value.append(out),
         ExecuteParam::DateTimeWithOffset(date) => date.append(out),
         ExecuteParam::SentAhead => {}
+        ExecuteParam::AsSent { bytes, .. } => out.push_bytes(bytes),
     }
 }
 
@@ -77,36 +86,38 @@ pub(crate) fn is_spelled(param_type: ParamType, param: ExecuteParam<'_>) -> bool
         ExecuteParam::DateTimeWithOffset(date) => {
             TypedValue::of_param(param_type, ParamValue::DateTimeWithOffset(date)).is_some()
         }
-        ExecuteParam::SentAhead => true,
+        ExecuteParam::SentAhead | ExecuteParam::AsSent { .. } => true,
     }
 }
 
-/// The value of a parameter that is sent, under its type: none of one that was sent ahead, nor of a byte string that is long data.
+/// A value that is sent, under its type: none of a byte string that is long data.
 #[inline(always)]
 fn sent_value(
     param_type: ParamType,
-    param: ExecuteParam<'_>,
+    value: ParamValue<'_>,
     as_long_data: bool,
 ) -> Option<TypedValue<'_>>
-    ensures value { unwrap_or (option_map typed_bytes result) [] ≡ bytes_under as_long_data param_type (param_of param.entry) }
+    ensures value { unwrap_or (option_map typed_bytes result) [] ≡ bytes_under as_long_data param_type (Sent (param_content value.entry)) }
 {
-    match param {
-        ExecuteParam::Value(ValueRef::Bytes(_)) if as_long_data => None,
-        ExecuteParam::Value(value) => TypedValue::of_param(param_type, ParamValue::Value(value)),
-        ExecuteParam::DateTimeWithOffset(date) => {
-            TypedValue::of_param(param_type, ParamValue::DateTimeWithOffset(date))
-        }
-        ExecuteParam::SentAhead => None,
+    match value {
+        ParamValue::Value(ValueRef::Bytes(_)) if as_long_data => None,
+        value => TypedValue::of_param(param_type, value),
     }
 }
 
 /// The length of a parameter under a type, or `usize::MAX` where that is less: 0 of one that was sent ahead, and of a byte string that is
-/// long data.
+/// long data. The bytes of one as it was sent are all sent.
 #[inline(always)]
 pub(crate) fn sent_len(param_type: ParamType, param: ExecuteParam<'_>, as_long_data: bool) -> usize
     ensures value { result ≡ saturated (length (bytes_under as_long_data param_type (param_of param.entry))) }
 {
-    match sent_value(param_type, param, as_long_data) {
+    let value = match param {
+        ExecuteParam::Value(value) => ParamValue::Value(value),
+        ExecuteParam::DateTimeWithOffset(date) => ParamValue::DateTimeWithOffset(date),
+        ExecuteParam::SentAhead => return 0,
+        ExecuteParam::AsSent { bytes, .. } => return bytes.len(),
+    };
+    match sent_value(param_type, value, as_long_data) {
         Some(value) => value.defined_len(),
         None => 0,
     }
@@ -127,7 +138,13 @@ pub(crate) fn append_sent<O: Buffer>(
     ensures capacity { O.capacity out.old ≤ O.capacity out.new }
     ensures kept { O.kept out.new ≡ O.kept out.old }
 {
-    match sent_value(param_type, param, as_long_data) {
+    let value = match param {
+        ExecuteParam::Value(value) => ParamValue::Value(value),
+        ExecuteParam::DateTimeWithOffset(date) => ParamValue::DateTimeWithOffset(date),
+        ExecuteParam::SentAhead => return,
+        ExecuteParam::AsSent { bytes, .. } => return out.push_bytes(bytes),
+    };
+    match sent_value(param_type, value, as_long_data) {
         Some(value) => value.append(out),
         None => {}
     }

@@ -18,7 +18,7 @@ pub struct TypedExecuteParam<'a> {
     pub param_type: ParamType,
     /// The name, empty where none is sent: only executions under CLIENT_QUERY_ATTRIBUTES have names.
     pub name: &'a [u8],
-    /// The value, or that its data was sent ahead.
+    /// The value, that its data was sent ahead, or what was sent of it.
     pub param: ExecuteParam<'a>,
 }
 

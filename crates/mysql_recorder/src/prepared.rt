@@ -9,7 +9,7 @@ use mysql_replies::SessionCapabilities;
 use mysql_statements::{
     EarlyCommands, EarlyLimits, RowColumn, Statement, StatementLimits, Statements,
 };
-use mysql_values::ParamValue;
+use mysql_values::{ParamValue, ValueRef};
 use mysql_wire::{FaultOf, ParseBuf};
 use std::alloc::{AllocError, Global};
 
@@ -161,5 +161,6 @@ fn field_of<'p>(param: ExecuteParam<'p>) -> Field<'p> {
             Field::param("parameter", ParamValue::DateTimeWithOffset(date))
         }
         ExecuteParam::SentAhead => Field::word("parameter", "sent ahead"),
+        ExecuteParam::AsSent { bytes, .. } => Field::value("parameter", ValueRef::Bytes(bytes)),
     }
 }

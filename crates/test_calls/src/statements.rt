@@ -10,7 +10,7 @@ use mysql_packets::conversation::{Format, Kind, Opening, Pipeline};
 use mysql_packets::io::{FaultOf, ParseBuf};
 use mysql_packets::packets::{
     ComStmtExecuteHead, ComStmtExecuteOptionsBuilder, ExecuteParam, ExecuteParamsView,
-    QueryAttribute, SessionCapabilities, TypedExecuteParam,
+    SessionCapabilities, TypedExecuteParam,
 };
 use mysql_packets::row::BinaryRowView;
 use mysql_packets::statements::{
@@ -55,16 +55,14 @@ fn show_params<'s>(
 ) -> Result<(), FaultOf<'s>> {
     let mut buf = ParseBuf::new(out.alloc(), payload);
     let head: ComStmtExecuteHead = buf.parse(())?;
+    let again = buf.rest();
     let mut view = ExecuteParamsView::new(agreed.mysql, &head, statement.params(), buf)?;
     if !view.sends_types() && !statement.is_bound() && view.left() > 0 {
         out.word("unbound");
         return Ok(());
     }
-    let sends_types = view.sends_types();
-    let mut params = Vec::new(out.alloc());
     for _ in 0..view.left() {
         if let Some(it) = view.next_param()? {
-            push(out, &mut params, it);
             out.word("param:");
             out.display(&(it.param_type.column_type() as u8));
             out.push("=");
@@ -72,62 +70,81 @@ fn show_params<'s>(
                 ExecuteParam::Value(value) => show_value(out, value),
                 ExecuteParam::DateTimeWithOffset(date) => out.display(&date.offset_minutes),
                 ExecuteParam::SentAhead => out.push("ahead"),
+                ExecuteParam::AsSent { bytes, .. } => show(out, bytes),
             }
         }
     }
+    let as_sent = ExecuteParamsView::new(agreed.mysql, &head, statement.params(), again)?;
+    write_again(out, agreed, &head, as_sent, payload)
+}
+
+/// Reads the parameters of an execution as they were sent.
+fn read_params<'s, 'a>(
+    out: &mut Out,
+    view: &mut ExecuteParamsView<'a, '_>,
+) -> Result<Vec<TypedExecuteParam<'a>>, FaultOf<'s>> {
+    let mut params = Vec::new(out.alloc());
+    for _ in 0..view.left() {
+        if let Some(param) = view.next_as_sent()? {
+            push(out, &mut params, param);
+        }
+    }
+    Ok(params)
+}
+
+/// Reads its attributes as they were sent, and what is left after them.
+fn read_attributes<'s, 'a>(
+    out: &mut Out,
+    view: &ExecuteParamsView<'a, '_>,
+    attributes: &mut Vec<TypedExecuteParam<'a>>,
+) -> Result<usize, FaultOf<'s>> {
+    let Some(mut left) = view.attributes() else {
+        return Ok(view.rest().len());
+    };
+    for _ in 0..left.left() {
+        if let Some(attribute) = left.next_as_sent()? {
+            push(out, attributes, attribute);
+        }
+    }
+    Ok(left.rest().len())
+}
+
+/// Writes an execution again as it was sent, and adds whether the bytes are those that it was read from.
+fn write_again<'s>(
+    out: &mut Out,
+    agreed: SessionCapabilities,
+    head: &ComStmtExecuteHead,
+    view: ExecuteParamsView<'_, '_>,
+    payload: &[u8],
+) -> Result<(), FaultOf<'s>> {
+    let mut view = view;
     let mut attributes = Vec::new(out.alloc());
-    if let Some(mut view) = view.attributes() {
-        for _ in 0..view.left() {
-            if let Some(attribute) = view.next_attribute()? {
-                push(out, &mut attributes, attribute);
-            }
-        }
-    }
+    let sends_types = view.sends_types();
+    let params = read_params(out, &mut view)?;
+    let left = read_attributes(out, &view, &mut attributes)?;
+    let sent = payload.get(..payload.len().saturating_sub(left));
     let has_attributes = agreed
         .mysql
         .contains(CapabilityFlags::CLIENT_QUERY_ATTRIBUTES);
-    let builder = options_of(&head, sends_types, has_attributes, &attributes);
-    write_again(out, builder, &params, payload);
-    Ok(())
-}
-
-/// The options of an execution that was read.
-fn options_of<'a>(
-    head: &ComStmtExecuteHead,
-    sends_types: bool,
-    has_attributes: bool,
-    attributes: &'a [QueryAttribute<'a>],
-) -> ComStmtExecuteOptionsBuilder<'a> {
-    let attributes = if has_attributes {
-        Some(attributes)
-    } else {
-        None
-    };
-    ComStmtExecuteOptionsBuilder {
-        stmt_id: head.stmt_id(),
-        flags: head.flags(),
-        iteration_count: head.iteration_count(),
+    let builder = ComStmtExecuteOptionsBuilder {
         sends_types,
-        attributes,
-    }
-}
-
-/// Writes an execution again as it was read, and adds whether it is the same.
-fn write_again(
-    out: &mut Out,
-    builder: ComStmtExecuteOptionsBuilder<'_>,
-    params: &[TypedExecuteParam<'_>],
-    payload: &[u8],
-) {
+        attributes: if has_attributes {
+            Some(attributes.as_slice())
+        } else {
+            None
+        },
+        ..ComStmtExecuteOptionsBuilder::from_head(head)
+    };
     let mut written = Vec::new(out.alloc());
-    match builder.write_ref(params, &mut written) {
-        Ok(_as_long_data) if written.as_slice() == payload => out.field("written", "same"),
+    match builder.write_ref(&params, &mut written) {
+        Ok(_as_long_data) if Some(written.as_slice()) == sent => out.field("written", "same"),
         Ok(_as_long_data) => {
             out.word("written=");
             show(out, &written);
         }
         Err(_) => out.field("written", "refused"),
     }
+    Ok(())
 }
 
 /// Adds the values of a row.

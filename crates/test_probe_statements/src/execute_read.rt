@@ -39,10 +39,9 @@ fn show_execution(
     let head: ComStmtExecuteHead = buf.parse(())?;
     out.word("read");
     fields!(out, head; stmt_id, flags);
+    let again = buf.rest();
     let mut view = counted!(alloc; ExecuteParamsView::new(capabilities, &head, bound, buf))?;
-    let sends_types = view.sends_types();
-    out.show("types", sends_types);
-    let mut params = Vec::new(alloc);
+    out.show("types", view.sends_types());
     let mut end = Ok(());
     for left in (0..view.left().saturating_add(1)).rev() {
         match counted!(alloc; view.next_param()) {
@@ -51,65 +50,81 @@ fn show_execution(
                     out.show("name", it.name);
                 }
                 show_param(out, it.param_type, it.param);
-                push(out, &mut params, it);
             }
             Ok(None) if left == 0 => {}
             Ok(_) => end = Err(Fault::InvalidInput("left")),
             Err(fault) => end = Err(fault),
         }
     }
-    let mut attributes = Vec::new(alloc);
     match view.attributes() {
-        Some(view) if end.is_ok() => end = show_attributes(out, view, &mut attributes),
+        Some(view) if end.is_ok() => end = show_attributes(out, view),
         _ => out.show("rest", view.rest().len()),
     }
-    end?;
-    let has_attributes = capabilities.contains(CapabilityFlags::CLIENT_QUERY_ATTRIBUTES);
-    let builder = options_of(&head, sends_types, has_attributes, &attributes);
-    write_again(out, builder, &params, bytes);
-    Ok(())
-}
-
-/// The options of an execution that was read.
-fn options_of<'a>(
-    head: &ComStmtExecuteHead,
-    sends_types: bool,
-    has_attributes: bool,
-    attributes: &'a [QueryAttribute<'a>],
-) -> ComStmtExecuteOptionsBuilder<'a> {
-    let attributes = if has_attributes {
-        Some(attributes)
+    let as_sent = ExecuteParamsView::new(capabilities, &head, bound, again)?;
+    let written = write_as_sent(out, capabilities, &head, as_sent, bytes);
+    if end.is_ok() == written.is_ok() {
+        end
     } else {
-        None
-    };
-    ComStmtExecuteOptionsBuilder {
-        stmt_id: head.stmt_id(),
-        flags: head.flags(),
-        iteration_count: head.iteration_count(),
-        sends_types,
-        attributes,
+        Err(Fault::InvalidInput("as sent"))
     }
 }
 
-/// Writes an execution again as it was read: `written=same`, or what is written.
-fn write_again(
+/// Reads the parameters and the attributes that are left as they were sent.
+fn read_as_sent<'s, 'a>(
     out: &mut Out,
-    builder: ComStmtExecuteOptionsBuilder<'_>,
-    params: &[TypedExecuteParam<'_>],
+    view: &mut ExecuteParamsView<'a, '_>,
+    attributes: &mut Vec<TypedExecuteParam<'a>>,
+) -> Result<Vec<TypedExecuteParam<'a>>, FaultOf<'s>> {
+    let mut params = Vec::new(out.alloc());
+    for _ in 0..view.left() {
+        if let Some(it) = counted!(out.alloc(); view.next_as_sent())? {
+            push(out, &mut params, it);
+        }
+    }
+    if let Some(mut left) = view.attributes() {
+        for _ in 0..left.left() {
+            if let Some(it) = counted!(out.alloc(); left.next_as_sent())? {
+                push(out, attributes, it);
+            }
+        }
+    }
+    Ok(params)
+}
+
+/// Writes an execution again as it was sent: `written=same`, or what is written.
+fn write_as_sent<'s>(
+    out: &mut Out,
+    capabilities: CapabilityFlags,
+    head: &ComStmtExecuteHead,
+    view: ExecuteParamsView<'_, '_>,
     bytes: &[u8],
-) {
+) -> Result<(), FaultOf<'s>> {
+    let mut view = view;
+    let mut attributes = Vec::new(out.alloc());
+    let sends_types = view.sends_types();
+    let params = read_as_sent(out, &mut view, &mut attributes)?;
+    let has_attributes = capabilities.contains(CapabilityFlags::CLIENT_QUERY_ATTRIBUTES);
+    let builder = ComStmtExecuteOptionsBuilder {
+        sends_types,
+        attributes: if has_attributes {
+            Some(attributes.as_slice())
+        } else {
+            None
+        },
+        ..ComStmtExecuteOptionsBuilder::from_head(head)
+    };
     let mut buffer = begun(out);
-    match counted!(out.alloc(); builder.write_ref(params, &mut buffer)) {
+    match counted!(out.alloc(); builder.write_ref(&params, &mut buffer)) {
         Ok(_as_long_data) => show_written(out, true, &buffer, bytes.get(..after(&buffer).len())),
         Err(error) => show_refused(out, &error),
     }
+    Ok(())
 }
 
 /// Shows the attributes after the parameters, and how many bytes are left.
 fn show_attributes<'s, 'a>(
     out: &mut Out,
     attributes: QueryAttributesView<'a>,
-    read: &mut Vec<QueryAttribute<'a>>,
 ) -> Result<(), FaultOf<'s>> {
     let mut attributes = attributes;
     for left in (0..attributes.left().saturating_add(1)).rev() {
@@ -117,7 +132,6 @@ fn show_attributes<'s, 'a>(
             Ok(Some(it)) if left.checked_sub(1) == Some(attributes.left()) => {
                 out.show("name", it.name);
                 show_param(out, it.param_type, ExecuteParam::sent(it.value));
-                push(out, read, it);
             }
             Ok(None) if left == 0 => {}
             Ok(_) => return Err(Fault::InvalidInput("left")),
@@ -159,6 +173,7 @@ pub fn show_value(out: &mut Out, param: ExecuteParam<'_>) {
         ExecuteParam::Value(value) => Spelled(value).shown(out),
         ExecuteParam::DateTimeWithOffset(date) => show_offset_date(out, date),
         ExecuteParam::SentAhead => out.push("ahead"),
+        ExecuteParam::AsSent { bytes, .. } => out.push_made(hex::encode(out.alloc(), bytes)),
     }
 }
 

@@ -2,11 +2,14 @@
 //!
 //! `execute_typed ID CURSOR KIND PARAMETERS ATTRIBUTES`: with a cursor, or `-`; with `types`, or under those of an `earlier` execution;
 //! each parameter `TYPE=VALUE`, with `/` between them, where `ahead` is one sent ahead and `ZOFFSET` before a date its offset from UTC in
-//! minutes; attributes `NAME:TYPE=VALUE`, names in hexadecimal, or none where CLIENT_QUERY_ATTRIBUTES is not agreed on. It is built, and
-//! written at once to a buffer and to a slice.
+//! minutes, and `!xHEX` or `!NxHEX` the bytes of one as it was sent, without its bit or with it; attributes `NAME:TYPE=VALUE`, names in
+//! hexadecimal, or none where CLIENT_QUERY_ATTRIBUTES is not agreed on. It is built, and written at once to a buffer and to a slice.
+//!
+//! `write_row_params COLUMNS PARAMETERS`: a binary row of such parameters, which is written to a slice.
 
 use crate::execute::{cursor_of, show_refused, show_with};
 use crate::prelude::*;
+use crate::rows::columns;
 
 /// A parameter or an attribute of a request.
 #[derive(Drop)]
@@ -16,6 +19,7 @@ struct TypedWord {
     value: Value,
     offset: Option<i16>,
     is_ahead: bool,
+    null_bit: Option<bool>,
 }
 
 impl FromWord for TypedWord {
@@ -29,12 +33,18 @@ impl FromWord for TypedWord {
             ),
             _ => (None, text),
         };
+        let (null_bit, text) = match (text.strip_prefix("!N"), text.strip_prefix('!')) {
+            (Some(text), _) => (Some(true), text),
+            (None, Some(text)) => (Some(false), text),
+            (None, None) => (None, text),
+        };
         TypedWord {
             name: bytes(out, name),
             param_type: ParamType::from_word(out, param_type),
             value: Value::from_word(out, text),
             offset,
             is_ahead: text == "ahead",
+            null_bit,
         }
     }
 }
@@ -59,10 +69,13 @@ fn value_of<'v>(word: &'v TypedWord) -> ParamValue<'v> {
 }
 
 fn param_of<'v>(word: &'v TypedWord) -> TypedExecuteParam<'v> {
-    let param = if word.is_ahead {
-        ExecuteParam::SentAhead
-    } else {
-        ExecuteParam::sent(value_of(word))
+    let param = match (word.null_bit, value_of(word)) {
+        (Some(has_null_bit), ParamValue::Value(ValueRef::Bytes(bytes))) => ExecuteParam::AsSent {
+            has_null_bit,
+            bytes,
+        },
+        _ if word.is_ahead => ExecuteParam::SentAhead,
+        (_, value) => ExecuteParam::sent(value),
     };
     TypedExecuteParam {
         param_type: word.param_type,
@@ -135,4 +148,26 @@ pub fn execute_typed(out: &mut Out, request: &Request<'_>) {
     let built = counted!(alloc; builder.build_ref(&params));
     show_with(out, built);
     write_at_once(out, builder, &params);
+}
+
+/// A row is written to a slice that has room for it, or why it is refused, and then the slice is as it was.
+pub fn write_row_params(out: &mut Out, request: &Request<'_>) -> Result {
+    let alloc = out.alloc();
+    let columns = columns(request)?;
+    let words = list::<TypedWord>(out, request.word(2), "()", '/');
+    let params = or_empty(out, words.iter().map(param_of).collect(alloc));
+    let mut places = [0xaa; 64];
+    match counted!(alloc; write_binary_row_to_slice(&columns, &params, &mut places)) {
+        Ok(len) => out.show("written", places.get(..len).unwrap_or(&[])),
+        Err(refused) => {
+            out.word("refused");
+            if let BinaryRowError::Value(place) = refused {
+                out.show("place", place);
+            }
+            let is_kept = places.iter().all(|byte| *byte == 0xaa);
+            out.word(if is_kept { "kept" } else { "TAKEN" });
+            out.text("text", &refused);
+        }
+    }
+    Ok(())
 }
