@@ -17,7 +17,7 @@ use crate::read_context::ReadContext;
 use crate::record::{ClientRecord, ServerRecord};
 use crate::server_reader::server_packet;
 use crate::tracked::Tracked;
-use mysql_conversation::{Kind, Refusal, Session, Side};
+use mysql_conversation::{Kind, KindName, Refusal, Session, Side};
 use mysql_replies::SessionCapabilities;
 use mysql_statements::RowColumn;
 use mysql_wire::FaultOf;
@@ -36,7 +36,7 @@ impl Observer {
     ghost use Rattle.mysql_conversation.specs.Pipelined.{Numbered};
     ghost use Rattle.mysql_conversation.specs.Piped as piped;
     ghost use Rattle.mysql_conversation.specs.Piped.{place};
-    ghost use Rattle.mysql_conversation.specs.Session.{IsSession, IsSessionBeginning};
+    ghost use Rattle.mysql_conversation.specs.Session.{GoesOn, IsSession, IsSessionBeginning};
     ghost use Rattle.mysql_conversation.specs.declared.kind.Kind as declared;
     ghost use Rattle.mysql_conversation.specs.Agreements as agreement;
     ghost use Rattle.mysql_conversation.specs.declared.kind.Side.TheVariants as side;
@@ -67,6 +67,20 @@ impl Observer {
         ensures { (items : List Numbered) → Observed self.now items → IsTrue result ↔ IsSession items }
     {
         self.session.is_at_rest()
+    }
+
+    /// What both sides agreed on, once the client has logged in.
+    pub fn agreed(&self) -> Option<SessionCapabilities>
+        ensures { (items : List Numbered) → Observed self.now items → context.IsAgreed items result }
+    {
+        self.agreed_in_session()
+    }
+
+    /// Whether a packet of this kind may come next of this side.
+    pub fn expects(&self, from: Side, name: KindName) -> bool
+        ensures { (items : List Numbered) → Observed self.now items → IsTrue result ↔ GoesOn from name items }
+    {
+        self.session.expects(from, name)
     }
 
     /// Says that what comes is deciphered, after a request to go on in TLS.
@@ -181,15 +195,15 @@ impl Observer {
         ensures semi_sync { result.semi_sync ≡ (context.is_event kind && events.has_header payload.now) }
     {
         ReadContext {
-            agreed: self.agreed(),
+            agreed: self.agreed_in_session(),
             column_count: self.count as usize,
             columns: self.columns(),
             semi_sync: is_event(kind) && has_header(self.alloc, payload),
         }
     }
 
-    /// What both sides agreed on.
-    fn agreed(&self) -> Option<SessionCapabilities>
+    /// What both sides agreed on, by the session.
+    fn agreed_in_session(&self) -> Option<SessionCapabilities>
         ensures { (items : List Numbered) → sessions.SessionTaken self.now.session items → context.IsAgreed items result }
     {
         self.session.agreed()
@@ -218,7 +232,7 @@ impl Observer {
         ensures fault { IfErr result (λ e. (items : List Numbered) → Observed self.now items → (agreed : Option agreement.Agreed) × context.IsAgreed items agreed
             × records.IsClientFault agreed (records.known_params agreed (observed.tracked self.now).params kind) kind payload.now e) }
     {
-        let agreed = self.agreed();
+        let agreed = self.agreed_in_session();
         read_client(
             self.alloc,
             agreed,

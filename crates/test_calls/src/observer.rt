@@ -68,6 +68,25 @@ fn show_fault(out: &mut Out, read: Result<(), FaultOf<'_>>) {
     }
 }
 
+/// Adds the values of a row, and the size of an event.
+fn show_packet(out: &mut Out, packet: ServerPacket<'_, '_, RowColumn>) {
+    match packet {
+        ServerPacket::BinaryRow(row) => {
+            let shown = show_binary_row(out, row);
+            show_fault(out, shown);
+        }
+        ServerPacket::TextRow(row) => {
+            let shown = show_text_row(out, row);
+            show_fault(out, shown);
+        }
+        ServerPacket::BinlogEvent(event) => {
+            out.push(":");
+            out.display(&event.event().len());
+        }
+        _other => {}
+    }
+}
+
 /// Adds what a packet of the server holds.
 fn show_server(out: &mut Out, observer: &Observer, packet: &ObservedPacket, payload: &[u8]) {
     let read: Result<ServerRecord<'_, '_>, FaultOf<'_>> = observer.server_packet(
@@ -75,19 +94,7 @@ fn show_server(out: &mut Out, observer: &Observer, packet: &ObservedPacket, payl
         payload,
     );
     match read {
-        Ok(ServerRecord::Packet(ServerPacket::BinaryRow(row))) => {
-            let shown = show_binary_row(out, row);
-            show_fault(out, shown);
-        }
-        Ok(ServerRecord::Packet(ServerPacket::TextRow(row))) => {
-            let shown = show_text_row(out, row);
-            show_fault(out, shown);
-        }
-        Ok(ServerRecord::Packet(ServerPacket::BinlogEvent(event))) => {
-            out.push(":");
-            out.display(&event.event().len());
-        }
-        Ok(ServerRecord::Packet(_other)) => {}
+        Ok(ServerRecord::Packet(packet)) => show_packet(out, packet),
         Ok(ServerRecord::Untyped(bytes)) => {
             out.push(":untyped:");
             show(out, bytes);
