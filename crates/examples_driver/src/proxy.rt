@@ -8,7 +8,7 @@ use mysql_packets::conversation::{Kind, Refusal, Side};
 use mysql_packets::frames::{FrameReader, write_frames};
 use mysql_packets::io::FaultOf;
 use mysql_packets::observer::{
-    ClientPacket, ClientRecord, Observer, ObserverLimits, ServerPacket, ServerRecord,
+    ClientPacket, ClientRecord, Observer, ObserverLimits, ServerPacket, ServerRecord, client_packet,
 };
 use mysql_packets::packets::{
     CommonOkPacket, ExecuteParamsView, OkPacketLayout, OkPacketRef, OkPacketSerializer,
@@ -148,13 +148,26 @@ impl Proxy {
                 values: 0,
             }),
             Ok(ClientRecord::Execution(_head, params)) => Ok(Passed {
-                is_as_read: false,
+                is_as_read: self.execution_as_read(kind, payload, written)?,
                 values: params_of(params),
             }),
             Err(_) => Ok(Passed {
                 is_as_read: false,
                 values: 0,
             }),
+        }
+    }
+
+    /// Writes an execution, by its record as a command.
+    fn execution_as_read(
+        &self,
+        kind: Kind,
+        payload: &[u8],
+        written: &mut Vec<u8>,
+    ) -> Result<bool, AllocError> {
+        match client_packet(self.alloc, self.observer.agreed(), kind, payload) {
+            Ok(packet) => write_client(self.alloc, &packet, payload, written),
+            Err(_) => Ok(false),
         }
     }
 

@@ -24,8 +24,8 @@ pub fn relay(rt: &HostRuntime) -> Result<()> {
         pass(rt, &mut proxy, line.as_str())?;
     }
     Ok(eprintln!(rt;
-        "as read: {}, as sent: {}, values: {}",
-        proxy.as_read, proxy.as_sent, proxy.values
+        "values: {}, as read: {}, as sent: {}",
+        proxy.values, proxy.as_read, proxy.as_sent
     )?)
 }
 
