@@ -5,10 +5,10 @@
 /// the text of a query.
 pub(crate) fn has_header(payload: &[u8]) -> bool {
     match payload {
-        [_, 0xef, _, _, _, _, _, _, _, _, _, _, a, b, c, d, ..] => u64::from(u32::from_le_bytes([
-            *a, *b, *c, *d,
-        ])) + 3
-            == payload.len() as u64,
+        [_, mark, _, _, _, _, _, _, _, _, _, _, a, b, c, d, ..] => {
+            *mark == 0xef
+                && u64::from(u32::from_le_bytes([*a, *b, *c, *d])) + 3 == payload.len() as u64
+        }
         _ => false,
     }
 }

@@ -38,11 +38,13 @@ pub(crate) fn append_client<'p>(
         Ok(read) => client_fields(read, fields)?,
         Err(fault) => fields.push(Field::word("refused", fault_name(fault)))?,
     }
-    match agreed {
-        Some(agreed) if is_execution(kind) => {
-            append_params(alloc, agreed, statement, payload, fields)
-        }
-        _ => Ok(()),
+    let Some(agreed) = agreed else {
+        return Ok(());
+    };
+    if is_execution(kind) {
+        append_params(alloc, agreed, statement, payload, fields)
+    } else {
+        Ok(())
     }
 }
 

@@ -303,9 +303,13 @@ impl Packets {
         ensures layout { self.new.layout ≡ self.old.layout }
         ensures sums { self.new.sums ≡ self.old.sums }
     {
-        match self.followed.agreed() {
-            Some(agreed) if !is_early => self.prepared.serve(agreed, packet.exchange),
-            _ => Ok(()),
+        let Some(agreed) = self.followed.agreed() else {
+            return Ok(());
+        };
+        if is_early {
+            Ok(())
+        } else {
+            self.prepared.serve(agreed, packet.exchange)
         }
     }
 

@@ -42,10 +42,14 @@ pub(crate) fn is_execution(kind: Kind) -> bool {
 
 /// The bytes of an early command that say what it does with a statement: of an execution all, since its types may stand anywhere.
 fn front_of(payload: &[u8]) -> &[u8] {
-    match payload {
-        [EXECUTE, ..] => payload,
-        [BULK_EXECUTE, ..] => payload,
-        _ => &payload[..payload.len().min(FRONT)],
+    let code = match payload.first() {
+        Some(code) => *code,
+        None => 0,
+    };
+    if code == EXECUTE || code == BULK_EXECUTE {
+        payload
+    } else {
+        &payload[..payload.len().min(FRONT)]
     }
 }
 
