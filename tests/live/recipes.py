@@ -203,13 +203,13 @@ class Recipes:
         it.close()
 
     def recipe_proxy(self):
-        """recorded sessions of the other recipes: what goes on is what came, whichever pieces a side sends"""
+        """recorded sessions of the other recipes: what goes on is what came, whichever pieces a side sends, and each value of a row or an execution is read"""
         file = Path(__file__)
         local = ["load data local infile '/x' into table live.loaded lines starting by 'no such'", "/x", file]
         # (what goes on as it came: rows, the parts of a file and its end, reports of progress)
-        for recipe, arguments, as_sent in (("query", ["select 1, 'a', null union select 22, '', 'z'"], 2), ("query", ["select no_such_column"], 0),
-                                           ("infile", local, -(-file.stat().st_size // 8192) + 1), ("execute", ["select ?, ? union select 'z', null", "i-5", "x616263"], 2),
-                                           ("query", [f"select repeat('r', {0xFFFFFF + 100})"], 1)):
+        for recipe, arguments, as_sent, values in (("query", ["select 1, 'a', null union select 22, '', 'z'"], 2, 6), ("query", ["select no_such_column"], 0, 0),
+                                           ("infile", local, -(-file.stat().st_size // 8192) + 1, 0), ("execute", ["select ?, ? union select 'z', null", "i-5", "x616263"], 2, 6),
+                                           ("query", [f"select repeat('r', {0xFFFFFF + 100})"], 1, 1)):
             lines = []
             with socket.create_server(("127.0.0.1", 0)) as listener:
                 relay = threading.Thread(target=relayed, args=(listener, self.port, lines))
@@ -222,7 +222,7 @@ class Recipes:
                 came = [f"{side} {digits[k:k + 2 * size]}" for side, digits in lines for k in range(0, len(digits), 2 * size)]
                 it = subprocess.run([self.program, "proxy"], input="\n".join(came) + "\n", capture_output=True, text=True)
                 self.check(f"the proxy of {recipe}, in pieces of {size}", len(came) >= 5 and it.returncode == 0 and joined(it.stdout) == joined("\n".join(came))
-                           and it.stderr.endswith(f", as sent: {as_sent}\n"), (len(came), it.stderr[-300:]))
+                           and it.stderr.endswith(f", as sent: {as_sent}\n") and f"values: {values}," in it.stderr, (len(came), it.stderr[-300:]))
 
 
 def relayed(listener, port, lines):

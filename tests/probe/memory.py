@@ -20,6 +20,7 @@ NAMES = {
 # what a clause says by these words
 WORDS = {
     r"\bAnswers\b": "memory is an answer only where the reader takes some",
+    r"\bIs(Server|Client)Fault\b": "a fault is that of a grammar, which is never that of memory",
     r"\bFaults false\b|\bRefuses(Next|Param)\b|\bGives(One|Param|Bound)\b": "a fault is the grammar's, which is never that of memory",
     r"\b(AttributesThere|PassedTo)\b": "attributes are read without memory",
     r"\bNext(Change|ChangeRef|Variable|Pair|Sid|Interval|Attribute)\b": "an entry is read without memory, or as its grammar has it",

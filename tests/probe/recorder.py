@@ -81,9 +81,7 @@ class Recorder:
             self.is_over = True
             return
         session.place, session.waiting = session.rest(), []
-        watcher.serve(session.last)
-        watcher.statements.pop(watcher.runs, None)
-        watcher.due, watcher.runs, watcher.columns = [], None, []
+        watcher.lose()
         self.unheard = []
         if command is not None:
             session.number, session.place = session.last, session.answer(command)
@@ -172,7 +170,14 @@ def as_followed(pieces):
     return (head + "".join(("\t" if side == SERVER else "") + piece.hex() + "\n" for side, piece in pieces) + rule).encode()
 
 
+# what is never shown unless it is wanted, but for what stands before the fault of an execution or a query
+VALUES = ("value", "parameter", "attribute", "attribute_value", "variable", "variable_value")
+BEFORE_FAULTS = ("parameter", "attribute", "attribute_value")
+
+
 def differs(wanted, line):
-    """Where an object lacks what is wanted of it, or no text."""
+    """Where an object lacks what is wanted of it or has a value that isn't, or no text."""
     got = json.loads(line)
-    return next((f"{name} is {got.get(name)!r}, and by the pages {it!r}" for name, it in wanted.items() if got.get(name) != it or name not in got), "")
+    values = [] if "payload" not in wanted else [it for it in VALUES if not ("refused" in got and it in BEFORE_FAULTS)]
+    more = next((f"{name} is {got[name]!r}, and by the pages unknown" for name in values if name in got and name not in wanted), "")
+    return more or next((f"{name} is {got.get(name)!r}, and by the pages {it!r}" for name, it in wanted.items() if got.get(name) != it or name not in got), "")

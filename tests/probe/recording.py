@@ -10,8 +10,14 @@ import time
 from pathlib import Path
 
 from conversations import FOLDER, Packet, packets_of, pieces_of, recorded_end
+from lines import TOP
 from recorder import CLIENT, PROGRAM, SERVER, as_followed, as_lines, differs, recorded
 from watcher import COMMANDS, Watcher
+
+# conversations that were made by hand: what comes early, what isn't known, and what is sent in a semi-synchronous stream
+MADE = TOP / "tests/captured/made"
+
+
 def in_bytes(pieces):
     return "".join(f"{side} {byte:02X}\r\n" for side, piece in pieces for byte in piece).encode()
 
@@ -125,6 +131,14 @@ def bounded():
     return "" if used < 32 * 1024 else f"100 MB take {used} KiB of memory"
 
 
+def wrong_made():
+    """What is wrong with what is shown of each made recording, or no text."""
+    for path in sorted(MADE.glob("*.xz")):
+        wanted, status = recorded(list(pieces_of(path)))
+        run = subprocess.run([PROGRAM, "conversation", "--json"], input=as_lines(pieces_of(path)), capture_output=True)
+        yield compared(path.name, wanted, run.stdout, run.returncode == status)
+
+
 def main():
     passed = failed = 0
     for path in sorted(FOLDER.glob("*.xz")):
@@ -157,7 +171,7 @@ def main():
         passed, failed = passed + (not wrong), failed + bool(wrong)
         if wrong:
             print(wrong)
-    for wrong in [bounded()]:
+    for wrong in [*wrong_made(), bounded()]:
         passed, failed = passed + (not wrong), failed + bool(wrong)
         if wrong:
             print(wrong)

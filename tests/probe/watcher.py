@@ -11,7 +11,10 @@ from reference_decoder import authentication, commands, replies, statements, val
 from reference_decoder.buf import Buf, Eof, Invalid  # noqa: E402
 from reference_decoder.conversation import CLIENT, Refused, Session  # noqa: E402
 
+FAULTS = {Eof: "UnexpectedEof", Invalid: "InvalidData"}
 WAITING = 4096
+# how many bytes of an early execution are held
+EARLY = 65_536
 # the kinds, in the order in which they are shown
 KINDS = [
     "handshake", "ssl_request", "login", "auth_switch", "old_auth_switch", "auth_more_data", "auth_next_factor", "auth_plugin_data", "auth_data",
@@ -84,17 +87,38 @@ def spelled(value, column_type):
     return "{}{} {:02}:{:02}:{:02}.{:06}".format("-" if value[1] else "", *value[2])
 
 
+def has_header(payload):
+    """Whether an event has the header of semi-synchronous replication: the mark ef, and after it the event's own size."""
+    return payload[1:2] == b"\xef" and len(payload) > 15 and int.from_bytes(payload[12:16], "little") + 3 == len(payload)
+
+
+def row_of(values):
+    """The values of a row, up to the first that can't be read."""
+    row, refused = [], {}
+    try:
+        for value in values:
+            row.append(value)
+    except (Eof, Invalid) as fault:
+        refused = {"refused": FAULTS[type(fault)]}
+    return {**({"value": row} if row else {}), **refused}
+
+
 class Watcher:
     """What the fields of each packet are, by the second decoder."""
 
     def __init__(self, is_deciphered=False):
         self.is_deciphered = is_deciphered
-        self.session, self.columns, self.count = Session(WAITING), [], 0
-        # of each statement its columns, and of that which runs or is prepared its number and what is expected of it
+        self.session, self.count = Session(WAITING), 0
+        # of the result that comes its exchange and its columns, where their definitions follow and could be read
+        self.result = None
+        # of each statement how many columns it has and those that are known, and of that which runs or is prepared its number and what is
+        # expected of it
         self.statements, self.last, self.runs, self.due = {}, None, None, []
         # of each statement the type, its flags and whether it was sent ahead of each parameter, and whether an execution gave these types; and the
         # commands that came before the answers to earlier ones, each with its exchange
         self.params, self.is_bound, self.early = {}, set(), []
+        # the exchange of the last command that is too long to be held: up to it nothing is known of statements
+        self.lost = -1
 
     def ok(self, payload, header):
         capabilities = self.session.flags
@@ -102,10 +126,12 @@ class Watcher:
         fields = named("affected_rows last_insert_id status_flags warnings info", (*numbers, status, warnings, info))
         for it in replies.changes_as_sent(state or b""):
             if not isinstance(it, tuple):
-                fields["refused"] = {Eof: "UnexpectedEof", Invalid: "InvalidData"}[type(it)]
+                fields["refused"] = FAULTS[type(it)]
                 continue
             kind, change = it
             if kind == 0:
+                if not change:
+                    continue
                 fields["variable"] = fields.get("variable", []) + [shown(name) for name, _ in change]
                 fields["variable_value"] = fields.get("variable_value", []) + [shown(value) for _, value in change]
             else:
@@ -114,30 +140,45 @@ class Watcher:
         return fields
 
     def text_row(self, payload):
-        buf, row = Buf(payload), []
-        for _ in range(self.count):
-            row.append(shown(values.text_value(buf)))
-        return {"value": row} if row else {}
+        buf = Buf(payload)
+        return row_of(shown(values.text_value(buf)) for _ in range(self.count))
 
-    def define(self, column_type, flags):
-        """A definition: of a parameter, which is passed over, or of a column."""
-        if self.due and self.due.pop(0) == "parameter":
+    def define(self, it, exchange):
+        """A definition: of a parameter, which is passed over, or of a column. After one that can't be read (None) no column is known."""
+        if self.result and self.result[0] == exchange:
+            self.result = it and (exchange, [*self.result[1], it])
+        if exchange <= self.lost:
             return
-        self.columns.append((column_type, flags))
-        if self.runs is not None:
-            self.statements[self.runs] = self.columns
+        if it is None:
+            self.runs, self.due = None, []
+        elif self.due and self.due.pop(0) == "parameter":
+            return
+        elif self.runs in self.statements:
+            self.statements[self.runs][1].append(it)
 
-    def binary_row(self, payload):
-        columns = self.columns or self.statements.get(self.runs, [])
+    def columns_of_rows(self, exchange):
+        """The columns of binary rows: those of this result, or where their definitions were left out those of its statement."""
+        if self.result and self.result[0] == exchange and len(self.result[1]) == self.count:
+            return self.result[1]
+        width, columns = self.statements.get(self.runs, (None, []))
+        return columns if len(columns) == width else None
+
+    def binary_row(self, payload, exchange):
+        columns = self.columns_of_rows(exchange)
+        if columns is None:
+            return {"columns": "unknown"}
         buf = Buf(payload)
         buf.take(1)
         nulls = int.from_bytes(buf.take((len(columns) + 7 + 2) // 8), "little") >> 2
-        row = [None if nulls >> at & 1 else spelled(values.bin_value(buf, *it), it[0]) for at, it in enumerate(columns)]
-        return {"value": row} if row else {}
+        return row_of(None if nulls >> at & 1 else spelled(values.bin_value(buf, *it), it[0]) for at, it in enumerate(columns))
 
-    def column(self, payload):
-        ((names, numbers), metadata) = replies.extended_column(Buf(payload), self.session.own)
-        self.define(numbers[2], numbers[3])
+    def column(self, payload, exchange):
+        try:
+            ((names, numbers), metadata) = replies.extended_column(Buf(payload), self.session.own)
+        except (Eof, Invalid):
+            self.define(None, exchange)
+            raise
+        self.define((numbers[2], numbers[3]), exchange)
         return self.of_column(names, numbers, metadata)
 
     def of_column(self, names, numbers, metadata):
@@ -165,7 +206,8 @@ class Watcher:
             place = int.from_bytes(payload[5:7], "little")
             params[place : place + 1] = [(*it[:2], True) for it in params[place : place + 1]]
         elif code == 0x19:
-            del self.params[number]
+            del self.params[number], self.statements[number]
+            self.last = None if self.last == number else self.last
         elif code == 0x1A:
             self.params[number] = [(*it[:2], False) for it in params]
         elif code in (0x17, 0xFA):
@@ -185,16 +227,17 @@ class Watcher:
         _, sends_types, read, _ = statements.stmt_execute(Buf(payload), params, self.session.flags)
         return [it[:2] for it in read] if sends_types else None
 
-    def executed(self, payload):
-        """The parameters and the attributes of an execution, where its types are known."""
+    def executed(self, payload, is_early):
+        """The parameters and the attributes of an execution, or where their types aren't known that."""
         number = int.from_bytes(payload[1:5], "little")
         number = self.last if number == 0xFFFFFFFF else number
+        unknown = {"parameter_types": "unknown"} if len(payload) > 10 else {}
         # (what an early command changes is known once the server comes to it)
-        if self.early or number not in self.params:
-            return {}
+        if is_early or number not in self.params:
+            return unknown
         _, sends_types, params, attributes = statements.stmt_execute(Buf(payload), self.params[number], self.session.flags)
-        if not sends_types and number not in self.is_bound:
-            return {}
+        if params and not sends_types and number not in self.is_bound:
+            return unknown
         fields = {
             "parameter": ["sent ahead" if it[3] else spelled(it[4], it[0]) for it in params],
             "attribute": [shown(it[2]) for it in attributes],
@@ -214,38 +257,50 @@ class Watcher:
     def serve(self, number):
         """The server has come to the exchange of this number."""
         while self.early and self.early[0][0] <= number:
-            self.bind(self.early.pop(0)[1])
+            self.begin(*self.early.pop(0))
+
+    def begin(self, exchange, payload):
+        """The server has come to a command."""
+        if exchange > self.lost:
+            self.command(payload)
+            self.bind(payload)
+
+    def lose(self):
+        """Something is lost: nothing is known of statements, nor of the commands that wait."""
+        self.forget()
+        self.early, self.due, self.runs, self.result = [], [], None, None
 
     def command(self, payload):
         """Which statement runs."""
-        if payload[0] in (0x17, 0xFA, 0x1C, 0x1A, 0x19):
+        self.runs, self.due = None, []
+        if payload[0] in (0x17, 0xFA, 0x1C):
             number = int.from_bytes(payload[1:5], "little")
             self.runs = self.last if number == 0xFFFFFFFF else number
-            # (several cursors may be open)
-            self.columns = self.statements.get(self.runs, []) if payload[0] == 0x1C else []
-        else:
-            self.runs, self.columns = None, []
 
-    def of_command(self, payload):
-        is_early = self.session.waiting and self.session.waiting[-1][1] is payload
+    def of_command(self, payload, exchange):
+        is_early = bool(self.session.waiting and self.session.waiting[-1][1] is payload)
+        if not is_early:
+            self.serve(exchange)
         fields = {}
         try:
             if payload[0] == 0x16:
                 fields = {"query": shown(payload[1:])}
             elif payload[0] == 0x03:
                 fields = self.queried(payload)
-            elif payload[0] == 0x17 and not is_early:
-                fields = self.executed(payload)
+            elif payload[0] == 0x17:
+                fields = self.executed(payload, is_early)
         except (Eof, Invalid):
             pass
-        self.command(payload)
-        if is_early:
-            self.early.append((self.session.last, payload))
+        if not is_early:
+            self.begin(exchange, payload)
+        elif payload[0] in (0x17, 0xFA) and len(payload) > EARLY:
+            self.forget()
+            self.runs, self.lost = None, exchange
         else:
-            self.bind(payload)
+            self.early.append((exchange, payload))
         return fields
 
-    def fields(self, side, kind, payload):
+    def fields(self, kind, payload, exchange):
         """What is wanted of a packet of this kind, as far as the second decoder says it."""
         if kind == "handshake":
             names = "protocol_version server_version connection_id scramble_1 scramble_2 capabilities default_collation status_flags mariadb_ext_capabilities auth_plugin_name"
@@ -255,36 +310,42 @@ class Watcher:
             fields = named("capabilities max_packet_size collation mariadb_ext_capabilities user db_name auth_plugin_name", (*read[:5], *read[6:8]))
             return fields if read[9] is None else {**fields, "zstd_level": read[9]}
         if kind == "command":
-            return {"command": COMMANDS.get(payload[0], payload[0]), **self.of_command(payload)}
+            return {"command": COMMANDS.get(payload[0], payload[0]), **self.of_command(payload, exchange)}
         if kind == "ok":
             return self.ok(payload, b"\0")
         if kind == "ok_terminator":
-            return self.ok(payload, b"\xfe")
+            # (its first two numbers are passed over: read_ok_ex in MySQL's sql-common/client.cc)
+            return {name: it for name, it in self.ok(payload, b"\xfe").items() if name not in ("affected_rows", "last_insert_id")}
         if kind == "eof":
             return named("warnings status_flags", replies.old_eof(Buf(payload), 0))
         if kind in ("error", "unasked_error"):
             read = replies.err_packet if self.session.flags else lambda buf, _: replies.greeting_error(buf)
             return named("error sql_state message", read(Buf(payload), self.session.flags))
         if kind == "column_count":
-            self.columns, self.due = [], []
             self.count, follows = replies.column_count(Buf(payload), self.session.flags, self.session.own)
+            self.result = (exchange, []) if follows != 0 else None
+            if exchange > self.lost and self.runs in self.statements:
+                self.statements[self.runs] = self.count, [] if follows != 0 else self.statements[self.runs][1]
             return {"count": self.count, "metadata_follows": follows != 0}
         if kind == "column":
-            return self.column(payload)
+            return self.column(payload, exchange)
         if kind == "field_list_column":
             ((names, numbers), metadata), default = replies.field_list_column(Buf(payload), self.session.own)
             return {**self.of_column(names, numbers, metadata), "default_value": shown(default)}
         if kind == "text_row":
             return self.text_row(payload)
         if kind == "binary_row":
-            return self.binary_row(payload)
+            return self.binary_row(payload, exchange)
         if kind == "prepare_ok":
             (number, columns, params), warnings = statements.stmt_packet(Buf(payload))
-            self.columns, self.last, self.runs, self.due = [], number, number, ["parameter"] * params
-            self.statements[number] = self.columns
-            self.params[number] = [(6, 0, False)] * params
-            self.is_bound.discard(number)
+            if exchange > self.lost:
+                self.last, self.runs, self.due = number, number, ["parameter"] * params
+                self.statements[number] = columns, []
+                self.params[number] = [(6, 0, False)] * params
+                self.is_bound.discard(number)
             return named("statement_id num_columns num_params warning_count", (number, columns, params, warnings))
+        if kind == "binlog_event":
+            return {"event_size": len(payload) - (3 if has_header(payload) else 1)}
         if kind == "local_infile":
             return {"file_name": shown(payload[1:])}
         return {}
@@ -306,6 +367,6 @@ class Watcher:
         if kind == "ssl_request" and self.is_deciphered:
             self.session.decipher()
         try:
-            return {**head, **self.fields(packet.side, kind, packet.payload)}, True
+            return {**head, **self.fields(kind, packet.payload, number)}, True
         except (Eof, Invalid, IndexError):
             return head, True

@@ -4,23 +4,46 @@
 
 use crate::error::{Error, Result};
 use mysql_packets::constants::{CapabilityFlags, Flags};
-use mysql_packets::conversation::{Kind, Refusal, Session, Side};
+use mysql_packets::conversation::{Kind, Refusal, Side};
 use mysql_packets::frames::{FrameReader, write_frames};
+use mysql_packets::io::FaultOf;
 use mysql_packets::observer::{
-    ClientPacket, ReadContext, ServerPacket, client_packet, server_packet,
+    ClientPacket, ClientRecord, Observer, ObserverLimits, ServerPacket, ServerRecord, client_packet,
 };
 use mysql_packets::packets::{
-    Column, CommonOkPacket, OkPacketLayout, OkPacketRef, OkPacketSerializer, OldEofPacket,
-    ResultSetTerminator,
+    CommonOkPacket, ExecuteParamsView, OkPacketLayout, OkPacketRef, OkPacketSerializer,
+    OldEofPacket, ResultSetTerminator,
 };
 use mysql_packets::proto::MySerialize;
+use mysql_packets::row::{BinaryRowView, TextRowView};
+use mysql_packets::statements::{EarlyLimits, RowColumn, StatementLimits};
+use mysql_packets::value::ServerSide;
 use std::alloc::{AllocError, Global};
 
 /// The longest payload that goes on: the most that a server's `max_allowed_packet` can be.
 const LONGEST: usize = 1 << 30;
 
-/// How many commands a client may send before the answers to earlier ones.
-const WAITING: usize = 1 << 10;
+/// How many commands a client may send before the answers to earlier ones, and how much is kept of prepared statements.
+const LIMITS: ObserverLimits = ObserverLimits {
+    waiting: 1 << 10,
+    statements: StatementLimits {
+        statements: 1 << 12,
+        types: 1 << 18,
+    },
+    early: EarlyLimits {
+        commands: 1 << 11,
+        bytes: 1 << 16,
+    },
+};
+
+/// How a packet went on.
+#[derive(Clone, Copy)]
+struct Passed {
+    /// Whether its record was written, and is what came.
+    is_as_read: bool,
+    /// How many values were read of it.
+    values: u64,
+}
 
 /// What stands between a client and a server.
 #[derive(Drop)]
@@ -29,8 +52,10 @@ pub struct Proxy {
     pub as_read: u64,
     /// How many went on as the bytes that came.
     pub as_sent: u64,
+    /// How many values of rows and parameters of executions were read.
+    pub values: u64,
     alloc: Global,
-    session: Session,
+    observer: Observer,
     client: FrameReader,
     server: FrameReader,
 }
@@ -41,8 +66,9 @@ impl Proxy {
         Proxy {
             as_read: 0,
             as_sent: 0,
+            values: 0,
             alloc,
-            session: Session::new(alloc, WAITING),
+            observer: Observer::new(alloc, LIMITS),
             client: FrameReader::new(alloc, LONGEST),
             server: FrameReader::new(alloc, LONGEST),
         }
@@ -84,16 +110,17 @@ impl Proxy {
         payload: &[u8],
         out: &mut Vec<u8>,
     ) -> Result<()> {
-        let (kind, _command) = self.session.next(from, payload)?;
+        let kind = self.observer.next(from, payload)?.kind;
         if let Kind::SslRequest = kind {
             return Err(Error::Session(Refusal::Encrypted));
         }
         let mut written = Vec::new(self.alloc);
-        let is_as_read = match from {
+        let passed = match from {
             Side::Client => self.client_as_read(kind, payload, &mut written),
             Side::Server => self.server_as_read(kind, payload, &mut written),
         }?;
-        if is_as_read {
+        self.values = self.values.saturating_add(passed.values);
+        if passed.is_as_read {
             self.as_read = self.as_read.saturating_add(1);
         } else {
             written.extend_from_slice(payload)?;
@@ -103,46 +130,124 @@ impl Proxy {
         Ok(())
     }
 
-    /// Writes what is read of the client. Whether it is what came.
+    /// Writes what is read of the client, and reads the parameters of an execution.
     ///
-    /// What a reader refuses goes on as it came: the session knows its kind, and the other side answers it.
+    /// What a reader refuses goes on as it came: the observer knows its kind, and the other side answers it.
     fn client_as_read(
         &self,
         kind: Kind,
         payload: &[u8],
         written: &mut Vec<u8>,
-    ) -> Result<bool, AllocError> {
-        match client_packet(self.alloc, self.session.agreed(), kind, payload) {
-            Ok(packet) => write_client(self.alloc, &packet, payload, written),
-            Err(_) => Ok(false),
+    ) -> Result<Passed, AllocError> {
+        let read: Result<ClientRecord<'_, '_>, FaultOf<'_>> = self
+            .observer
+            .client_packet(kind, payload);
+        match read {
+            Ok(ClientRecord::Packet(packet)) => Ok(Passed {
+                is_as_read: write_client(self.alloc, &packet, payload, written)?,
+                values: 0,
+            }),
+            Ok(ClientRecord::Execution(_head, params)) => Ok(Passed {
+                is_as_read: self.execution_as_read(kind, payload, written)?,
+                values: params_of(params),
+            }),
+            Err(_) => Ok(Passed {
+                is_as_read: false,
+                values: 0,
+            }),
         }
     }
 
-    /// Writes what is read of the server. Whether it is what came.
-    ///
-    /// No value of a row is read, so that no column is kept. Who reads them passes the columns in the context.
-    fn server_as_read(
+    /// Writes an execution, by its record as a command.
+    fn execution_as_read(
         &self,
         kind: Kind,
         payload: &[u8],
         written: &mut Vec<u8>,
     ) -> Result<bool, AllocError> {
-        let agreed = self.session.agreed();
-        let context = ReadContext::<Column> {
-            agreed,
-            column_count: 0,
-            columns: &[],
-            semi_sync: false,
-        };
-        let capabilities = match agreed {
-            Some(agreed) => agreed.mysql,
-            None => CapabilityFlags::from_bits_retain(0),
-        };
-        match server_packet(self.alloc, &context, kind, payload) {
-            Ok(packet) => write_server(self.alloc, capabilities, &packet, payload, written),
+        match client_packet(self.alloc, self.observer.agreed(), kind, payload) {
+            Ok(packet) => write_client(self.alloc, &packet, payload, written),
             Err(_) => Ok(false),
         }
     }
+
+    /// Writes what is read of the server, and reads the values of a row, whose columns the observer knows.
+    fn server_as_read(
+        &self,
+        kind: Kind,
+        payload: &[u8],
+        written: &mut Vec<u8>,
+    ) -> Result<Passed, AllocError> {
+        let capabilities = match self.observer.agreed() {
+            Some(agreed) => agreed.mysql,
+            None => CapabilityFlags::from_bits_retain(0),
+        };
+        let read: Result<ServerRecord<'_, '_>, FaultOf<'_>> = self
+            .observer
+            .server_packet(kind, payload);
+        match read {
+            Ok(ServerRecord::Packet(packet)) => Ok(Passed {
+                is_as_read: write_server(self.alloc, capabilities, &packet, payload, written)?,
+                values: values_of(packet),
+            }),
+            Ok(ServerRecord::Untyped(_bytes)) => Ok(Passed {
+                is_as_read: false,
+                values: 0,
+            }),
+            Err(_) => Ok(Passed {
+                is_as_read: false,
+                values: 0,
+            }),
+        }
+    }
+}
+
+/// How many values of a row can be read. Who looks at them, as a rule of a firewall does, takes each one here.
+fn values_of(packet: ServerPacket<'_, '_, RowColumn>) -> u64 {
+    match packet {
+        ServerPacket::TextRow(row) => text_values_of(row),
+        ServerPacket::BinaryRow(row) => binary_values_of(row),
+        _other => 0,
+    }
+}
+
+/// The values of a row of text, up to the first that can't be read.
+fn text_values_of(row: TextRowView<'_>) -> u64 {
+    let mut row = row;
+    let mut count: u64 = 0;
+    for _ in 0..row.left() {
+        let Ok(Some(_value)) = row.next_value() else {
+            break;
+        };
+        count = count.saturating_add(1);
+    }
+    count
+}
+
+/// The values of a binary row, up to the first that can't be read.
+fn binary_values_of(row: BinaryRowView<'_, '_, ServerSide, RowColumn>) -> u64 {
+    let mut row = row;
+    let mut count: u64 = 0;
+    for _ in 0..row.left() {
+        let Ok(Some(_value)) = row.next_value() else {
+            break;
+        };
+        count = count.saturating_add(1);
+    }
+    count
+}
+
+/// The parameters of an execution, up to the first that can't be read.
+fn params_of(params: ExecuteParamsView<'_, '_>) -> u64 {
+    let mut params = params;
+    let mut count: u64 = 0;
+    for _ in 0..params.left() {
+        let Ok(Some(_param)) = params.next_param() else {
+            break;
+        };
+        count = count.saturating_add(1);
+    }
+    count
 }
 
 /// Writes a record, where its writer writes the bytes that came.
@@ -196,7 +301,7 @@ fn write_client(
 fn write_server(
     alloc: Global,
     capabilities: CapabilityFlags,
-    packet: &ServerPacket<'_, '_, Column>,
+    packet: &ServerPacket<'_, '_, RowColumn>,
     payload: &[u8],
     written: &mut Vec<u8>,
 ) -> Result<bool, AllocError> {

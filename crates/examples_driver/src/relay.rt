@@ -23,7 +23,10 @@ pub fn relay(rt: &HostRuntime) -> Result<()> {
         let line = line?;
         pass(rt, &mut proxy, line.as_str())?;
     }
-    Ok(eprintln!(rt; "as read: {}, as sent: {}", proxy.as_read, proxy.as_sent)?)
+    Ok(eprintln!(rt;
+        "values: {}, as read: {}, as sent: {}",
+        proxy.values, proxy.as_read, proxy.as_sent
+    )?)
 }
 
 fn pass(rt: &HostRuntime, proxy: &mut Proxy, line: &str) -> Result<()> {

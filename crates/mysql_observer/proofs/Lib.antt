@@ -1,1 +1,10 @@
 pub mod Found
+pub mod Refused
+pub mod Served
+pub mod Known
+pub mod Ordered
+pub mod InOrder
+pub mod Orderly
+pub mod OfSession
+pub mod Once
+pub mod Chain

@@ -2,3 +2,9 @@ pub mod Context
 pub mod Server
 pub mod Client
 pub mod Read
+pub mod PacketContext
+pub mod Event
+pub mod Tracked
+pub mod Observed
+pub mod Order
+pub mod Records

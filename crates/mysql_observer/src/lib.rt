@@ -26,13 +26,26 @@
 
 mod client;
 mod client_reader;
+mod event;
+mod execution;
 pub mod laws;
+mod limits;
+mod observed_packet;
+mod observer;
+mod packets;
+mod params;
 mod read_context;
+mod record;
 mod server;
 mod server_reader;
+mod tracked;
 
 pub use client::ClientPacket;
 pub use client_reader::{client_packet, read_client_packet};
+pub use limits::ObserverLimits;
+pub use observed_packet::ObservedPacket;
+pub use observer::Observer;
 pub use read_context::ReadContext;
+pub use record::{ClientRecord, ServerRecord};
 pub use server::ServerPacket;
 pub use server_reader::{read_server_packet, server_packet};

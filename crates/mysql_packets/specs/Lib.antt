@@ -246,6 +246,12 @@ pub use Rattle.mysql_observer.specs.Client as ClientPacket
 pub use Rattle.mysql_observer.specs.Context as ReadContext
 pub use Rattle.mysql_observer.specs.Server as ServerPacket
 pub use Rattle.mysql_observer.specs.Read as PacketRead
+pub use Rattle.mysql_observer.specs.Event as ObservedEvent
+pub use Rattle.mysql_observer.specs.Observed
+pub use Rattle.mysql_observer.specs.Order as ObservedOrder
+pub use Rattle.mysql_observer.specs.PacketContext
+pub use Rattle.mysql_observer.specs.Records as ObservedRecords
+pub use Rattle.mysql_observer.specs.Tracked
 pub use Rattle.mysql_statements.specs.After as StatementsAfter
 pub use Rattle.mysql_statements.specs.Binding
 pub use Rattle.mysql_statements.specs.Bounds

@@ -1,6 +1,7 @@
-//! What the packets of a conversation hold, once it is found of which kind they are.
+//! What the packets of a conversation hold: of a connection that is observed, and of packets whose kind is known.
 
 pub use mysql_observer::{
-    ClientPacket, ReadContext, ServerPacket, client_packet, read_client_packet, read_server_packet,
+    ClientPacket, ClientRecord, ObservedPacket, Observer, ObserverLimits, ReadContext,
+    ServerPacket, ServerRecord, client_packet, read_client_packet, read_server_packet,
     server_packet,
 };

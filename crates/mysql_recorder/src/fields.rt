@@ -1,10 +1,11 @@
 //! What a packet says, field by field.
 
 use crate::client_fields::client_fields;
-use crate::prepared::append_params;
+use crate::event::has_header;
+use crate::prepared::{append_params, is_execution};
 use crate::server_fields::server_fields;
 use crate::values::fault_name;
-use mysql_conversation::Kind;
+use mysql_conversation::{Format, Kind};
 use mysql_fields::{Field, command_name};
 use mysql_observer::{ReadContext, client_packet, server_packet};
 use mysql_replies::SessionCapabilities;
@@ -37,13 +38,27 @@ pub(crate) fn append_client<'p>(
         Ok(read) => client_fields(read, fields)?,
         Err(fault) => fields.push(Field::word("refused", fault_name(fault)))?,
     }
-    match (agreed, statement) {
-        (Some(agreed), Some(statement)) => append_params(alloc, agreed, statement, payload, fields),
-        _ => Ok(()),
+    let Some(agreed) = agreed else {
+        return Ok(());
+    };
+    if is_execution(kind) {
+        append_params(alloc, agreed, statement, payload, fields)
+    } else {
+        Ok(())
     }
 }
 
-/// Appends the fields of a packet of the server. The values of a row of text are so many, those of a binary row of these columns.
+/// The columns that a packet is read under: of no binary row none; of one whose columns aren't known there are none to read it under.
+fn columns_for(kind: Kind, columns: Option<&[RowColumn]>) -> Option<&[RowColumn]> {
+    if kind == Kind::Row(Format::Binary) {
+        columns
+    } else {
+        Some(&[])
+    }
+}
+
+/// Appends the fields of a packet of the server. The values of a row of text are so many, those of a binary row of these columns; where they
+/// aren't known, it says so.
 pub(crate) fn append_server<'p>(
     alloc: Global,
     agreed: Option<SessionCapabilities>,
@@ -53,12 +68,14 @@ pub(crate) fn append_server<'p>(
     payload: &'p [u8],
     fields: &mut Vec<Field<'p>>,
 ) -> Result<(), AllocError> {
-    let columns: &[RowColumn] = columns.unwrap_or(&[]);
+    let Some(columns) = columns_for(kind, columns) else {
+        return Ok(fields.push(Field::word("columns", "unknown"))?);
+    };
     let context = ReadContext {
         agreed,
         column_count,
         columns,
-        semi_sync: false,
+        semi_sync: kind == Kind::BinlogEvent && has_header(payload),
     };
     match server_packet(alloc, &context, kind, payload) {
         Ok(mut read) => server_fields(alloc, &mut read, fields),

@@ -148,7 +148,7 @@ impl Packets {
         self.followed.take_up(agreed);
     }
 
-    /// The same after a loss: which answers the commands have that wait was not seen.
+    /// Goes on at the next command after a loss, under what both sides agreed on: nothing is known of statements.
     pub(crate) fn lose(&mut self, agreed: SessionCapabilities) -> Result<(), AllocError>
         ensures taken_up { IsTakenUp self.new.followed agreed [] self.old.followed.last }
         ensures layout { self.new.layout ≡ self.old.layout }
@@ -158,7 +158,8 @@ impl Packets {
     {
         self.followed.take_up(agreed);
         self.unheard = Unheard::none();
-        self.prepared.serve_all(agreed)
+        self.prepared.lose();
+        Ok(())
     }
 
     /// Goes on after a command, the last that came: what is lost is the answer to the one before it.
@@ -175,7 +176,8 @@ impl Packets {
     {
         self.followed.take_up_after(agreed, command.as_slice());
         self.unheard = Unheard::none();
-        self.prepared.serve_all(agreed)
+        self.prepared.lose();
+        Ok(())
     }
 
     /// Appends a remark on a side's stream. Where the client's is taken up, an exchange begins.
@@ -284,6 +286,7 @@ impl Packets {
         }
         match packet.side {
             Side::Client => {
+                self.serve(packet, is_early)?;
                 self.show_client(packet, kind, is_early, out)?;
                 self.keep(packet, kind, is_early)
             }
@@ -291,6 +294,22 @@ impl Packets {
                 self.keep(packet, kind, false)?;
                 self.show_server(packet, kind, out)
             }
+        }
+    }
+
+    /// Takes the commands that waited, up to the exchange of a packet that doesn't come early.
+    fn serve(&mut self, packet: &Packet<'_>, is_early: bool) -> Result<(), AllocError>
+        ensures followed { self.new.followed ≡ self.old.followed }
+        ensures layout { self.new.layout ≡ self.old.layout }
+        ensures sums { self.new.sums ≡ self.old.sums }
+    {
+        let Some(agreed) = self.followed.agreed() else {
+            return Ok(());
+        };
+        if is_early {
+            Ok(())
+        } else {
+            self.prepared.serve(agreed, packet.exchange)
         }
     }
 
@@ -388,7 +407,7 @@ impl Packets {
         ensures ok { OnOk result (Appends self.now.layout (entry_as packet.now) (string_bytes out.old) (string_bytes out.new)) }
     {
         let agreed = self.followed.agreed();
-        let columns = self.prepared.columns();
+        let columns = self.prepared.columns(packet.exchange);
         let mut fields = Vec::new(self.alloc);
         append_server(
             self.alloc,

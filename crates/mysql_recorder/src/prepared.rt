@@ -1,6 +1,7 @@
 //! The prepared statements of a recording.
 
 use crate::command_fields::append_attributes;
+use crate::result_columns::ResultColumns;
 use crate::values::fault_name;
 use mysql_conversation::Kind;
 use mysql_fields::Field;
@@ -16,32 +17,65 @@ use std::alloc::{AllocError, Global};
 /// The first byte of `COM_STMT_EXECUTE`.
 const EXECUTE: u8 = 0x17;
 
+/// The first byte of `COM_STMT_BULK_EXECUTE`.
+const BULK_EXECUTE: u8 = 0xfa;
+
+/// How many bytes stand before the parameters of `COM_STMT_EXECUTE`.
+const EXECUTE_HEAD: usize = 10;
+
 /// How many statements are kept, and how many types of their parameters and columns in all.
 const LIMITS: StatementLimits = StatementLimits {
     statements: 4096,
     types: 262_144,
 };
 
-/// How many bytes of a command are held that comes early.
+/// How many bytes of an execution are held that comes early.
 const EARLY_BYTES: usize = 65_536;
 
-/// The prepared statements, and the commands that wait for the server to come to them.
+/// How many bytes of another command say what it does with a statement: those of `COM_STMT_SEND_LONG_DATA` before its data.
+const FRONT: usize = 7;
+
+/// Whether it is `COM_STMT_EXECUTE`.
+pub(crate) fn is_execution(kind: Kind) -> bool {
+    kind == Kind::Command(EXECUTE)
+}
+
+/// The bytes of an early command that say what it does with a statement: of an execution all, since its types may stand anywhere.
+fn front_of(payload: &[u8]) -> &[u8] {
+    let code = match payload.first() {
+        Some(code) => *code,
+        None => 0,
+    };
+    if code == EXECUTE || code == BULK_EXECUTE {
+        payload
+    } else {
+        &payload[..payload.len().min(FRONT)]
+    }
+}
+
+/// The prepared statements, the commands that wait for the server to come to them, and the columns of the result that comes.
 #[derive(Drop)]
 pub(crate) struct Prepared {
     statements: Statements,
     early: EarlyCommands,
+    /// The exchange of the last early command that was not held: up to it nothing is known of statements.
+    lost: Option<u64>,
+    result: ResultColumns,
 }
 
 impl Prepared {
     /// None is prepared. As many commands may wait.
     pub(crate) fn new(alloc: Global, waiting: usize) -> Self {
+        // (between two packets of the server, commands that no longer wait for their turn are held until the next one)
         let limits = EarlyLimits {
-            commands: waiting,
+            commands: waiting.saturating_mul(2),
             bytes: EARLY_BYTES,
         };
         Prepared {
             statements: Statements::new(alloc, LIMITS),
             early: EarlyCommands::new(alloc, limits),
+            lost: None,
+            result: ResultColumns::new(alloc, LIMITS.types),
         }
     }
 
@@ -54,26 +88,71 @@ impl Prepared {
         payload: &[u8],
     ) -> Result<(), AllocError> {
         self.serve(agreed, exchange)?;
+        self.take_result(agreed, kind, exchange, payload)?;
+        if self.is_lost(exchange) {
+            return Ok(());
+        }
         self.statements.take(agreed, kind, payload)
     }
 
-    /// Holds a command that comes early. One that is too long, or one too many, is lost: what it says of statements isn't known.
+    /// Takes what a packet says of the columns of a result.
+    fn take_result(
+        &mut self,
+        agreed: SessionCapabilities,
+        kind: Kind,
+        exchange: u64,
+        payload: &[u8],
+    ) -> Result<(), AllocError> {
+        match kind {
+            Kind::ColumnCount(count, follow) => {
+                self.result.begin(exchange, count, follow);
+                Ok(())
+            }
+            Kind::Column => self.result.define(agreed, exchange, payload),
+            _ => Ok(()),
+        }
+    }
+
+    /// Whether nothing is known of statements in this exchange.
+    fn is_lost(&self, exchange: u64) -> bool {
+        match self.lost {
+            Some(last) => exchange <= last,
+            None => false,
+        }
+    }
+
+    /// Holds a command that comes early. Where an execution is too long, nothing is known of statements until the server is past it.
     pub(crate) fn hold(&mut self, exchange: u64, payload: &[u8]) -> Result<(), AllocError> {
-        let _is_held = self.early.hold(exchange, payload)?;
+        if !self.early.hold(exchange, front_of(payload))? {
+            self.statements.clear();
+            self.lost = Some(exchange);
+        }
         Ok(())
     }
 
-    /// The server has come to all commands that wait: which answers they have was not seen.
-    pub(crate) fn serve_all(&mut self, agreed: SessionCapabilities) -> Result<(), AllocError> {
-        self.serve(agreed, u64::MAX)
+    /// Forgets all statements, and the commands that wait, after a loss: which types were given, which data was sent ahead and what was
+    /// answered isn't known.
+    pub(crate) fn lose(&mut self) {
+        self.result.forget();
+        self.statements.clear();
+        for _ in 0..self.early.len() {
+            let _command = self.early.serve(u64::MAX);
+        }
     }
 
     /// Takes the commands that wait, up to an exchange.
-    fn serve(&mut self, agreed: SessionCapabilities, exchange: u64) -> Result<(), AllocError> {
+    pub(crate) fn serve(
+        &mut self,
+        agreed: SessionCapabilities,
+        exchange: u64,
+    ) -> Result<(), AllocError> {
         for _ in 0..self.early.len() {
             let Some(command) = self.early.serve(exchange) else {
                 break;
             };
+            if self.is_lost(command.number()) {
+                continue;
+            }
             if let Some(code) = command.payload().first() {
                 let kind = Kind::Command(*code);
                 self.statements.take(agreed, kind, command.payload())?;
@@ -82,14 +161,18 @@ impl Prepared {
         Ok(())
     }
 
-    /// The columns of the binary rows that come: none where they aren't known.
-    pub(crate) fn columns(&self) -> Option<&[RowColumn]> {
-        self.statements.columns_of_rows()
+    /// The columns of the binary rows of an exchange, where they are known: those that the definitions of the result say; where these were
+    /// left out, those of its statement.
+    pub(crate) fn columns(&self, exchange: u64) -> Option<&[RowColumn]> {
+        match self.result.columns(exchange) {
+            Some(columns) => Some(columns),
+            None => self.statements.columns_of_rows(),
+        }
     }
 
     /// The statement that a command executes, where it is known.
     pub(crate) fn executed(&self, kind: Kind, payload: &[u8]) -> Option<&Statement> {
-        if kind != Kind::Command(EXECUTE) {
+        if !is_execution(kind) {
             return None;
         }
         match payload {
@@ -101,19 +184,31 @@ impl Prepared {
     }
 }
 
-/// Appends the parameters and the attributes of an execution of the statement, up to the first that can't be read.
+/// Appends the parameters and the attributes of an execution, up to the first that can't be read. Where its statement or their types aren't
+/// known, it says so.
 pub(crate) fn append_params<'p>(
     alloc: Global,
     agreed: SessionCapabilities,
-    statement: &Statement,
+    statement: Option<&Statement>,
     payload: &'p [u8],
     fields: &mut Vec<Field<'p>>,
 ) -> Result<(), AllocError> {
+    let Some(statement) = statement else {
+        return append_unknown(payload, fields);
+    };
     match view_of(alloc, agreed, statement, payload) {
         Ok(Some(view)) => append_view(view, fields),
-        Ok(None) => Ok(()),
+        Ok(None) => append_unknown(payload, fields),
         Err(fault) => Ok(fields.push(Field::word("refused", fault_name(&fault)))?),
     }
+}
+
+/// Says that the types of the parameters aren't known, where there are any.
+fn append_unknown<'p>(payload: &[u8], fields: &mut Vec<Field<'p>>) -> Result<(), AllocError> {
+    if payload.len() > EXECUTE_HEAD {
+        fields.push(Field::word("parameter_types", "unknown"))?;
+    }
+    Ok(())
 }
 
 /// The parameters of an execution, unless their types aren't known.

@@ -40,7 +40,7 @@ pub(crate) fn server_fields<'p, C: TypedColumn>(
         ServerPacket::Column(column) => append_column(column, fields),
         ServerPacket::FieldListColumn(column) => append_field_list_column(column, fields),
         ServerPacket::Eof(ok) => add(end_fields(alloc, ok)?, fields),
-        ServerPacket::OkTerminator(ok) => append_ok(alloc, ok, fields),
+        ServerPacket::OkTerminator(ok) => append_terminator(ok, fields),
         ServerPacket::TextRow(row) => append_text_row(row, fields),
         ServerPacket::BinaryRow(row) => append_row(row, fields),
         ServerPacket::PrepareOk(statement) => add(statement_fields(alloc, statement)?, fields),
@@ -89,6 +89,18 @@ fn append_ok<'p>(
     fields: &mut Vec<Field<'p>>,
 ) -> Result<(), AllocError> {
     add(ok_fields(alloc, ok)?, fields)?;
+    append_changes(ok, fields)
+}
+
+/// What the end of a result says. Its numbers of rows and of the last inserted one are passed over, as clients do (`read_ok_ex` in MySQL's
+/// sql-common/client.cc).
+fn append_terminator<'p>(
+    ok: &OkPacketRef<'p>,
+    fields: &mut Vec<Field<'p>>,
+) -> Result<(), AllocError> {
+    fields.push(Field::number("status_flags", u64::from(ok.status_flags().bits())))?;
+    fields.push(Field::number("warnings", u64::from(ok.warnings())))?;
+    fields.push(Field::optional_bytes("info", ok.info()))?;
     append_changes(ok, fields)
 }
 
@@ -153,7 +165,7 @@ fn append_field_list_column<'p>(
     Ok(fields.push(Field::value("default_value", value))?)
 }
 
-/// An event is shown by its first 19 bytes, the header that all have.
+/// How many bytes an event has, without the header of semi-synchronous replication.
 fn append_event<'p>(
     event: &BinlogStreamEvent<'p>,
     fields: &mut Vec<Field<'p>>,

@@ -78,7 +78,7 @@ fn sign_of(side: Side) -> &'static str {
 }
 
 /// Adds a packet's kind, whose name is found by its place, and what the kind tells.
-fn show_kind(out: &mut Out, side: Side, kind: Kind) {
+pub(crate) fn show_kind(out: &mut Out, side: Side, kind: Kind) {
     out.word(sign_of(side));
     if let Some(name) = KindName::ALL.get(usize::from(kind.name().index())) {
         out.push(name.as_str());

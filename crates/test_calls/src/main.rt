@@ -7,7 +7,7 @@
 //! After `fails` it is what becomes of such a call on readers and writers that fail, and after `endless` on an input without
 //! end. `tour` makes the calls of the README's tour, `kind` reads an OK packet of a kind that stands here, and `gtid_sets` reads the
 //! sets of GTIDs that an OK packet tells. `session`, `conversation`, `payloads` and `agreed` tell packets apart, `packets` reads
-//! them, and `statements` reads the parameters of executions and the values of rows.
+//! them, `statements` reads the parameters of executions and the values of rows, and `observer` reads all of a connection.
 #![tactic(auto)]
 
 mod call;
@@ -15,6 +15,7 @@ mod conversation;
 mod fails;
 mod gtid_sets;
 mod kind;
+mod observer;
 mod packets;
 mod statements;
 mod tour;
@@ -38,6 +39,7 @@ impl Answers for Program {
             Some(("payloads", _)) => conversation::payloads(out, request),
             Some(("agreed", _)) => conversation::agreed(out, request),
             Some(("statements", _)) => statements::statements(out, request),
+            Some(("observer", _)) => observer::observer(out, request),
             Some(("gtid_sets", _)) => gtid_sets::gtid_sets(out, request),
             None if request.line == "tour" => tour::tour(out, request.alloc),
             _ => call::ran(out, request).end(out),

@@ -31,7 +31,7 @@ struct Watcher {
 }
 
 /// Adds a value.
-fn show_value(out: &mut Out, value: ValueRef<'_>) {
+pub(crate) fn show_value(out: &mut Out, value: ValueRef<'_>) {
     match value {
         ValueRef::NULL => out.push("NULL"),
         ValueRef::Bytes(bytes) => show(out, bytes),
@@ -42,7 +42,7 @@ fn show_value(out: &mut Out, value: ValueRef<'_>) {
 }
 
 /// Adds bytes to the last word.
-fn show(out: &mut Out, bytes: &[u8]) {
+pub(crate) fn show(out: &mut Out, bytes: &[u8]) {
     out.push_made(hex::encode(out.alloc(), bytes));
 }
 

@@ -1,0 +1,243 @@
+-- The packets of a pipeline are orderly: a command is the next one, and another packet is of the exchange at which the server is.
+use Rattle.std.proofs.Common.{◌≡◌, ◌⊎◌, ℕ, ◌+◌, ◌<◌, ◌≤◌, max, Bool, true, false, cond, ◌&&◌, List, [], ◌∷◌, ◌++◌, inl, inr, Option, Some, None, refl, sym, ap, subst, ◌∙◌, arith}
+use Rattle.std.proofs.lemmas.Bool.{cases_Bool}
+use Rattle.mysql_conversation.specs.Agreements.{Agreed}
+use Rattle.mysql_conversation.specs.Conversation.{commands, answering}
+use Rattle.mysql_conversation.specs.Machine.{take_step, rests, listens, is_due}
+use Rattle.mysql_conversation.specs.Pipelined.{Numbered, is_client, is_command}
+use Rattle.mysql_conversation.specs.Standing.{Standing, standing, known, command_of, kind_of, begin, wait, waits, settle, push, pipe_step, Steps, PipeRun}
+use Rattle.mysql_conversation.specs.declared.kind.Kind.{Kind}
+use Rattle.mysql_conversation.specs.declared.kind.Kind.TheVariants as kind
+use Rattle.mysql_conversation.specs.declared.kind.Side.TheVariants.{Client, Server}
+use Rattle.mysql_conversation.specs.declared.state.State.{State}
+use Rattle.mysql_conversation.specs.declared.state.State.TheVariants as state
+use Rattle.mysql_conversation.specs.declared.state.Answer.{Answer}
+use Rattle.mysql_conversation.specs.declared.state.Command.{Command}
+use Rattle.mysql_conversation.specs.Payloads.{asks_cursor}
+use Rattle.mysql_conversation.proofs.Classes.{some_is}
+use Rattle.mysql_conversation.specs.declared.pipeline.Waiting.{Waiting}
+use Rattle.mysql_conversation.proofs.PipeSteps.{Over, Began, after, outcome, side_is, not_both, settle_last, settle_listens, server_back, client_rest, client_turn, client_due, loaded_back, aside_due, command_back, by_client}
+use Rattle.mysql_conversation.proofs.States.{Turn, turn, rests_is}
+use Rattle.mysql_conversation.proofs.Turns.{kind_is_command, begin_listens}
+use Rattle.mysql_conversation.specs.Pipelined.{IsPipelined}
+use Rattle.mysql_conversation.specs.Standing.{start}
+use Rattle.mysql_conversation.specs.declared.kind.Opening.{Opening}
+use Rattle.mysql_conversation.proofs.Runs.{join, once}
+use Rattle.mysql_conversation.proofs.Stood.{pipelined_runs}
+use Rattle.mysql_conversation.proofs.Stood.{one_standing}
+use Rattle.mysql_observer.specs.Order.{IsEarlyIn, AreEarly, Step, items_of, IsCommand, IsNext, at_after, AreOrderly}
+
+-- the numbers of the commands that wait ascend, from above the exchange that runs up to the last command
+abbrev pub AscendTo : ℕ → List Waiting → ℕ → Type 0
+AscendTo i [] l = i ≤ l
+AscendTo i (n ∷ q) l = (i < n.number) × AscendTo n.number q l
+
+ascend_up : (i l : ℕ) (q : List Waiting) → AscendTo i q l → i ≤ l
+ascend_up i l [] h = h
+ascend_up i l (n ∷ q) h = let k = ascend_up n.number l q h.1 in omega (arith, h.0, k)
+
+ascend_more : (i l : ℕ) (q : List Waiting) (c : Command) → AscendTo i q l → AscendTo i (q ++ wait c (l + 1) ∷ []) (l + 1)
+ascend_more i l [] c h = (omega (arith, h), omega arith)
+ascend_more i l (n ∷ q) c h = (h.0, ascend_more n.number l q c h.1)
+
+settle_up : (m : State) (i l : ℕ) (q : List Waiting) → AscendTo i q l → (i ≤ (settle m i l q).number) × AscendTo (settle m i l q).number (settle m i l q).waiting l
+settle_up m i l [] h = (omega arith, h)
+settle_up m i l (n ∷ q) h = elim (cases_Bool (rests m)) [
+  | inl e ↦ rw e (let r = settle_up (begin n.command) n.number l q h.1 in let k = r.0 in let j = h.0 in (omega (arith, k, j), r.1))
+  | inr e ↦ rw e (omega arith, h)
+]
+
+quiet_at : (m : State) → Turn m → is_due m ≡ false → rests m ≡ false → listens m ≡ true
+quiet_at m (inl e) d r = (let k : rests m ≡ true = ap rests e in absurd cc)
+quiet_at m (inr (inl a)) d r = a.0
+quiet_at m (inr (inr a)) d r = absurd cc
+
+-- where the server is not to speak, no command waits
+settle_quiet : (m : State) (i l : ℕ) (q : List Waiting) → (listens m && waits q) ≡ false → is_due (settle m i l q).state ≡ false → (settle m i l q).waiting ≡ []
+settle_quiet m i l [] h d = refl
+settle_quiet m i l (n ∷ q) h d = elim (cases_Bool (rests m)) [
+  | inl e ↦ (let s : settle m i l (n ∷ q) ≡ settle (begin n.command) n.number l q = rw e refl in
+      ap (λ (v : Standing). v.waiting) s ∙ settle_quiet (begin n.command) n.number l q (rw (begin_listens n.command) refl) (sym (ap (λ (v : Standing). is_due v.state) s) ∙ d))
+  | inr e ↦ (let s : settle m i l (n ∷ q) ≡ standing m i l (n ∷ q) = rw e refl in
+      let no : listens m ≡ false = not_both (listens m) true h refl in
+      let yes : listens m ≡ true = quiet_at m (turn m) (sym (ap (λ (v : Standing). is_due v.state) s) ∙ d) e in absurd cc)
+]
+
+no_waits : (q : List Waiting) → waits q ≡ false → q ≡ []
+no_waits [] h = refl
+no_waits (n ∷ q) h = absurd cc
+
+-- the server is at an exchange, not before one of which a packet came
+pub record Stands (at : ℕ) (w : Standing) : Type 0 where
+  pub from : at ≤ w.number
+  pub ascend : AscendTo w.number w.waiting w.last
+  pub quiet : is_due w.state ≡ false → w.waiting ≡ []
+
+stands_on : (at : ℕ) (w : Standing) (m : State) (v : Standing) → Stands at w → standing m w.number w.last w.waiting ≡ v → w.waiting ≡ [] → Stands w.number v × (v.last ≡ w.last)
+stands_on at w m v h e q =
+    (subst (λ s. Stands w.number s) e (record { from = omega arith; ascend = h.ascend; quiet = λ d. q }), sym (ap (λ (s : Standing). s.last) e))
+
+-- ---- a packet that is no command
+
+-- it is of the exchange at which the server is
+abbrev Turned : Standing → ℕ → Standing → Type 0
+Turned w n v = (w.number ≡ n) × Stands w.number v × (v.last ≡ w.last)
+
+turned_by_client : (d : Agreed) (at : ℕ) (w : Standing) (x : Numbered) (v : Standing) → Turn w.state → Stands at w → commands x.packet.kind ≡ false
+    → pipe_step d w Client x.packet.payload ≡ outcome x.packet.kind x.number v → Turned w x.number v
+turned_by_client d at w x v (inl r) h c e =
+    let b = client_rest d w x.packet.payload x.packet.kind x.number v r e in
+    let yes : commands x.packet.kind ≡ true = ap commands (sym b.2) ∙ kind_is_command b.0 in absurd cc
+turned_by_client d at w x v (inr (inl a)) h c e =
+    let b = loaded_back d w x.packet.payload x.packet.kind x.number v (take_step d w.state Client x.packet.payload) a.1 refl (client_turn d w x.packet.payload (outcome x.packet.kind x.number v) a.2 e) in
+    let r = stands_on at w b.0 v h b.3 (h.quiet a.2) in (b.2, r.0, r.1)
+turned_by_client d at w x v (inr (inr a)) h c e =
+    let b = aside_due d w x.packet.payload x.packet.kind x.number v (take_step d w.state Client x.packet.payload) a.0 refl c (client_due d w x.packet.payload (outcome x.packet.kind x.number v) a.0 e) in
+    let r = stands_on at w b.0 v h b.4 (no_waits w.waiting b.2) in (b.3, r.0, r.1)
+
+turned_by_server : (d : Agreed) (at : ℕ) (w : Standing) (x : Numbered) (v : Standing) → Stands at w → x.packet.from ≡ Server → Steps d w x v → Turned w x.number v
+turned_by_server d at w x v h f e =
+    let b = server_back d w x v f e in
+    let up = settle_up b.0 w.number w.last w.waiting h.ascend in
+    let last : (settle b.0 w.number w.last w.waiting).last ≡ w.last = settle_last b.0 w.number w.last w.waiting in (
+      b.3,
+      subst (λ s. Stands w.number s) b.4 (record {
+        from = up.0;
+        ascend = subst (λ l. AscendTo (settle b.0 w.number w.last w.waiting).number (settle b.0 w.number w.last w.waiting).waiting l) (sym last) up.1;
+        quiet = settle_quiet b.0 w.number w.last w.waiting b.2;
+      }),
+      sym (ap (λ (s : Standing). s.last) b.4) ∙ last,
+    )
+
+no_command : (x : Numbered) → x.packet.from ≡ Client → is_command x.packet ≡ false → commands x.packet.kind ≡ false
+no_command x f c = sym (ap (λ s. is_client s && commands x.packet.kind) f) ∙ c
+
+turned : (d : Agreed) (at : ℕ) (w : Standing) (x : Numbered) (v : Standing) → Stands at w → is_command x.packet ≡ false → Steps d w x v → Turned w x.number v
+turned d at w x v h c e = elim (side_is x.packet.from) [
+  | inl f ↦ turned_by_client d at w x v (turn w.state) h (no_command x f c) (by_client d w x v f e)
+  | inr f ↦ turned_by_server d at w x v h f e
+]
+
+-- ---- a command
+
+known_code : (code : ℕ) (r : Option Answer) (c : Command) → known code r ≡ Some c → code ≡ c.code
+known_code code None c e = absurd cc
+known_code code (Some a) c e = ap (λ (o : Command). o.code) (some_is e)
+
+command_in : (p : List ℕ) (c : Command) (k : Kind) → command_of p ≡ Some c → kind_of c ≡ k → (code : ℕ) × (rest : List ℕ) × (p ≡ code ∷ rest) × (k ≡ kind.Command code)
+command_in [] c k e h = absurd cc
+command_in (code ∷ rest) c k e h = (code, rest, refl, sym h ∙ ap (λ n. kind.Command n) (sym (known_code code (answering code (asks_cursor (code ∷ rest))) c e)))
+
+-- the exchange of a command begins, or it waits
+begun_when : (b : Bool) (at : ℕ) (w : Standing) (c : Command) (v : Standing) → is_due w.state ≡ b → Stands at w
+    → cond b (push w c) (standing (begin c) (w.last + 1) (w.last + 1) w.waiting) ≡ v → Stands at v × (v.last ≡ w.last + 1)
+begun_when true at w c v d h e =
+    (subst (λ s. Stands at s) e (record { from = h.from; ascend = ascend_more w.number w.last w.waiting c h.ascend; quiet = λ n. absurd cc }), sym (ap (λ (s : Standing). s.last) e))
+begun_when false at w c v d h e =
+    let q = h.quiet d in
+    let up = ascend_up w.number w.last w.waiting h.ascend in
+    let from = h.from in (
+      subst (λ s. Stands at s) e (record {
+        from = omega (arith, up, from);
+        ascend = subst (λ l. AscendTo (w.last + 1) l (w.last + 1)) (sym q) (omega arith);
+        quiet = λ n. q;
+      }),
+      sym (ap (λ (s : Standing). s.last) e),
+    )
+
+-- in its turn it is of the exchange at which the server is then
+in_turn_stands : (at : ℕ) (w : Standing) (c : Command) (v : Standing) → Over w → after w c ≡ v → Stands (w.last + 1) v
+in_turn_stands at w c v o e =
+    let d : is_due w.state ≡ false = ap is_due o.0 in
+    let s : after w c ≡ standing (begin c) (w.last + 1) (w.last + 1) [] =
+    ap (λ b. cond b (push w c) (standing (begin c) (w.last + 1) (w.last + 1) w.waiting)) d ∙ ap (standing (begin c) (w.last + 1) (w.last + 1)) o.1 in
+    subst (λ t. Stands (w.last + 1) t) (sym s ∙ e) (record { from = omega arith; ascend = omega arith; quiet = λ n. refl })
+
+-- ---- each packet
+
+-- a packet, and whether it is a command that came early: then it is a command; else it is none, or nothing was left to be answered
+pub record IsFlagged (w : Standing) (s : Step) : Type 0 where
+  pub early : s.is_early ≡ true → is_command s.item.packet ≡ true
+  pub turn : s.is_early ≡ false → (is_command s.item.packet ≡ false) ⊎ Over w
+
+abbrev pub AreFlagged : Agreed → Standing → List Step → Standing → Type 0
+AreFlagged d w [] t = w ≡ t
+AreFlagged d w (s ∷ ss) t = (v : Standing) × Steps d w s.item v × IsFlagged w s × AreFlagged d v ss t
+
+-- it is the next, and how the server stands after it
+abbrev Follows : Bool → ℕ → Standing → Numbered → Standing → Type 0
+Follows b at w x v = IsNext b at w.last x × Stands (at_after b at x) v × (v.last ≡ max w.last x.number)
+
+follows_none : (d : Agreed) (at : ℕ) (w : Standing) (x : Numbered) (v : Standing) → Stands at w → is_command x.packet ≡ false → Steps d w x v → Follows false at w x v
+follows_none d at w x v h c e =
+    let r = turned d at w x v h c e in
+    let from = h.from in
+    let n = r.0 in
+    let up = ascend_up w.number w.last w.waiting h.ascend in
+    (omega (arith, from, n), subst (λ k. Stands k v) r.0 r.1, r.2 ∙ (omega (arith, up, n)))
+
+follows_command : (d : Agreed) (at : ℕ) (w : Standing) (x : Numbered) (v : Standing) → Stands at w → is_command x.packet ≡ true → Steps d w x v → Follows true at w x v
+follows_command d at w x v h c e =
+    let b = command_back d w x v c e in
+    let k = b.1.0 in
+    let n : x.number ≡ w.last + 1 = sym k.3 in
+    let r = begun_when (is_due w.state) at w k.0 v refl h k.4 in
+    ((n, command_in x.packet.payload k.0 x.packet.kind k.1 k.2), r.0, r.1 ∙ (omega (arith, n)))
+
+follows_turn : (d : Agreed) (at : ℕ) (w : Standing) (x : Numbered) (v : Standing) → Stands at w → Over w → is_command x.packet ≡ true → Steps d w x v → Follows false at w x v
+follows_turn d at w x v h o c e =
+    let b = command_back d w x v c e in
+    let k = b.1.0 in
+    let n : w.last + 1 ≡ x.number = k.3 in
+    let r = begun_when (is_due w.state) at w k.0 v refl h k.4 in
+    let from = h.from in
+    let up = ascend_up w.number w.last w.waiting h.ascend in
+    (omega (arith, from, up, n), subst (λ j. Stands j v) n (in_turn_stands at w k.0 v o k.4), r.1 ∙ (omega (arith, n)))
+
+follows_either : (command : Bool) (d : Agreed) (at : ℕ) (w : Standing) (x : Numbered) (v : Standing) → is_command x.packet ≡ command → Stands at w → Over w → Steps d w x v → Follows false at w x v
+follows_either true d at w x v c h o e = follows_turn d at w x v h o c e
+follows_either false d at w x v c h o e = follows_none d at w x v h c e
+
+follows : (b : Bool) (d : Agreed) (at : ℕ) (w : Standing) (x : Numbered) (v : Standing) → Stands at w → (b ≡ true → is_command x.packet ≡ true)
+    → (b ≡ false → (is_command x.packet ≡ false) ⊎ Over w) → Steps d w x v → Follows b at w x v
+follows true d at w x v h f t e = follows_command d at w x v h (f refl) e
+follows false d at w x v h f t e = elim (t refl) [
+  | inl c ↦ follows_none d at w x v h c e
+  | inr o ↦ follows_either (is_command x.packet) d at w x v refl h o e
+]
+
+pub are_orderly : (d : Agreed) (at last : ℕ) (w t : Standing) (steps : List Step) → Stands at w → w.last ≡ last → AreFlagged d w steps t → AreOrderly at last steps
+are_orderly d at last w t [] h l f = tt
+are_orderly d at last w t (s ∷ ss) h l f =
+    let r = follows s.is_early d at w s.item f.0 h f.2.early f.2.turn f.1 in
+    (subst (λ k. IsNext s.is_early at k s.item) l r.0, are_orderly d (at_after s.is_early at s.item) (max last s.item.number) f.0 t ss r.1 (r.2 ∙ ap (λ k. max k s.item.number) l) f.3)
+
+-- ---- by the grammar
+
+early_flag : (a : Agreed) (o : Opening) (b : Bool) (before : List Numbered) (x : Numbered) → IsEarlyIn a o b before x → b ≡ true → is_command x.packet ≡ true
+early_flag a o true before x h e = h.0
+early_flag a o false before x h e = absurd cc
+
+turn_flag : (a : Agreed) (o : Opening) (b : Bool) (before : List Numbered) (x : Numbered) (w : Standing) → IsEarlyIn a o b before x → (IsPipelined a o before → Over w)
+    → b ≡ false → (is_command x.packet ≡ false) ⊎ Over w
+turn_flag a o true before x w h f e = absurd cc
+turn_flag a o false before x w (inl c) f e = inl c
+turn_flag a o false before x w (inr p) f e = inr (f p)
+
+is_over : (a : Agreed) (o : Opening) (before : List Numbered) (w : Standing) → PipeRun a (start o) before w → IsPipelined a o before → Over w
+is_over a o before w run p =
+    let r = pipelined_runs a o before p in subst (λ t. Over t) (once (Steps a) (one_standing a) (start o) before r.0 w r.1 run) r.2
+
+flagged : (a : Agreed) (o : Opening) (before : List Numbered) (w t : Standing) (steps : List Step) → PipeRun a (start o) before w → PipeRun a w (items_of steps) t → AreEarly a o before steps
+    → AreFlagged a w steps t
+flagged a o before w t [] run r h = r
+flagged a o before w t (s ∷ ss) run r h = (
+  r.0,
+  r.1,
+  record { early = early_flag a o s.is_early before s.item h.0; turn = turn_flag a o s.is_early before s.item w h.0 (is_over a o before w run) },
+  flagged a o (before ++ s.item ∷ []) r.0 t ss (join (Steps a) (start o) before w (s.item ∷ []) r.0 run (r.0, r.1, refl)) r.2 h.1,
+)
+
+pub pipeline_orderly : (a : Agreed) (o : Opening) (steps : List Step) (t : Standing) → PipeRun a (start o) (items_of steps) t → AreEarly a o [] steps → AreOrderly 0 0 steps
+pipeline_orderly a o steps t r h =
+    are_orderly a 0 0 (start o) t steps (record { from = omega arith; ascend = omega arith; quiet = λ d. refl }) refl (flagged a o [] (start o) t steps refl r h)

@@ -1,0 +1,12 @@
+-- A refusal by a reader that takes no memory is that of the form.
+use Rattle.std.proofs.Common.{◌≡◌, ℕ, List, length, false, ap, refl, Err, ◌∙◌}
+use Rattle.mysql_wire.specs.Reading.{Reading, Faults}
+use Rattle.mysql_wire.specs.declared.fault.FaultOf.{FaultOf}
+use Rattle.mysql_wire.specs.declared.fault.FaultOf.TheVariants as fault
+use Rattle.mysql_observer.specs.Event.{Marks, header_in}
+
+pub header_fault : (n : ℕ) (e : FaultOf) (read : Reading Marks) → Faults false e read → header_in n read ≡ false
+header_fault n fault.UnexpectedEof read h = ap (header_in n) h
+header_fault n (fault.InvalidData text) read h = ap (header_in n) h
+header_fault n (fault.InvalidInput text) read h = ap (header_in n) h
+header_fault n fault.Memory read h = absurd cc

@@ -1,0 +1,53 @@
+-- What an observer was passed, what it knows, and the records that it reads.
+use Rattle.std.specs.Prelude.{◌≡◌, ◌≢◌, ◌⊎◌, ℕ, Bool, true, false, List, [], ◌∷◌, ◌++◌, Option, Some, None, Ok, IsTrue}
+use Rattle.mysql_conversation.specs.Agreements.{Agreed}
+use Rattle.mysql_conversation.specs.Pipelined.{Numbered}
+use Rattle.mysql_conversation.specs.Session as sessions
+use Rattle.mysql_conversation.specs.Session.{SessionTaken, IsLoggedInAmong}
+use Rattle.mysql_conversation.specs.declared.kind.Side.{Side}
+use Rattle.mysql_conversation.specs.declared.pipeline.Pipeline.{Pipeline}
+use Rattle.mysql_conversation.specs.declared.kind.Kind.{Kind}
+use Rattle.mysql_conversation.specs.declared.kind.Kind.TheVariants as kind
+use Rattle.mysql_conversation.specs.declared.kind.Format.TheVariants.{Binary}
+use Rattle.mysql_statements.specs.Table.{columns_of_rows}
+use Rattle.mysql_statements.specs.declared.row_column.RowColumn.{RowColumn}
+use Rattle.mysql_observer.specs.PacketContext.{IsEarly, counted, type_of, unsigned}
+use Rattle.mysql_observer.specs.Tracked.{Tracked, tracked_after, asks_memory}
+use Rattle.mysql_observer.specs.declared.observer.Observer.{Observer}
+
+-- these packets, of these kinds and exchanges, are what it was passed
+abbrev pub Observed : Observer → List Numbered → Type 0
+Observed o items = SessionTaken o.session items × (o.count ≡ counted 0 items)
+
+-- what it knows
+abbrev pub tracked : Observer → Tracked
+tracked o = o.tracked
+
+-- what is known after the packet, where there was memory for it or not: by what both sides agreed on; nothing where they didn't yet
+abbrev pub IsTrackedAs : (memory is_early : Bool) → List Numbered → Numbered → Tracked → Tracked → Type 0
+IsTrackedAs memory is_early items x old new =
+    ((a : Agreed) × IsLoggedInAmong a (items ++ x ∷ [])
+    × (new ≡ tracked_after memory is_early a x.packet.kind x.number x.packet.payload old)
+    × (memory ≡ false → IsTrue (asks_memory is_early a x.packet.kind x.number x.packet.payload old)))
+    ⊎ (((a : Agreed) → IsLoggedInAmong a (items ++ x ∷ []) → ⊥) × (new ≡ record old { params = None }) × (memory ≡ true))
+
+-- the same, where the packet is a command that comes early, or not
+abbrev pub Tracks : (memory : Bool) → List Numbered → Numbered → Tracked → Tracked → Type 0
+Tracks memory items x old new = (is_early : Bool) × IsEarly is_early items x × IsTrackedAs memory is_early items x old new
+
+-- what is tracked after packets that come after others, one after another, where there is memory for what they say
+abbrev pub AreTracked : (before items : List Numbered) → Tracked → Tracked → Type 0
+AreTracked before [] old new = new ≡ old
+AreTracked before (x ∷ xs) old new = (next : Tracked) × Tracks true before x old next × AreTracked (before ++ x ∷ []) xs next new
+
+-- a request to go on in TLS came, and nothing says that what comes is deciphered
+abbrev pub IsEncrypted : Observer → Type 0
+IsEncrypted o = sessions.IsEncrypted o.session
+
+-- after what was taken the packet comes, of some kind and exchange
+abbrev pub Comes : Observer → Side → List ℕ → Type 0
+Comes o side p = sessions.Comes o.session side p
+
+-- the conversation that follows the login
+abbrev pub Continues : Observer → Pipeline → Type 0
+Continues o p = sessions.Continues o.session p

@@ -1,0 +1,96 @@
+-- The record that a payload of a kind is read as.
+use Rattle.std.specs.Prelude.{◌≡◌, ◌⊎◌, ℕ, Bool, true, false, not, ◌&&◌, ◌||◌, ◌==◌, List, Option, Some, None, Ok, if◌then◌else◌}
+use Rattle.mysql_wire.specs.Form.{Form, ◌>>=◌, give}
+use Rattle.mysql_wire.specs.Reading.{Reading, Faults}
+use Rattle.mysql_wire.specs.declared.fault.FaultOf.{FaultOf}
+use Rattle.mysql_prepared.specs.ExecuteHead.{execute_head, cursor_flags}
+use Rattle.mysql_prepared.specs.Attributes.{Attribute}
+use Rattle.mysql_prepared.specs.ExecuteRead as read
+use Rattle.mysql_prepared.specs.ExecuteRead.{ParamsLeft, TypedParam, IsExecution}
+use Rattle.mysql_prepared.specs.declared.execute_head.ComStmtExecuteHead.{ComStmtExecuteHead}
+use Rattle.mysql_prepared.specs.declared.execute_view.BoundParam.{BoundParam}
+use Rattle.mysql_conversation.specs.Agreements.{Agreed}
+use Rattle.mysql_conversation.specs.declared.kind.Format.TheVariants.{Text, Binary}
+use Rattle.mysql_conversation.specs.declared.kind.Kind.{Kind}
+use Rattle.mysql_conversation.specs.declared.kind.Kind.TheVariants as kind
+use Rattle.mysql_wire.specs.Flags.{CapabilityFlags}
+use Rattle.mysql_observer.specs.Client.{client_packet}
+use Rattle.mysql_observer.specs.Context.{agreed_or_none}
+use Rattle.mysql_observer.specs.Server.{server_packet}
+use Rattle.mysql_observer.specs.declared.read_context.ReadContext.{ReadContext}
+use Rattle.mysql_statements.specs.declared.row_column.RowColumn.{RowColumn}
+use Rattle.mysql_conversation.specs.Pipelined.{Numbered}
+use Rattle.mysql_statements.specs.Table.{columns_of_rows}
+use Rattle.mysql_observer.specs.PacketContext.{IsContext, type_of, unsigned}
+use Rattle.mysql_observer.specs.Tracked.{Tracked, Params, is_execution}
+use Rattle.mysql_observer.specs.declared.execution.Known.{Known}
+use Rattle.mysql_observer.specs.declared.record.ServerRecord.{ServerRecord}
+use Rattle.mysql_observer.specs.declared.record.ServerRecord.TheVariants as by_server
+use Rattle.mysql_observer.specs.declared.record.ClientRecord.{ClientRecord}
+use Rattle.mysql_observer.specs.declared.record.ClientRecord.TheVariants as by_client
+
+-- ---- of the server
+
+-- a binary row whose columns are not known
+abbrev pub is_untyped : Option (List RowColumn) → Kind → Bool
+is_untyped None (kind.Row Binary) = true
+is_untyped _ _ = false
+
+-- what its kind's grammar reads under the context that the packets define, the last of which it is; of a binary row whose columns are
+-- not known the bytes
+abbrev pub IsServerRecord : List Numbered → Tracked → Kind → List ℕ → ServerRecord → Type 0
+IsServerRecord items f k p (by_server.Packet x) =
+    (is_untyped (columns_of_rows f.table) k ≡ false)
+    × (c : ReadContext RowColumn) × IsContext items f k p c × (rest : List ℕ) × ((server_packet type_of unsigned c k).reads p ≡ Ok (x, rest))
+IsServerRecord items f k p (by_server.Untyped bytes) = (is_untyped (columns_of_rows f.table) k ≡ true) × (bytes.now ≡ p)
+
+-- the fault of that grammar
+abbrev pub IsServerFault : List Numbered → Tracked → Kind → List ℕ → FaultOf → Type 0
+IsServerFault items f k p e = (c : ReadContext RowColumn) × IsContext items f k p c × Faults false e ((server_packet type_of unsigned c k).reads p)
+
+-- ---- of the client
+
+-- it is an execution, after the login
+abbrev pub has_params : Option Agreed → Kind → Bool
+has_params None k = false
+has_params (Some a) k = is_execution k
+
+-- its parameters, where its statement is known
+abbrev pub known_params : Option Agreed → Option Params → Kind → Option Params
+known_params agreed ps k = if has_params agreed k then ps else None
+
+abbrev pub params_in : Known → Option Params
+params_in k = if k.is_known then Some (record { params = k.params.now; is_bound = k.is_bound }) else None
+
+-- what stands before the parameters, they, and the attributes
+abbrev pub execution : CapabilityFlags → List BoundParam → Form (ComStmtExecuteHead × List TypedParam × List Attribute)
+execution capabilities params = do
+  head ← execute_head.form tt
+  values ← read.execution capabilities (cursor_flags head) params
+  give (head, values.0, values.1)
+
+-- the execution stands in the payload
+abbrev pub Stands : CapabilityFlags → List BoundParam → List ℕ → ComStmtExecuteHead → ParamsLeft → Type 0
+Stands capabilities params p head view = (body : List ℕ) × ((execute_head.form tt).reads p ≡ Ok (head, body)) × IsExecution capabilities (cursor_flags head) params body view
+
+-- its types are known: it sends them, an earlier one gave them, or it has no parameters
+abbrev pub is_typed : Params → ParamsLeft → Bool
+is_typed ps view = view.sends_types || ps.is_bound || view.left == 0
+
+-- what its kind's grammar reads
+abbrev pub IsPlain : Option Agreed → Kind → List ℕ → ClientRecord → Type 0
+IsPlain agreed k p (by_client.Packet x) = (rest : List ℕ) × ((client_packet agreed k).reads p ≡ Ok (x, rest))
+IsPlain agreed k p (by_client.Execution head view) = ⊥
+
+-- what its kind's grammar reads; of an execution whose statement and types are known its parameters
+abbrev pub IsClientRecord : Option Agreed → Option Params → Kind → List ℕ → ClientRecord → Type 0
+IsClientRecord agreed None k p (by_client.Packet x) = (rest : List ℕ) × ((client_packet agreed k).reads p ≡ Ok (x, rest))
+IsClientRecord agreed None k p (by_client.Execution head view) = ⊥
+IsClientRecord agreed (Some ps) k p (by_client.Packet x) =
+    ((rest : List ℕ) × ((client_packet agreed k).reads p ≡ Ok (x, rest))) × (head : ComStmtExecuteHead) × (view : ParamsLeft) × Stands (agreed_or_none agreed).mysql ps.params p head view × (is_typed ps view ≡ false)
+IsClientRecord agreed (Some ps) k p (by_client.Execution head view) = Stands (agreed_or_none agreed).mysql ps.params p head view × (is_typed ps view ≡ true)
+
+-- the fault of that grammar
+abbrev pub IsClientFault : Option Agreed → Option Params → Kind → List ℕ → FaultOf → Type 0
+IsClientFault agreed None k p e = Faults false e ((client_packet agreed k).reads p)
+IsClientFault agreed (Some ps) k p e = Faults false e ((client_packet agreed k).reads p) ⊎ Faults false e ((execution (agreed_or_none agreed).mysql ps.params).reads p)

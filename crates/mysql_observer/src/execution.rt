@@ -1,0 +1,78 @@
+//! An execution and its parameters.
+
+ghost use Rattle.std.specs.Prelude.{◌≡◌, ◌||◌, false, true, Ok, IfOk, IfErr, Some, List, ℕ};
+ghost use Rattle.mysql_wire.specs.Reading.{Answers, Faults};
+ghost use Rattle.mysql_prepared.specs.ExecuteHead.{execute_head};
+ghost use Rattle.mysql_observer.specs.Records as spec;
+
+use crate::client_reader::client_packet;
+use crate::read_context::agreed_or_none;
+use crate::record::ClientRecord;
+use mysql_conversation::Kind;
+use mysql_prepared::{BoundParam, ComStmtExecuteHead, ExecuteParamsView};
+use mysql_replies::SessionCapabilities;
+use mysql_wire::{CapabilityFlags, FaultOf, ParseBuf};
+use std::alloc::Global;
+
+/// The parameters of a statement that is executed, and whether an earlier execution gave them types.
+#[derive(Clone, Copy)]
+pub(crate) struct Known<'o> {
+    pub(crate) params: &'o [BoundParam],
+    pub(crate) is_bound: bool,
+    /// Whether they are known. Where they are not, there are none here.
+    pub(crate) is_known: bool,
+}
+
+/// What stands before the parameters, and the bytes after it.
+fn read_head<'a, 's>(buf: &mut ParseBuf<'a>) -> Result<ComStmtExecuteHead, FaultOf<'s>>
+    ensures value { Answers false result buf.new ((execute_head.form tt).reads buf.old) }
+{
+    buf.parse(())
+}
+
+/// The execution of a payload, for the parameters of its statement.
+pub(crate) fn read_execution<'a, 'o, 's>(
+    alloc: Global,
+    capabilities: CapabilityFlags,
+    params: &'o [BoundParam],
+    payload: &'a [u8],
+) -> Result<(ComStmtExecuteHead, ExecuteParamsView<'a, 'o>), FaultOf<'s>>
+    ensures stands { IfOk result (λ x. spec.Stands capabilities params.now payload.now x.0 x.1) }
+    ensures fault { IfErr result (λ e. Faults false e ((spec.execution capabilities params.now).reads payload.now)) }
+{
+    let mut buf = ParseBuf::new(alloc, payload);
+    let head = read_head(&mut buf)?;
+    let view = ExecuteParamsView::new(capabilities, &head, params, buf)?;
+    Ok((head, view))
+}
+
+/// The record of a packet of the client; of an execution whose statement and types are known, its parameters.
+pub(crate) fn read_client<'a, 'o, 's>(
+    alloc: Global,
+    agreed: Option<SessionCapabilities>,
+    kind: Kind,
+    known: Known<'o>,
+    payload: &'a [u8],
+) -> Result<ClientRecord<'a, 'o>, FaultOf<'s>>
+    ensures packet { IfOk result (λ r. spec.IsClientRecord agreed (spec.params_in known.entry) kind payload.now r) }
+    ensures fault { IfErr result (λ e. spec.IsClientFault agreed (spec.params_in known.entry) kind payload.now e) }
+{
+    if !known.is_known {
+        return match client_packet(alloc, agreed, kind, payload) {
+            Ok(packet) => Ok(ClientRecord::Packet(packet)),
+            Err(fault) => Err(fault),
+        };
+    }
+    match read_execution(alloc, agreed_or_none(agreed).mysql, known.params, payload) {
+        Ok((head, view)) => {
+            if view.sends_types() || known.is_bound || view.left() == 0 {
+                return Ok(ClientRecord::Execution(head, view));
+            }
+            match client_packet(alloc, agreed, kind, payload) {
+                Ok(packet) => Ok(ClientRecord::Packet(packet)),
+                Err(fault) => Err(fault),
+            }
+        }
+        Err(fault) => Err(fault),
+    }
+}

@@ -1,0 +1,105 @@
+//! What packets say of statements.
+
+ghost use Rattle.std.specs.Prelude.{◌≡◌, ◌&&◌, not, false, None};
+ghost use Rattle.mysql_wire.specs.Reading.{Answers};
+ghost use Rattle.mysql_conversation.specs.Pipelined.{is_command as is_command_packet};
+ghost use Rattle.mysql_conversation.specs.Taken.{packet};
+ghost use Rattle.mysql_statements.specs.Packets as packets;
+ghost use Rattle.mysql_observer.specs.PacketContext as context;
+ghost use Rattle.mysql_observer.specs.Tracked as spec;
+ghost use Rattle.mysql_observer.specs.Records as records;
+
+use mysql_conversation::{Format, Kind, Side};
+use mysql_replies::SessionCapabilities;
+use mysql_wire::{FaultOf, LeU32, ParseBuf, RawInt};
+use std::alloc::Global;
+
+/// The number of a statement after the first byte.
+fn read_number<'s>(buf: &mut ParseBuf<'_>) -> Result<u32, FaultOf<'s>>
+    ensures value { Answers false result buf.new (packets.numbered.reads buf.old) }
+{
+    let _code: RawInt<u8> = buf.parse(())?;
+    let id: RawInt<LeU32> = buf.parse(())?;
+    Ok(id.0)
+}
+
+/// The number of a statement, after the first byte of a command.
+#[tactic(auto, using(mysql_statements::proofs::Refused::faults), unfolding(mysql_statements::specs::Packets::number_at))]
+pub(crate) fn number_at(alloc: Global, payload: &[u8]) -> Option<u32>
+    ensures { result ≡ packets.number_at payload.now }
+{
+    let mut buf = ParseBuf::new(alloc, payload);
+    let read: Result<u32, FaultOf> = read_number(&mut buf);
+    match read {
+        Ok(id) => Some(id),
+        Err(_) => None,
+    }
+}
+
+/// Whether it is an execution.
+pub(crate) fn is_execution(kind: Kind) -> bool
+    ensures { result ≡ spec.is_execution kind }
+{
+    match kind {
+        Kind::Command(code) => code == 0x17,
+        _ => false,
+    }
+}
+
+/// Whether it is a command.
+fn is_command(from: Side, kind: Kind, payload: &[u8]) -> bool
+    ensures { result ≡ is_command_packet (packet from payload.now kind) }
+{
+    match from {
+        Side::Client => matches!(kind, Kind::Command(_)),
+        Side::Server => false,
+    }
+}
+
+/// Whether it is a command that comes before all that was asked for is answered.
+pub(crate) fn is_early(is_between: bool, from: Side, kind: Kind, payload: &[u8]) -> bool
+    ensures { result ≡ not is_between && is_command_packet (packet from payload.now kind) }
+{
+    !is_between && is_command(from, kind, payload)
+}
+
+/// How many columns a row of text has after a packet.
+pub(crate) fn count_after(kind: Kind, count: u64) -> u64
+    ensures { result ≡ context.count_after kind count }
+{
+    match kind {
+        Kind::ColumnCount(count, _) => count,
+        _ => count,
+    }
+}
+
+/// Whether it is a binary row.
+pub(crate) fn is_binary_row(kind: Kind) -> bool
+    ensures { result ≡ records.is_untyped None kind }
+{
+    matches!(kind, Kind::Row(Format::Binary))
+}
+
+/// Whether a packet has parameters, which are known where those of its statement are: it is an execution, after the login.
+pub(crate) fn has_params(agreed: Option<SessionCapabilities>, kind: Kind) -> bool
+    ensures { result ≡ records.has_params agreed kind }
+{
+    match agreed {
+        Some(_) => is_execution(kind),
+        None => false,
+    }
+}
+
+/// Whether it is an event of a stream.
+pub(crate) fn is_event(kind: Kind) -> bool
+    ensures { result ≡ context.is_event kind }
+{
+    matches!(kind, Kind::BinlogEvent)
+}
+
+/// Whether it is a row.
+pub(crate) fn is_row(kind: Kind) -> bool
+    ensures { result ≡ spec.is_row kind }
+{
+    matches!(kind, Kind::Row(_))
+}

@@ -1,0 +1,73 @@
+//! The parameters of the execution that came last.
+
+ghost use Rattle.std.specs.Prelude.{◌≡◌, ◌&&◌, IsTrue, None, false, if◌then◌else◌, Some, IfSome, IfNone};
+ghost use Rattle.mysql_observer.specs.Tracked as spec;
+ghost use Rattle.mysql_observer.specs.Records as records;
+
+use crate::execution::Known;
+use mysql_prepared::BoundParam;
+use mysql_statements::Statement;
+use std::alloc::Global;
+use std::marker::Model;
+
+/// The parameters of the execution that came last, as they were known before it; or none.
+#[derive(Drop)]
+pub(crate) struct Params {
+    params: Vec<BoundParam>,
+    is_bound: bool,
+    is_known: bool,
+}
+
+impl Model for Params {
+    ghost use Rattle.std.specs.Prelude.{Option, Some, None, if◌then◌else◌};
+    ghost use Rattle.mysql_observer.specs.Tracked.{Params as Both};
+
+    ghost Value = { Option Both };
+
+    ghost view = { λ p. if p.is_known then Some (record { params = p.params.items; is_bound = p.is_bound }) else None };
+}
+
+impl Params {
+    /// None.
+    pub(crate) fn none(alloc: Global) -> Self
+        ensures { result ≡ None }
+    {
+        Params {
+            params: Vec::new(alloc),
+            is_bound: false,
+            is_known: false,
+        }
+    }
+
+    /// Forgets them.
+    pub(crate) fn forget(&mut self)
+        ensures { self.new ≡ None }
+    {
+        self.is_known = false;
+    }
+
+    /// Copies those of a statement. Whether there is memory for them; where there is none, they are not known.
+    pub(crate) fn copy(&mut self, statement: &Statement) -> bool
+        ensures { self.new ≡ spec.params_kept result (Some statement.now) }
+    {
+        self.is_known = false;
+        self.params.clear();
+        if self.params.extend_from_slice(statement.params()).is_err() {
+            return false;
+        }
+        self.is_bound = statement.is_bound();
+        self.is_known = true;
+        true
+    }
+
+    /// They, and whether an earlier execution gave them types.
+    pub(crate) fn known(&self) -> Known<'_>
+        ensures { records.params_in result ≡ self.now }
+    {
+        Known {
+            params: self.params.as_slice(),
+            is_bound: self.is_bound,
+            is_known: self.is_known,
+        }
+    }
+}

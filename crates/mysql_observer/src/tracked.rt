@@ -1,0 +1,174 @@
+//! What the packets so far say of statements, and of the commands that wait.
+
+ghost use Rattle.std.specs.Prelude.{[], ◌≡◌, ◌&&◌, IsTrue, None, Some, false, true, is_some, IfSome, IfNone};
+ghost use Rattle.mysql_statements.specs.Early as early;
+ghost use Rattle.mysql_statements.specs.Table as tables;
+ghost use Rattle.mysql_observer.specs.Tracked as spec;
+ghost use Rattle.mysql_observer.specs.Records as records;
+
+use crate::execution::Known;
+use crate::limits::ObserverLimits;
+use crate::packets::{is_execution, is_row, number_at};
+use crate::params::Params;
+use mysql_conversation::Kind;
+use mysql_replies::SessionCapabilities;
+use mysql_statements::{EarlyCommands, RowColumn, Statements};
+use std::alloc::Global;
+use std::marker::Model;
+
+/// What the packets so far say of statements, and of the commands that wait.
+#[derive(Drop)]
+pub(crate) struct Tracked {
+    alloc: Global,
+    statements: Statements,
+    early: EarlyCommands,
+    lost: Option<u64>,
+    params: Params,
+}
+
+impl Model for Tracked {
+    ghost use Rattle.mysql_observer.specs.Tracked.{Tracked as All};
+
+    ghost Value = { All };
+
+    ghost view = { λ f. record { table = f.statements; early = f.early; lost = f.lost; params = f.params } };
+}
+
+/// Takes a command that waited.
+fn take_command(statements: &mut Statements, agreed: SessionCapabilities, payload: &[u8])
+    ensures { statements.new ≡ spec.command_taken agreed payload.now statements.old }
+{
+    if let [code, ..] = payload {
+        // (a command has no memory taken)
+        let _taken = statements.take(agreed, Kind::Command(*code), payload);
+    }
+}
+
+/// Whether nothing is known of statements up to this exchange.
+fn is_lost(lost: Option<u64>, exchange: u64) -> bool
+    ensures { result ≡ spec.is_lost lost exchange }
+{
+    match lost {
+        Some(last) => exchange <= last,
+        None => false,
+    }
+}
+
+impl Tracked {
+    /// No packet came.
+    pub(crate) fn none(alloc: Global, limits: ObserverLimits) -> Self
+        ensures { result ≡ record { table = tables.empty limits.statements; early = early.none_waits limits.early; lost = None; params = None } }
+    {
+        Tracked {
+            alloc,
+            statements: Statements::new(alloc, limits.statements),
+            early: EarlyCommands::new(alloc, limits.early),
+            lost: None,
+            params: Params::none(alloc),
+        }
+    }
+
+    /// The columns of the binary rows that come, where they are known.
+    pub(crate) fn columns(&self) -> Option<&[RowColumn]>
+        ensures some { IfSome result (λ columns. tables.columns_of_rows self.now.table ≡ Some columns.now) }
+        ensures none { IfNone result (tables.columns_of_rows self.now.table ≡ None) }
+    {
+        self.statements.columns_of_rows()
+    }
+
+    /// The parameters of the execution that came last, where its statement is known.
+    pub(crate) fn params(&self) -> Known<'_>
+        ensures { records.params_in result ≡ self.now.params }
+    {
+        self.params.known()
+    }
+
+    /// Forgets the parameters of the execution that came last.
+    pub(crate) fn forget_params(&mut self)
+        ensures { self.new ≡ record self.old { params = None } }
+    {
+        self.params.forget();
+    }
+
+    /// Takes the commands that waited, up to an exchange.
+    fn serve(&mut self, agreed: SessionCapabilities, exchange: u64)
+        ensures { self.new ≡ spec.served agreed exchange self.old }
+    {
+        while let Some(command) = self.early.serve(exchange) {
+            take_command(&mut self.statements, agreed, command.payload());
+        }
+    }
+
+    /// A command that came early waits. Whether there was memory for it.
+    pub(crate) fn hold(&mut self, number: u64, payload: &[u8]) -> bool
+        ensures held { self.new ≡ spec.held result number payload.now self.old }
+        ensures asked { result ≡ false → IsTrue (early.has_place self.old.early payload.now) }
+    {
+        self.params.forget();
+        match self.early.hold(number, payload) {
+            Ok(true) => true,
+            Ok(false) => {
+                self.lose(number);
+                true
+            }
+            Err(_) => {
+                self.lose(number);
+                false
+            }
+        }
+    }
+
+    /// A command is lost that came early.
+    fn lose(&mut self, number: u64)
+        ensures { self.new ≡ record { table = tables.cleared self.old.table; early = self.old.early; lost = Some number; params = self.old.params } }
+    {
+        self.statements.clear();
+        self.lost = Some(number);
+    }
+
+    /// Takes a packet, after the commands up to its exchange. Whether there was memory for what it says.
+    pub(crate) fn take(
+        &mut self,
+        agreed: SessionCapabilities,
+        kind: Kind,
+        exchange: u64,
+        payload: &[u8],
+    ) -> bool
+        ensures taken { self.new ≡ spec.taken result agreed kind exchange payload.now self.old }
+        ensures asked { result ≡ false → IsTrue (spec.asks_memory false agreed kind exchange payload.now self.old) }
+    {
+        self.params.forget();
+        if is_lost(self.lost, exchange) || self.is_row_alone(kind) {
+            return true;
+        }
+        self.serve(agreed, exchange);
+        let is_copied = self.copy_params(kind, payload);
+        let is_taken = self.statements.take(agreed, kind, payload).is_ok();
+        is_copied && is_taken
+    }
+
+    /// Whether it is a row, before which no command waits.
+    fn is_row_alone(&self, kind: Kind) -> bool
+        ensures { result ≡ true → (spec.is_row kind ≡ true) × (self.now.early.commands ≡ []) }
+    {
+        is_row(kind) && self.early.len() == 0
+    }
+
+    /// Copies the parameters of the statement that a packet executes. Whether there was memory for them.
+    fn copy_params(&mut self, kind: Kind, payload: &[u8]) -> bool
+        requires { self.old.params ≡ None }
+        ensures params { self.new ≡ record self.old { params = spec.params_kept result (spec.executed_by kind payload.now self.old.table) } }
+        ensures asked { result ≡ false → IsTrue (is_some (spec.executed_by kind payload.now self.old.table)) }
+    {
+        if !is_execution(kind) {
+            return true;
+        }
+        let Some(id) = number_at(self.alloc, payload) else {
+            return true;
+        };
+        match self.statements.statement(id) {
+            Some(statement) => self.params.copy(statement),
+            None => true,
+        }
+    }
+}
