@@ -9,10 +9,10 @@ CALL = r"(?:final )?(?:const )?fn (\w+)[^{;]*?(?=\n *(?:requires|ensures))((?:\n
 PUBLIC, MEMBER_CALL = re.compile(rf"^ *pub {CALL}", re.M), re.compile(rf"^    {CALL}", re.M)
 # (each function of a public trait is public)
 TRAIT = re.compile(r"^pub trait .*?^}", re.M | re.S)
-# what a type is in a clause, and what its reading and writing are said by
+# what a type is in a clause, and the contracts of its reading, its writing and its iteration
 MEMBER = re.compile(r"^    ghost (\w+) = \{(.*?)\};", re.M | re.S)
 IMPORT = re.compile(r"ghost use Rattle\.(mysql_\w+)\.specs\.([\w.]+?)(?:\.\{([^}]*)\}| as (\w+));")
-MEMBERS = {"Value", "form", "bytes", "type_of", "unsigned"}
+MEMBERS = {"Value", "form", "bytes", "type_of", "unsigned", "next_gives"}
 
 
 def imported(source):
@@ -41,9 +41,10 @@ def cited(source):
 
 
 def passed_on():
-    """The modules that mysql_packets passes on."""
+    """The modules that mysql_packets passes on, and its own."""
     text = (TOP / "crates/mysql_packets/specs/Lib.antt").read_text()
-    return set(re.findall(r"^pub use Rattle\.(\w+)\.specs\.([\w.]+?)(?: as \w+)?$", text, re.M))
+    own = {("mysql_packets", it) for it in re.findall(r"^pub mod (\w+)$", text, re.M)}
+    return own | set(re.findall(r"^pub use Rattle\.(\w+)\.specs\.([\w.]+?)(?: as \w+)?$", text, re.M))
 
 
 def words_without_paths(libraries):

@@ -26,6 +26,7 @@ pub mod HandshakeLines
 pub mod Command
 pub mod Program
 -- the definitions that the contracts of the libraries cite
+pub use Rattle.mysql_output.specs.Output
 pub use Rattle.mysql_wire.specs.Bare
 pub use Rattle.mysql_wire.specs.Codec
 pub use Rattle.mysql_wire.specs.CodecFits
@@ -84,6 +85,7 @@ pub use Rattle.mysql_session.specs.SessionStateChangeRef
 pub use Rattle.mysql_session.specs.SessionText
 pub use Rattle.mysql_session.specs.SystemVariable
 pub use Rattle.mysql_session.specs.SystemVariables
+pub use Rattle.mysql_session.specs.SystemVariablesRef
 pub use Rattle.mysql_replies.specs.Column
 pub use Rattle.mysql_replies.specs.ColumnAttribute
 pub use Rattle.mysql_replies.specs.ColumnAttributes
@@ -103,6 +105,7 @@ pub use Rattle.mysql_replies.specs.SentChange
 pub use Rattle.mysql_replies.specs.SentGtids
 pub use Rattle.mysql_replies.specs.ServerError
 pub use Rattle.mysql_replies.specs.SessionStateChanges
+pub use Rattle.mysql_replies.specs.SessionStateChangesRef
 pub use Rattle.mysql_replies.specs.SessionStateInfo
 pub use Rattle.mysql_replies.specs.SqlState
 pub use Rattle.mysql_prepared.specs.Attributes as QueryAttributesRead
