@@ -116,6 +116,7 @@ fn write_as_sent<'s>(
     let mut buffer = begun(out);
     match counted!(out.alloc(); builder.write_ref(&params, &mut buffer)) {
         Ok(_as_long_data) => show_written(out, true, &buffer, bytes.get(..after(&buffer).len())),
+        Err(TypedExecutionError::Memory) => show_written(out, false, &buffer, None),
         Err(error) => show_refused(out, &error),
     }
     Ok(())
