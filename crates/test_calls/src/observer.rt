@@ -5,13 +5,13 @@
 //! Of an execution its parameters are read, of each row its values, and of an event its size.
 
 use crate::conversation::{piece_of, show_kind};
-use crate::statements::{show, show_value};
+use crate::statements::{show, show_param, show_value};
 use mysql_packets::conversation::{Refusal, Side};
 use mysql_packets::io::FaultOf;
 use mysql_packets::observer::{
     ClientRecord, ObservedPacket, Observer, ObserverLimits, ServerPacket, ServerRecord,
 };
-use mysql_packets::packets::{ExecuteParam, ExecuteParamsView};
+use mysql_packets::packets::ExecuteParamsView;
 use mysql_packets::row::{BinaryRowView, TextRowView};
 use mysql_packets::statements::{EarlyLimits, RowColumn, StatementLimits};
 use mysql_packets::value::ServerSide;
@@ -24,11 +24,7 @@ fn show_params<'s>(out: &mut Out, view: ExecuteParamsView<'_, '_>) -> Result<(),
     for _ in 0..view.left() {
         if let Some(it) = view.next_param()? {
             out.push(":");
-            match it.param {
-                ExecuteParam::Value(value) => show_value(out, value),
-                ExecuteParam::DateTimeWithOffset(date) => out.display(&date.offset_minutes),
-                ExecuteParam::SentAhead => out.push("ahead"),
-            }
+            show_param(out, it.param);
         }
     }
     Ok(())

@@ -41,6 +41,16 @@ pub(crate) fn show_value(out: &mut Out, value: ValueRef<'_>) {
     }
 }
 
+/// Adds a parameter; of a date with an offset the offset alone.
+pub(crate) fn show_param(out: &mut Out, param: ExecuteParam<'_>) {
+    match param {
+        ExecuteParam::Value(value) => show_value(out, value),
+        ExecuteParam::DateTimeWithOffset(date) => out.display(&date.offset_minutes),
+        ExecuteParam::SentAhead => out.push("ahead"),
+        ExecuteParam::AsSent { bytes, .. } => show(out, bytes),
+    }
+}
+
 /// Adds bytes to the last word.
 pub(crate) fn show(out: &mut Out, bytes: &[u8]) {
     out.push_made(hex::encode(out.alloc(), bytes));
@@ -66,12 +76,7 @@ fn show_params<'s>(
             out.word("param:");
             out.display(&(it.param_type.column_type() as u8));
             out.push("=");
-            match it.param {
-                ExecuteParam::Value(value) => show_value(out, value),
-                ExecuteParam::DateTimeWithOffset(date) => out.display(&date.offset_minutes),
-                ExecuteParam::SentAhead => out.push("ahead"),
-                ExecuteParam::AsSent { bytes, .. } => show(out, bytes),
-            }
+            show_param(out, it.param);
         }
     }
     let as_sent = ExecuteParamsView::new(agreed.mysql, &head, statement.params(), again)?;
