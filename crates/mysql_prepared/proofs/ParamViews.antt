@@ -240,6 +240,6 @@ tail-given old new bound others x g =
     tail-first old.nulls old.place (in_force old.sends_types (bound ∷ others) old.types) old.values new.values (left_of new others).tails g.tails
 
 -- so many others
-pub others-of : (bound : BoundParam) (left : ℕ) → left ≢ 0 → (others : List BoundParam) × (length (bound ∷ others) ≡ left)
-others-of bound zero some = absurd (some refl)
-others-of bound (suc n) some = (replicate n bound, ap suc (length-replicate n bound))
+pub others-of : (b : BoundParam) (left : ℕ) → left ≢ 0 → (others : List BoundParam) × (length (b ∷ others) ≡ left)
+others-of b zero some = absurd (some refl)
+others-of b (suc n) some = (replicate n b, ap suc (length-replicate n b))

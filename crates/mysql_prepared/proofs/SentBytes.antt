@@ -8,7 +8,7 @@ use Rattle.mysql_values.specs.ParamType.{param_type, type_of}
 use Rattle.mysql_values.specs.ParamValue.{Plain, WithOffset, param_spelled}
 use Rattle.mysql_values.specs.Value.{Content, NULL, Bytes, Int, UInt, Float, Double, Date, Time, bin}
 use Rattle.mysql_values.specs.declared.param_type.ParamType.{ParamType}
-use Rattle.mysql_prepared.specs.ExecuteParam.{Param, Sent, SentAhead, param_bytes, value_of}
+use Rattle.mysql_prepared.specs.ExecuteParam.{Param, Sent, SentAhead, AsSent, param_bytes, value_of}
 use Rattle.mysql_prepared.specs.SentParam.{bytes_under, first_unspelled, is_spelled, is_spelled_under, sent_param, sent_params, type_bytes, value_bytes}
 use Rattle.mysql_prepared.specs.ExecuteRead.{TypedParam}
 use Rattle.mysql_prepared.specs.SentTypes.{NamedType}
@@ -30,6 +30,7 @@ pub plain-spelled : (p : Param) → is_spelled_under (type_of (value_of p)) p �
 plain-spelled (Sent (Plain v)) = ap is_some (own-type v)
 plain-spelled (Sent (WithOffset date)) = refl
 plain-spelled SentAhead = refl
+plain-spelled (AsSent has_null_bit bytes) = refl
 
 pub plain-bytes : (l : Bool) (p : Param) → bytes_under l (type_of (value_of p)) p ≡ param_bytes l p
 plain-bytes true (Sent (Plain NULL)) = refl
@@ -52,6 +53,8 @@ plain-bytes true (Sent (WithOffset date)) = refl
 plain-bytes false (Sent (WithOffset date)) = refl
 plain-bytes true SentAhead = refl
 plain-bytes false SentAhead = refl
+plain-bytes true (AsSent has_null_bit bytes) = refl
+plain-bytes false (AsSent has_null_bit bytes) = refl
 
 -- ---- types
 

@@ -1,8 +1,11 @@
-use Rattle.std.proofs.Common.{rules, ◌≡◌, ◌+◌, ◌≤◌, length, ap, ◌∙◌, arith, length-append, vec_len, vec_capacity, true, false, not, sym}
+use Rattle.std.proofs.Common.{rules, IsTrue, ◌≡◌, ◌+◌, ◌≤◌, length, ap, ◌∙◌, arith, length-append, vec_len, vec_capacity, true, false, not, sym}
 use Rattle.std.proofs.lemmas.List.{length-map}
 use Rattle.mysql_wire.specs.Writing.{saturated}
 use Rattle.mysql_values.specs.ValueRef.{ref_content}
+use Rattle.mysql_prepared.specs.BinaryRow.{takes_values}
 use Rattle.mysql_prepared.specs.Bitmap.{bytes_for}
+use Rattle.mysql_prepared.specs.ExecuteParam.{ref_param}
+use Rattle.mysql_prepared.proofs.RowBytes.{taken-contents}
 use Rattle.mysql_prepared.proofs.binary_row.write_binary_row.Goals as goal
 
 pub append_values-requires-clause-capacity : goal.append_values-requires-clause-capacity
@@ -49,3 +52,8 @@ returns-then-is_err-clause-no_memory g c = λ fits same.
     ) in
     let both : true ≡ false = sym (c.reserve.ensures.succeeds there) ∙ c.is_err.ensures.negation ∙ ap not c.if-is_err.true in
     absurd cc
+
+pub returns-clause-taken : goal.returns-clause-taken
+returns-clause-taken g c =
+    let taken : IsTrue (takes_values g.C.TypedColumn.type_of g.C.TypedColumn.unsigned ref_param c.args.columns.now c.args.values.now) = search rules in
+    taken-contents g.C.TypedColumn.type_of g.C.TypedColumn.unsigned ref_param c.args.columns.now c.args.values.now taken
