@@ -12,7 +12,9 @@ pub mod Order
 pub mod PipeSteps
 pub mod Pipes
 pub mod Stood
+pub mod Places
 pub mod Sessions
+pub mod SessionAnswers
 pub mod SessionEnds
 pub mod Named
 pub mod Witnesses

@@ -17,6 +17,39 @@ use Rattle.mysql_conversation.specs.declared.state.State.TheVariants as state
 abbrev pub at : Opening → ℕ → ℕ → ConversationState
 at opening place request = record { opening = opening; place = place; request = request; after = 0; definitions = 0; columns = 0 }
 
+-- the numbers of each state, and those that are not needed are 0
+abbrev pub number_of : Request → ℕ
+number_of Query = 0
+number_of Execution = 1
+number_of Cursor = 2
+
+abbrev pub at_definitions : Opening → ℕ → ℕ → After → ConversationState
+at_definitions opening place n after.Rest = record { opening = opening; place = place; request = 0; after = 0; definitions = n; columns = 0 }
+at_definitions opening place n (after.Rows r) = record { opening = opening; place = place; request = number_of r; after = 1; definitions = n; columns = 0 }
+at_definitions opening place n (after.Columns m) = record { opening = opening; place = place; request = 0; after = 2; definitions = n; columns = m }
+at_definitions opening place n after.End = record { opening = opening; place = place; request = 0; after = 3; definitions = n; columns = 0 }
+
+abbrev pub asked_number : Bool → ℕ
+asked_number false = 0
+asked_number true = 1
+
+abbrev pub numbers_of : Opening → State → ConversationState
+numbers_of o state.Rest = at o 0 0
+numbers_of o (state.Authentication is_asked) = at o 1 (asked_number is_asked)
+numbers_of o (state.Reply r) = at o 2 (number_of r)
+numbers_of o (state.Infile r) = at o 3 (number_of r)
+numbers_of o (state.InfileReply r) = at o 4 (number_of r)
+numbers_of o (state.Definitions n b) = at_definitions o 5 n b
+numbers_of o (state.DefinitionsEnd b) = at_definitions o 6 0 b
+numbers_of o (state.Rows r) = at o 7 (number_of r)
+numbers_of o state.Prepared = at o 8 0
+numbers_of o state.Fetch = at o 9 0
+numbers_of o state.Acknowledgement = at o 10 0
+numbers_of o state.Text = at o 11 0
+numbers_of o state.Fields = at o 12 0
+numbers_of o state.Events = at o 13 0
+numbers_of o state.Refusal = at o 14 0
+
 abbrev pub request_at : ℕ → Option Request
 request_at n = if n == 0 then Some Query else (if n == 1 then Some Execution else (if n == 2 then Some Cursor else None))
 

@@ -2,6 +2,7 @@
 use Rattle.std.specs.Prelude.{◌≡◌, ℕ, List, [], ◌∷◌, ◌++◌}
 use Rattle.mysql_conversation.specs.Agreements.{Agreed}
 use Rattle.mysql_conversation.specs.Conversation.{Packet, IsBeginning}
+use Rattle.mysql_conversation.specs.ConversationState.{numbers_of}
 use Rattle.mysql_conversation.specs.KindName.{name_of}
 use Rattle.mysql_conversation.specs.Machine.{Takes, entrance}
 use Rattle.mysql_conversation.specs.Taken.{packet}
@@ -10,6 +11,7 @@ use Rattle.mysql_conversation.specs.declared.kind.Opening.{Opening}
 use Rattle.mysql_conversation.specs.declared.kind.Side.{Side}
 use Rattle.mysql_conversation.specs.declared.kind_name.KindName.{KindName}
 use Rattle.mysql_conversation.specs.declared.conversation.Conversation.{Conversation}
+use Rattle.mysql_conversation.specs.declared.conversation_state.ConversationState.{ConversationState}
 
 -- what both sides agreed on, and where it began
 abbrev pub agreed : Conversation → Agreed
@@ -17,6 +19,10 @@ agreed c = c.agreed
 
 abbrev pub opening : Conversation → Opening
 opening c = c.opening
+
+-- where it stands, in plain numbers
+abbrev pub numbers : Conversation → ConversationState
+numbers c = numbers_of c.opening c.state
 
 -- these packets, of these kinds, are what it has taken
 abbrev pub Taken : Conversation → List Packet → Type 0

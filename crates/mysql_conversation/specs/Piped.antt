@@ -1,17 +1,19 @@
 -- What a pipelined conversation has taken.
-use Rattle.std.specs.Prelude.{◌≡◌, ◌≤◌, ◌-◌, ◌^◌, ◌++◌, ◌∷◌, [], ℕ, List, length, true}
+use Rattle.std.specs.Prelude.{◌≡◌, ◌⊎◌, ◌≤◌, ◌-◌, ◌^◌, ◌++◌, ◌∷◌, [], ℕ, List, length, true, Some}
 use Rattle.std.specs.VecDeque.{deque_capacity, deque_len}
 use Rattle.mysql_conversation.specs.Agreements.{Agreed}
 use Rattle.mysql_conversation.specs.KindName.{name_of}
-use Rattle.mysql_conversation.specs.Machine.{is_due}
+use Rattle.mysql_conversation.specs.Machine.{is_due, rests}
 use Rattle.mysql_conversation.specs.Taken.{packet}
 use Rattle.mysql_conversation.specs.Pipelined.{Numbered, IsPipelinedBeginning}
-use Rattle.mysql_conversation.specs.Standing.{Standing, standing, start, PipeRun}
+use Rattle.mysql_conversation.specs.Standing.{Standing, standing, start, command_of, PipeRun}
 use Rattle.mysql_conversation.specs.declared.kind.Kind.{Kind}
 use Rattle.mysql_conversation.specs.declared.kind.Opening.{Opening}
 use Rattle.mysql_conversation.specs.declared.kind.Side.{Side}
+use Rattle.mysql_conversation.specs.declared.kind.Side.TheVariants.{Client}
 use Rattle.mysql_conversation.specs.declared.kind_name.KindName.{KindName}
 use Rattle.mysql_conversation.specs.declared.pipeline.Pipeline.{Pipeline}
+use Rattle.mysql_conversation.specs.declared.state.Command.{Command}
 
 abbrev pub place : Side → List ℕ → Kind → ℕ → Numbered
 place side payload kind n = record { packet = packet side payload kind; number = n }
@@ -44,9 +46,29 @@ MustWait c = is_due c.state ≡ true
 abbrev pub CountsNoMore : Pipeline → Type 0
 CountsNoMore c = c.last ≡ 2 ^ 64 - 1
 
+-- no exchange runs, so that a command that comes is answered next
+abbrev pub IsIdle : Pipeline → Type 0
+IsIdle c = rests c.state ≡ true
+
+-- the payload is a command of the client
+abbrev pub IsCommand : Side → List ℕ → Type 0
+IsCommand side p = (side ≡ Client) × (command : Command) × (command_of p ≡ Some command)
+
+-- a command comes that has to wait, while as many wait as may; or one that can't be counted
+abbrev pub IsFull : Pipeline → Side → List ℕ → Type 0
+IsFull c side p = IsCommand side p × ((MustWait c × (limit c ≤ waiting c)) ⊎ ((MustWait c ⊎ IsIdle c) × CountsNoMore c))
+
+-- for how many commands that wait there is memory
+abbrev pub capacity : Pipeline → ℕ
+capacity c = deque_capacity c.waiting
+
 -- the memory for commands that wait is full
 abbrev pub HasNoCapacity : Pipeline → Type 0
 HasNoCapacity c = deque_capacity c.waiting ≤ deque_len c.waiting
+
+-- nothing of it is changed, but for how many commands there is memory
+abbrev pub IsSame : Pipeline → Pipeline → Type 0
+IsSame c d = (d.agreed ≡ c.agreed) × (d.opening ≡ c.opening) × (d.limit ≡ c.limit) × (stands d ≡ stands c)
 
 -- after what was taken the packet comes, of some kind and number
 abbrev pub Comes : Pipeline → Side → List ℕ → Type 0

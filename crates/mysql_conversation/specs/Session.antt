@@ -115,6 +115,41 @@ limit s = limit_in s.limit s.phase
 abbrev pub IsEncrypted : Session → Type 0
 IsEncrypted s = (server : Agreed) × (s.phase ≡ phase.Encrypted server)
 
+-- what comes is deciphered, where it goes on in TLS
+abbrev pub deciphered_in : Phase → Phase
+deciphered_in phase.Greeting = phase.Greeting
+deciphered_in phase.Refused = phase.Refused
+deciphered_in (phase.Login server) = phase.Login server
+deciphered_in (phase.Encrypted server) = phase.InTls server
+deciphered_in (phase.InTls server) = phase.InTls server
+deciphered_in (phase.Commands p) = phase.Commands p
+
+-- the login comes next, to a server that can do this: in TLS once that was asked for, and what comes is deciphered
+abbrev pub AwaitsLogin : Session → Bool → Agreed → Type 0
+AwaitsLogin s false server = s.phase ≡ phase.Login server
+AwaitsLogin s true server = s.phase ≡ phase.InTls server
+
+-- the client asks to go on in TLS
+abbrev pub AsksForTls : Session → Side → List ℕ → Type 0
+AsksForTls s side p = (side ≡ Client) × (server : Agreed) × (r : SslRequest) × AwaitsLogin s false server × BeginsAs r p × (asks_tls r ≡ true)
+
+-- the client logs in, and by the greeting and the login both sides agree on compression
+abbrev pub AgreesOnCompression : Session → Side → List ℕ → Type 0
+AgreesOnCompression s side p =
+    (side ≡ Client) × (tls : Bool) × (server : Agreed) × (r : SslRequest) × AwaitsLogin s tls server × BeginsAs r p × MayLogIn tls r × (compresses (agreed_on server (client_of r)) ≡ true)
+
+-- nothing is changed: a conversation is the same, and else what comes next is
+abbrev pub IsSameIn : Phase → Phase → Type 0
+IsSameIn phase.Greeting next = next ≡ phase.Greeting
+IsSameIn phase.Refused next = next ≡ phase.Refused
+IsSameIn (phase.Login server) next = next ≡ phase.Login server
+IsSameIn (phase.Encrypted server) next = next ≡ phase.Encrypted server
+IsSameIn (phase.InTls server) next = next ≡ phase.InTls server
+IsSameIn (phase.Commands p) next = (q : Pipeline) × (next ≡ phase.Commands q) × pipe.IsSame p q
+
+abbrev pub IsSame : Session → Session → Type 0
+IsSame s t = IsSameIn s.phase t.phase
+
 -- the conversation that follows the login
 abbrev pub Continues : Session → Pipeline → Type 0
 Continues s p = s.phase ≡ phase.Commands p

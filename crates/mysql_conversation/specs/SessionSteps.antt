@@ -39,6 +39,10 @@ GreetedAs p k next =
 abbrev pub IsNewPipeline : Agreed → Phase → Type 0
 IsNewPipeline a next = (q : Pipeline) × (next ≡ phase.Commands q) × (q.agreed ≡ a) × (q.opening ≡ Login) × PipeTaken q []
 
+-- both sides agree on compression by the login of a client
+abbrev pub CompressedBy : Agreed → Bool → Option SslRequest → Type 0
+CompressedBy server tls login = (r : SslRequest) × (login ≡ Some r) × MayLogIn tls r × (compresses (agreed_on server (client_of r)) ≡ true)
+
 abbrev pub AnsweredAs : Agreed → Bool → List ℕ → Kind → Phase → Type 0
 AnsweredAs server tls p k next =
     (r : SslRequest) × (login_at p ≡ Some r)

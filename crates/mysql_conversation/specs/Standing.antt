@@ -1,7 +1,7 @@
 -- The machine with commands that wait.
 use Rattle.mysql_conversation.specs.Runs.{Runs}
 use Rattle.mysql_conversation.specs.Agreements.{Agreed}
-use Rattle.std.specs.Prelude.{◌≡◌, ℕ, ◌+◌, List, [], ◌∷◌, ◌++◌, Bool, true, false, Option, Some, None, ◌&&◌, if◌then◌else◌}
+use Rattle.std.specs.Prelude.{◌≡◌, ◌⊎◌, ◌≤◌, ℕ, ◌+◌, ◌-◌, ◌^◌, List, [], ◌∷◌, ◌++◌, length, Bool, true, false, Option, Some, None, ◌&&◌, if◌then◌else◌}
 use Rattle.mysql_conversation.specs.Conversation.{answering}
 use Rattle.mysql_conversation.specs.Machine.{take_step, answers, rests, listens, is_due, entrance}
 use Rattle.mysql_conversation.specs.Payloads.{asks_cursor}
@@ -63,6 +63,10 @@ push w c = standing w.state w.number (w.last + 1) (w.waiting ++ wait c (w.last +
 abbrev pub early : Standing → Option Command → Option (Kind × ℕ × Standing)
 early w None = None
 early w (Some c) = Some (kind_of c, w.last + 1, push w c)
+
+-- there is a command, for which there is no place
+abbrev pub IsFullOf : (limit : ℕ) (last : ℕ) → List Waiting → Option Command → Type 0
+IsFullOf limit last q c = (command : Command) × (c ≡ Some command) × ((limit ≤ length q) ⊎ (last ≡ 2 ^ 64 - 1))
 
 -- a packet that is no command stands after all commands that came
 abbrev pub aside : Standing → Option (Kind × State) → Option Command → Option (Kind × ℕ × Standing)

@@ -71,6 +71,8 @@ impl Conversation {
         ensures taken { (items : List Packet) → Taken self.now items → TakenAt (history.agreed self.now) result items }
         ensures opening { result.opening ≡ history.opening self.now }
         ensures state { IsState result }
+        // Of one state they are always the same.
+        ensures value { result ≡ history.numbers self.now }
     {
         numbers_of(self.opening, self.state)
     }

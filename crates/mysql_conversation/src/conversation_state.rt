@@ -42,7 +42,8 @@ fn at(opening: Opening, place: u8, request: u8) -> ConversationState
 }
 
 fn number_of(request: Request) -> u8
-    ensures { request_at result ≡ Some request }
+    ensures request { request_at result ≡ Some request }
+    ensures value { result ≡ spec.number_of request }
 {
     match request {
         Request::Query => 0,
@@ -57,6 +58,7 @@ fn at_definitions(opening: Opening, place: u8, definitions: u64, after: After) -
     ensures place { result.place ≡ place }
     ensures definitions { result.definitions ≡ definitions }
     ensures after { after_at result ≡ Some after }
+    ensures value { result ≡ spec.at_definitions opening place definitions after }
 {
     let mut state = at(opening, place, 0);
     state.definitions = definitions;
@@ -79,6 +81,7 @@ fn at_definitions(opening: Opening, place: u8, definitions: u64, after: After) -
 pub(crate) fn numbers_of(opening: Opening, state: State) -> ConversationState
     ensures opening { result.opening ≡ opening }
     ensures state { state_at result ≡ Some state }
+    ensures value { result ≡ spec.numbers_of opening state }
 {
     match state {
         State::Rest => at(opening, 0, 0),

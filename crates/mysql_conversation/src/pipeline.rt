@@ -1,7 +1,7 @@
 //! Commands that come before the answers to earlier ones.
 
 ghost use Rattle.std.specs.VecDeque.{deque_capacity, deque_len};
-ghost use Rattle.std.specs.Prelude.{true, ◌≡◌, ◌≢◌, ◌↔◌, ◌≤◌, ◌<◌, false, IfOk, IfErr, OnErr, IsTrue, List, [], ◌∷◌, ◌++◌, ℕ, ◌-◌, ◌^◌, ◌⊎◌, length, Some, None};
+ghost use Rattle.std.specs.Prelude.{true, ◌≡◌, ◌≢◌, ◌↔◌, ◌≤◌, ◌<◌, false, IfOk, IfErr, OnErr, IsTrue, List, [], ◌∷◌, ◌++◌, ℕ, ◌-◌, ◌^◌, ◌⊎◌, length, Some, None, Err};
 ghost use Rattle.mysql_conversation.specs.Machine as machine;
 ghost use Rattle.mysql_conversation.specs.Standing as spec;
 ghost use Rattle.mysql_conversation.specs.Expected.{pipe_expects};
@@ -141,6 +141,7 @@ impl Pipeline {
     /// Where an exchange is over, the next begins that waits.
     fn settle(&mut self)
         ensures settled { stands self.new ≡ spec.settle self.old.state self.old.number self.old.last self.old.waiting.items }
+        ensures capacity { piped.capacity self.new ≡ piped.capacity self.old }
         ensures agreed { self.new.agreed ≡ self.old.agreed }
         ensures opening { self.new.opening ≡ self.old.opening }
         ensures limit { self.new.limit ≡ self.old.limit }
@@ -163,10 +164,14 @@ impl Pipeline {
         // Of no kind and number does the packet go on with what was taken.
         ensures refused { IfErr result (λ why. (items : List Numbered) (kind : declared.Kind) (number : ℕ) → why ≡ refusal.Unexpected → PipeTaken self.old items
             → IsPipelinedBeginning (piped.agreed self.old) (piped.opening self.old) (items ++ place from payload.now kind number ∷ []) → ⊥) }
-        // The packet would have to wait, and as many commands wait as may; or 2^64 - 1 commands came.
-        ensures full { IfErr result (λ why. why ≡ refusal.Full → (from ≡ side.Client) × ((piped.MustWait self.old × (piped.limit self.old ≤ piped.waiting self.old)) ⊎ piped.CountsNoMore self.old)) }
+        // Exactly where a command comes that would have to wait, and as many wait as may; or where 2^64 - 1 commands came.
+        ensures full { (result ≡ Err refusal.Full) ↔ piped.IsFull self.old from payload.now }
         // The packet would have to wait, as it may, and there is no capacity for it.
         ensures memory { IfErr result (λ why. why ≡ refusal.Memory → (from ≡ side.Client) × piped.MustWait self.old × (piped.waiting self.old < piped.limit self.old) × piped.HasNoCapacity self.old) }
+        // (only a command has to wait)
+        ensures asked { IfErr result (λ why. why ≡ refusal.Memory → piped.IsCommand from payload.now) }
+        // Where as many commands wait as may, no memory is taken.
+        ensures capacity { piped.limit self.old ≤ piped.waiting self.old → piped.capacity self.new ≡ piped.capacity self.old }
         // What is refused as full, or for memory, comes here.
         ensures comes { IfErr result (λ why. why ≢ refusal.Unexpected → piped.Comes self.old from payload.now) }
         // (the others are of a session alone)
@@ -186,7 +191,9 @@ impl Pipeline {
     fn take_client(&mut self, payload: &[u8]) -> Result<(Kind, u64), Refusal>
         ensures taken { IfOk result (λ x. spec.pipe_step self.old.agreed (stands self.old) side.Client payload.now ≡ Some (x.0, x.1, stands self.new)) }
         ensures refused { IfErr result (λ why. why ≡ refusal.Unexpected → spec.pipe_step self.old.agreed (stands self.old) side.Client payload.now ≡ None) }
-        ensures full { IfErr result (λ why. why ≡ refusal.Full → ((machine.is_due self.old.state ≡ true) × (self.old.limit ≤ length self.old.waiting.items)) ⊎ (self.old.last ≡ 2 ^ 64 - 1)) }
+        ensures full { (result ≡ Err refusal.Full) ↔ piped.IsFull self.old side.Client payload.now }
+        ensures asked { IfErr result (λ why. why ≡ refusal.Memory → piped.IsCommand side.Client payload.now) }
+        ensures capacity { self.old.limit ≤ length self.old.waiting.items → piped.capacity self.new ≡ piped.capacity self.old }
         ensures memory { IfErr result (λ why. why ≡ refusal.Memory → (machine.is_due self.old.state ≡ true) × (length self.old.waiting.items < self.old.limit) × (deque_capacity self.old.waiting ≤ deque_len self.old.waiting)) }
         ensures comes { IfErr result (λ why. why ≢ refusal.Unexpected → spec.pipe_step self.old.agreed (stands self.old) side.Client payload.now ≢ None) }
         ensures ours { IfErr result (λ why. (why ≢ refusal.Encrypted) × (why ≢ refusal.Compressed)) }
@@ -221,6 +228,7 @@ impl Pipeline {
     fn set_aside(&mut self, kind: Kind, state: State) -> Result<(Kind, u64), Refusal>
         ensures taken { IfOk result (λ x. spec.waits self.old.waiting.items ≡ false × (x.0 ≡ kind) × (x.1 ≡ self.old.number) × (stands self.new ≡ spec.standing state self.old.number self.old.last self.old.waiting.items)) }
         ensures refused { IfErr result (λ why. (why ≡ refusal.Unexpected) × (spec.waits self.old.waiting.items ≡ true)) }
+        ensures capacity { piped.capacity self.new ≡ piped.capacity self.old }
         ensures err { OnErr result (stands self.new ≡ stands self.old) }
         ensures agreed { self.new.agreed ≡ self.old.agreed }
         ensures opening { self.new.opening ≡ self.old.opening }
@@ -237,7 +245,9 @@ impl Pipeline {
     fn push(&mut self, payload: &[u8]) -> Result<(Kind, u64), Refusal>
         ensures taken { IfOk result (λ x. spec.early (stands self.old) (spec.command_of payload.now) ≡ Some (x.0, x.1, stands self.new)) }
         ensures refused { IfErr result (λ why. why ≡ refusal.Unexpected → spec.early (stands self.old) (spec.command_of payload.now) ≡ None) }
-        ensures full { IfErr result (λ why. why ≡ refusal.Full → (self.old.limit ≤ length self.old.waiting.items) ⊎ (self.old.last ≡ 2 ^ 64 - 1)) }
+        ensures full { (result ≡ Err refusal.Full) ↔ spec.IsFullOf self.old.limit self.old.last self.old.waiting.items (spec.command_of payload.now) }
+        ensures asked { IfErr result (λ why. why ≡ refusal.Memory → piped.IsCommand side.Client payload.now) }
+        ensures capacity { self.old.limit ≤ length self.old.waiting.items → piped.capacity self.new ≡ piped.capacity self.old }
         ensures memory { IfErr result (λ why. why ≡ refusal.Memory → (length self.old.waiting.items < self.old.limit) × (deque_capacity self.old.waiting ≤ deque_len self.old.waiting)) }
         ensures comes { IfErr result (λ why. why ≢ refusal.Unexpected → spec.early (stands self.old) (spec.command_of payload.now) ≢ None) }
         ensures ours { IfErr result (λ why. (why ≢ refusal.Encrypted) × (why ≢ refusal.Compressed)) }
@@ -266,6 +276,7 @@ impl Pipeline {
     fn take_server(&mut self, payload: &[u8]) -> Result<(Kind, u64), Refusal>
         ensures taken { IfOk result (λ x. spec.pipe_step self.old.agreed (stands self.old) side.Server payload.now ≡ Some (x.0, x.1, stands self.new)) }
         ensures refused { IfErr result (λ why. (why ≡ refusal.Unexpected) × (spec.pipe_step self.old.agreed (stands self.old) side.Server payload.now ≡ None)) }
+        ensures capacity { piped.capacity self.new ≡ piped.capacity self.old }
         ensures err { OnErr result (stands self.new ≡ stands self.old) }
         ensures agreed { self.new.agreed ≡ self.old.agreed }
         ensures opening { self.new.opening ≡ self.old.opening }

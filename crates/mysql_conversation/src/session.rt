@@ -1,6 +1,6 @@
 //! Whole sessions.
 
-ghost use Rattle.std.specs.Prelude.{◌≡◌, ◌↔◌, ◌⊎◌, ◌≤◌, ◌<◌, ◌-◌, ◌^◌, IfOk, IfErr, IfSome, IfNone, OnErr, OnOk, IsTrue, List, [], ◌∷◌, ◌++◌, ℕ, true, false, None, Some, length, not, ◌&&◌};
+ghost use Rattle.std.specs.Prelude.{◌≡◌, ◌↔◌, ◌⊎◌, ◌≤◌, ◌<◌, ◌-◌, ◌^◌, IfOk, IfErr, IfSome, IfNone, OnErr, OnOk, IsTrue, List, [], ◌∷◌, ◌++◌, ℕ, true, false, None, Some, length, not, ◌&&◌, Err};
 ghost use Rattle.mysql_auth.specs.declared.ssl_request.SslRequest as login_head;
 ghost use Rattle.mysql_conversation.specs.Agreements.{agreed_on, compresses};
 ghost use Rattle.mysql_conversation.specs.Payloads as payloads;
@@ -96,8 +96,8 @@ impl Session {
     ghost use Rattle.mysql_conversation.specs.Pipelined.{Numbered};
     ghost use Rattle.mysql_conversation.specs.Piped as piped;
     ghost use Rattle.mysql_conversation.specs.Piped.{place};
-    ghost use Rattle.mysql_conversation.specs.Session.{IsSession, IsSessionBeginning, SessionTaken, IsEncrypted, Continues, Comes, GoesOn, IsLoggedInAmong, MayLogIn, client_of};
-    ghost use Rattle.mysql_conversation.specs.SessionSteps.{GreetedAs, AnsweredAs};
+    ghost use Rattle.mysql_conversation.specs.Session.{IsSession, IsSessionBeginning, SessionTaken, IsEncrypted, AsksForTls, AgreesOnCompression, IsSame, Continues, Comes, GoesOn, IsLoggedInAmong, client_of};
+    ghost use Rattle.mysql_conversation.specs.SessionSteps.{GreetedAs, AnsweredAs, CompressedBy};
     ghost use Rattle.mysql_conversation.specs.Agreements as agreement;
     ghost use Rattle.mysql_conversation.specs.declared.kind.Kind as declared;
     ghost use Rattle.mysql_conversation.specs.declared.kind.Side.TheVariants as side;
@@ -166,6 +166,7 @@ impl Session {
     pub fn decipher(&mut self)
         ensures stays { (items : List Numbered) → SessionTaken self.old items → SessionTaken self.new items }
         ensures in_tls { IsEncrypted self.new → ⊥ }
+        ensures after { self.new.phase ≡ sessions.deciphered_in self.old.phase }
         ensures limit { sessions.limit self.new ≡ sessions.limit self.old }
     {
         if let Phase::Encrypted(server) = &self.phase {
@@ -180,16 +181,20 @@ impl Session {
         // Of no kind and number does the packet go on with what was taken.
         ensures refused { IfErr result (λ why. (items : List Numbered) (kind : declared.Kind) (number : ℕ) → why ≡ refusal.Unexpected → SessionTaken self.old items
             → IsSessionBeginning (items ++ place from payload.now kind number ∷ []) → ⊥) }
-        // A request to go on in TLS came, and nothing says that what comes is deciphered.
-        ensures encrypted { IfErr result (λ why. why ≡ refusal.Encrypted → IsEncrypted self.old) }
-        // It is a login, by which both sides agree on compression.
-        ensures compressed { IfErr result (λ why. why ≡ refusal.Compressed → (server : agreement.Agreed) × (head : login_head.SslRequest) × (login_at payload.now ≡ Some head) × (compresses (agreed_on server (client_of head)) ≡ true)) }
+        // Exactly where a request to go on in TLS came, and nothing says that what comes is deciphered.
+        ensures encrypted { (result ≡ Err refusal.Encrypted) ↔ IsEncrypted self.old }
+        ensures tls { IfOk result (λ _. IsEncrypted self.new ↔ AsksForTls self.old from payload.now) }
+        // Exactly of a login by which both sides agree on compression.
+        ensures compressed { (result ≡ Err refusal.Compressed) ↔ AgreesOnCompression self.old from payload.now }
         // As a pipeline's.
-        ensures full { IfErr result (λ why. why ≡ refusal.Full → (p : pipe.Pipeline) × Continues self.old p × (from ≡ side.Client) × ((piped.MustWait p × (piped.limit p ≤ piped.waiting p)) ⊎ piped.CountsNoMore p)) }
+        ensures full { (result ≡ Err refusal.Full) ↔ ((p : pipe.Pipeline) × Continues self.old p × piped.IsFull p from payload.now) }
+        ensures asked { IfErr result (λ why. why ≡ refusal.Memory → piped.IsCommand from payload.now) }
         ensures memory { IfErr result (λ why. why ≡ refusal.Memory → (p : pipe.Pipeline) × Continues self.old p × (from ≡ side.Client) × piped.MustWait p × (piped.waiting p < piped.limit p) × piped.HasNoCapacity p) }
         // What is refused as full, or for memory, comes here.
         ensures comes { IfErr result (λ why. (why ≡ refusal.Full) ⊎ (why ≡ refusal.Memory) → Comes self.old from payload.now) }
         ensures err { OnErr result ((items : List Numbered) → SessionTaken self.old items → SessionTaken self.new items) }
+        // After an error nothing is changed.
+        ensures same { OnErr result (IsSame self.old self.new) }
         ensures limit { sessions.limit self.new ≡ sessions.limit self.old }
     {
         match &mut self.phase {
@@ -247,6 +252,7 @@ impl Session {
         ensures taken { IfOk result (λ x. (x.1 ≡ 0) × AnsweredAs server in_tls payload.now x.0 self.new.phase) }
         ensures refused { IfErr result (λ why. ((why ≡ refusal.Unexpected) × (login_at payload.now ≡ None))
             ⊎ ((why ≡ refusal.Compressed) × (head : login_head.SslRequest) × (login_at payload.now ≡ Some head) × (compresses (agreed_on server (client_of head)) ≡ true))) }
+        ensures compressed { (result ≡ Err refusal.Compressed) ↔ CompressedBy server in_tls (login_at payload.now) }
         ensures limit { OnOk result (sessions.limit self.new ≡ self.old.limit) }
         ensures err { OnErr result (self.new ≡ self.old) }
     {

@@ -1,11 +1,12 @@
 -- How much a table keeps, and which packets have it take memory.
-use Rattle.std.specs.Prelude.{◌≡◌, ℕ, zero, suc, ◌+◌, ◌≤◌, Bool, true, false, ◌&&◌, List, length, Option, Some, None, is_some, Result, OnOk, OnErr, IsTrue}
+use Rattle.std.specs.Prelude.{◌≡◌, ℕ, zero, suc, ◌+◌, ◌≤◌, nat_lt, Bool, true, false, not, ◌&&◌, ◌||◌, List, length, Option, Some, None, is_some, Result, OnOk, OnErr, IsTrue}
 use Rattle.mysql_conversation.specs.Agreements.{Agreed}
 use Rattle.mysql_conversation.specs.declared.kind.Kind.{Kind}
 use Rattle.mysql_conversation.specs.declared.kind.Kind.TheVariants as kind
 use Rattle.mysql_statements.specs.After.{after}
 use Rattle.mysql_statements.specs.Packets.{prepared_at, column_at}
-use Rattle.mysql_statements.specs.Table.{Table, held, without, has_place}
+use Rattle.mysql_statements.specs.Kept.{Kept}
+use Rattle.mysql_statements.specs.Table.{Table, held, without, has_place, place_of}
 use Rattle.mysql_statements.specs.declared.task.Task.{Task}
 use Rattle.mysql_statements.specs.declared.task.Task.TheVariants.{Other, Prepare, Definitions, Execution}
 
@@ -23,20 +24,24 @@ pub record IsWithin (t : Table) : Type 0 where
 
 -- ---- memory
 
--- the next definition is that of a column, and is kept
-abbrev pub keeps_column : Task → Bool
-keeps_column (Definitions id zero (suc left)) = true
-keeps_column (Execution id (suc left)) = true
-keeps_column _ = false
+abbrev pub is_known : ℕ → List Kept → Bool
+is_known id ss = is_some (place_of id ss)
 
-abbrev pub keeps_statement : Option ℕ → ℕ → Table → Bool
-keeps_statement None types t = false
-keeps_statement (Some id) types t = has_place t.limits (without id t.statements) types
+-- the next definition is that of a column of a statement that is known, and is kept
+abbrev pub keeps_column : Task → List Kept → Bool
+keeps_column (Definitions id zero (suc left)) ss = is_known id ss
+keeps_column (Execution id (suc left)) ss = is_known id ss
+keeps_column _ ss = false
+
+-- The statement gets a place. It takes memory for its parameters, and for itself where it doesn't stand in the place of one of its number.
+abbrev pub keeps_statement : Option ℕ → (params columns : ℕ) → Table → Bool
+keeps_statement None params columns t = false
+keeps_statement (Some id) params columns t = has_place t.limits (without id t.statements) (params + columns) && (nat_lt 0 params || not (is_known id t.statements))
 
 -- the packet has the table keep a statement, or the definition of a column
 abbrev pub takes_memory : Agreed → Kind → List ℕ → Table → Bool
-takes_memory a (kind.PrepareOk columns params follow) p t = keeps_statement (prepared_at p) (params + columns) t
-takes_memory a kind.Column p t = is_some (column_at a p) && keeps_column t.task
+takes_memory a (kind.PrepareOk columns params follow) p t = keeps_statement (prepared_at p) params columns t
+takes_memory a kind.Column p t = is_some (column_at a p) && keeps_column t.task t.statements
 takes_memory a _ p t = false
 
 -- the table now is the one after the packet, where there was memory or not, which is asked for alone where something is to be kept

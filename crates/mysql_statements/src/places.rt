@@ -1,6 +1,7 @@
 //! Statements by their numbers.
 
-ghost use Rattle.std.specs.Prelude.{◌≡◌, ◌<◌, ◌+◌, length, IfSome, IfNone, OnOk, OnErr, Some, None};
+ghost use Rattle.std.specs.Prelude.{◌≡◌, ◌<◌, ◌+◌, length, vec_len, vec_capacity, true, IfSome, IfNone, OnOk, OnErr, Some, None};
+ghost use Rattle.mysql_statements.specs.Bounds.{is_known};
 ghost use Rattle.mysql_statements.specs.Binding as binding;
 ghost use Rattle.mysql_statements.specs.Statement as statement;
 ghost use Rattle.mysql_statements.specs.Table as spec;
@@ -34,10 +35,11 @@ pub(crate) fn find(statements: &[Statement], id: u32) -> Option<&Statement>
     Some(&statements[place])
 }
 
-/// Takes the statement of that number out. It looks at each one.
+/// Removes the statement with that number. It looks at each one. If there was one, the list has memory for another.
 #[tactic(auto, using(crate::proofs::Numbers::gone))]
 pub(crate) fn forget(statements: &mut Vec<Statement>, id: u32)
-    ensures { statements.new.items ≡ spec.without id statements.old.items }
+    ensures gone { statements.new.items ≡ spec.without id statements.old.items }
+    ensures spare { is_known id statements.old.items ≡ true → vec_len statements.new < vec_capacity statements.new }
 {
     while let Some(place) = place_of(statements, id) {
         statements.remove(place);
@@ -63,6 +65,7 @@ pub(crate) fn define_column(
 ) -> Result<(), AllocError>
     ensures ok { OnOk result (statements.new ≡ spec.change id (statement.with_column column) statements.old) }
     ensures err { OnErr result (statements.new ≡ statements.old) }
+    ensures known { OnErr result (is_known id statements.old ≡ true) }
 {
     if let Some(place) = place_of(statements, id) {
         statements[place].define_column(column)?;

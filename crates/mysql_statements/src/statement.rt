@@ -1,6 +1,6 @@
 //! What is kept of a prepared statement.
 
-ghost use Rattle.std.specs.Prelude.{◌≡◌, ◌<◌, ◌+◌, ◌-◌, length, IfOk, IfSome, IfNone, OnOk, OnErr, map};
+ghost use Rattle.std.specs.Prelude.{◌≡◌, ◌<◌, ◌+◌, ◌-◌, length, replicate, IfOk, IfSome, IfNone, IsOk, OnOk, OnErr, map};
 ghost use Rattle.mysql_statements.specs.Binding as binding;
 ghost use Rattle.mysql_statements.specs.Statement as spec;
 
@@ -24,6 +24,17 @@ fn untyped() -> BoundParam
         ),
         is_sent_ahead: false,
     }
+}
+
+/// `count` parameters, none with a known type. Without parameters no memory is allocated.
+fn untyped_params(alloc: Global, count: u16) -> Result<Vec<BoundParam>, AllocError>
+    ensures value { IfOk result (λ params. params.items ≡ replicate count spec.untyped) }
+    ensures no_memory { count ≡ 0 → IsOk result }
+{
+    if count == 0 {
+        return Ok(Vec::new(alloc));
+    }
+    vec![in alloc; untyped(); usize::from(count)]
 }
 
 /// The type of a parameter, where so many are left.
@@ -79,8 +90,9 @@ impl Statement {
     /// One with so many parameters and columns, of which no definition came.
     pub(crate) fn new(alloc: Global, id: u32, params: u16, columns: u16) -> Result<Self, AllocError>
         ensures value { IfOk result (λ s. s ≡ spec.undefined id params columns) }
+        ensures no_memory { params ≡ 0 → IsOk result }
     {
-        let params = vec![in alloc; untyped(); usize::from(params)]?;
+        let params = untyped_params(alloc, params)?;
         Ok(Statement {
             id,
             params,

@@ -138,7 +138,7 @@ impl Statements {
     ) -> Result<(), AllocError>
         ensures ok { OnOk result (self.new ≡ spec.prepared true id params columns follow self.old) }
         ensures err { OnErr result (self.new ≡ spec.prepared false id params columns follow self.old) }
-        ensures asked { OnErr result (IsTrue (bounds.keeps_statement (Some id) (params + columns) self.old)) }
+        ensures asked { OnErr result (IsTrue (bounds.keeps_statement (Some id) params columns self.old)) }
     {
         forget(&mut self.statements, id);
         self.last = Some(id);
@@ -158,7 +158,7 @@ impl Statements {
     pub(crate) fn define(&mut self, column: Option<RowColumn>) -> Result<(), AllocError>
         ensures ok { OnOk result (self.new ≡ spec.defined true column self.old) }
         ensures err { OnErr result (self.new ≡ spec.defined false column self.old) }
-        ensures asked { OnErr result (IsTrue (is_some column && bounds.keeps_column self.old.task)) }
+        ensures asked { OnErr result (IsTrue (is_some column && bounds.keeps_column self.old.task self.old.statements)) }
     {
         let Some(column) = column else {
             self.task = Task::Other;
@@ -190,7 +190,7 @@ impl Statements {
         requires { self.old.task ≡ task.Definitions id params left }
         ensures ok { OnOk result (self.new ≡ spec.defined_at (task.Definitions id params left) true column self.old) }
         ensures err { OnErr result (self.new ≡ spec.defined_at (task.Definitions id params left) false column self.old) }
-        ensures asked { OnErr result (IsTrue (bounds.keeps_column self.old.task)) }
+        ensures asked { OnErr result (IsTrue (bounds.keeps_column self.old.task self.old.statements)) }
     {
         if let Some(after) = params.checked_sub(1) {
             define_param(&mut self.statements, id, params, column);

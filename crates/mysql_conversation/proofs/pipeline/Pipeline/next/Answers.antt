@@ -1,7 +1,9 @@
 use Rattle.std.proofs.Common.{◌≡◌, Some, None, [], ◌∷◌, ◌++◌, sym, subst, refl}
-use Rattle.std.specs.Prelude.{◌≢◌}
+use Rattle.std.specs.Prelude.{◌≢◌, ◌↔◌, Err}
 use Rattle.mysql_conversation.specs.Standing.{pipe_step}
-use Rattle.mysql_conversation.specs.Piped.{stands, place}
+use Rattle.mysql_conversation.specs.Piped.{IsFull, stands, place}
+use Rattle.mysql_conversation.specs.declared.pipeline.Refusal.TheVariants as refusal
+use Rattle.mysql_conversation.proofs.Places.{neither, only, server_is_never_full, unexpected_full}
 use Rattle.mysql_conversation.proofs.Stood.{pipe_comes, pipe_one_more, pipe_refused, run_stays, lift_ok, lift_err}
 use Rattle.mysql_conversation.proofs.pipeline.Pipeline.next.Goals as goal
 
@@ -36,3 +38,11 @@ returns-in-Client-clause-comes c = lift_err c.take_client.result
     (λ why h n items r. pipe_comes _ _ items (stands c.args.self.now) c.args.from c.args.payload.now _ r refl
     (subst (λ side. pipe_step c.args.self.now.agreed (stands c.args.self.now) side c.args.payload.now ≢ None) (sym c.in-Client.is) (h n)))
     c.take_client.ensures.comes
+
+pub returns-in-Client-clause-full : goal.returns-in-Client-clause-full
+returns-in-Client-clause-full c = subst (λ side. (c.take_client.result ≡ Err refusal.Full) ↔ IsFull c.args.self.now side c.args.payload.now) (sym c.in-Client.is) c.take_client.ensures.full
+
+pub returns-in-Server-clause-full : goal.returns-in-Server-clause-full
+returns-in-Server-clause-full c = neither
+    (only c.take_server.result refusal.Full c.take_server.ensures.refused (λ e h g. unexpected_full e h.0 g))
+    (server_is_never_full c.args.self.now c.args.payload.now c.args.from c.in-Server.is)
