@@ -27,9 +27,9 @@ pub(crate) struct Tracked {
 }
 
 impl Model for Tracked {
-    ghost use Rattle.mysql_observer.specs.Tracked.{Tracked as All};
+    ghost use Rattle.mysql_observer.specs.Tracked.{Tracked as TrackedFacts};
 
-    ghost Value = { All };
+    ghost Value = { TrackedFacts };
 
     ghost view = { λ f. record { table = f.statements; early = f.early; lost = f.lost; params = f.params } };
 }
