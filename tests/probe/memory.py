@@ -21,9 +21,9 @@ NAMES = {
 WORDS = {
     r"\bAnswers\b": "memory is an answer only where the reader takes some",
     r"\bIs(Server|Client)Fault\b": "a fault is that of a grammar, which is never that of memory",
-    r"\bFaults false\b|\bRefuses(Next|Param)\b|\bGives(One|Param|Bound)\b": "a fault is the grammar's, which is never that of memory",
+    r"\bFaults false\b|\bRefuses(Next|Param)\b|\bGives(One|Param|Bound|AsSent|BoundAsSent)\b": "a fault is the grammar's, which is never that of memory",
     r"\b(AttributesThere|PassedTo)\b": "attributes are read without memory",
-    r"\bNext(Change|ChangeRef|Variable|Pair|Sid|Interval|Attribute)\b": "an entry is read without memory, or as its grammar has it",
+    r"\bNext(Change|ChangeRef|Variable|Pair|Sid|Interval|Attribute|AttributeAsSent)\b": "an entry is read without memory, or as its grammar has it",
     r"\bGivesText\b|BorrowsUtf8\b": "what is UTF-8 is borrowed",
     r"\bAdds(Row|Copy|Params)?\b": "memory is an answer only where the row would be taken",
     r"\bBuilds\b": "a request is built without memory",

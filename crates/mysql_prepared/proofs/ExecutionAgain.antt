@@ -24,7 +24,7 @@ use Rattle.mysql_values.specs.declared.param_type.ParamType.{ParamType}
 use Rattle.mysql_prepared.specs.Attributes.{attribute, value_of, values}
 use Rattle.mysql_prepared.specs.BindFront.{BindFront, bind_front, nothing_bound}
 use Rattle.mysql_prepared.specs.Bitmap.{bytes_for, cell}
-use Rattle.mysql_prepared.specs.ExecuteParam.{Param, Sent, SentAhead, attribute_param, value_of as held_of}
+use Rattle.mysql_prepared.specs.ExecuteParam.{Param, Sent, SentAhead, AsSent, attribute_param, value_of as held_of}
 use Rattle.mysql_prepared.specs.ExecuteRead.{BoundType, TypedParam, at_least, count_of, execution, has_attributes, in_force, param_form, typed_param}
 use Rattle.mysql_prepared.specs.Execution.{Execution, execution_bytes, has_some}
 use Rattle.mysql_prepared.specs.NullMarks.{bitmap_of, null_bit}
@@ -92,6 +92,7 @@ sent-again t v bit e h is rest = (param_read_under t v, refl, value-again t v bi
 one-again : (l : Bool) (t : ParamType) (p : Param) (bit : ℕ) → bit ≡ null_bit (held_of p) → ParamFits p → is_spelled_under t p ≡ true
     → IsSpelling (param_form (was_sent_ahead (as_read_under l t p)) (bit == 1) t) (as_read_under l t p) (bytes_under l t p)
 one-again l t SentAhead bit e h is rest = (refl, refl)
+one-again l t (AsSent has_null_bit bytes) bit e h is rest = absurd h
 one-again true t (Sent (Plain (Bytes x))) bit e h is rest = (refl, refl)
 one-again true t (Sent (Plain NULL)) bit e h is rest = sent-again t (Plain NULL) bit e h is rest
 one-again true t (Sent (Plain (Int x))) bit e h is rest = sent-again t (Plain (Int x)) bit e h is rest

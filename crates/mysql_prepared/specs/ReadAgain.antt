@@ -9,7 +9,7 @@ use Rattle.mysql_values.specs.ParamValue.{ParamIsInRange, param_content, param_r
 use Rattle.mysql_values.specs.declared.param_type.ParamType.{ParamType}
 use Rattle.mysql_prepared.specs.Attributes.{Attribute}
 use Rattle.mysql_prepared.specs.ExecuteHead.{cursor_flags}
-use Rattle.mysql_prepared.specs.ExecuteParam.{Param, Sent, SentAhead}
+use Rattle.mysql_prepared.specs.ExecuteParam.{Param, Sent, SentAhead, AsSent}
 use Rattle.mysql_prepared.specs.ExecuteParams.{where_some}
 use Rattle.mysql_prepared.specs.ExecuteRead.{TypedParam, has_attributes}
 use Rattle.mysql_prepared.specs.Execution.{Execution, all_params, count_bytes, has_names, has_some, params_bytes, types_follow}
@@ -23,6 +23,7 @@ use Rattle.mysql_prepared.specs.declared.execute_view.BoundParam.{BoundParam}
 abbrev pub as_read_under : (as_long_data : Bool) → ParamType → Param → Param
 as_read_under l t (Sent value) = if is_left_out l value then SentAhead else Sent (param_read_under t value)
 as_read_under l t SentAhead = SentAhead
+as_read_under l t (AsSent has_null_bit bytes) = AsSent has_null_bit bytes
 
 -- a type as it is read: with its name where a name is sent
 abbrev pub type_read : (named : Bool) → NamedType → NamedType
@@ -37,11 +38,13 @@ attribute_read a = record { named_type = attribute_type a; value = param_read_un
 abbrev pub was_sent_ahead : Param → Bool
 was_sent_ahead (Sent value) = false
 was_sent_ahead SentAhead = true
+was_sent_ahead (AsSent has_null_bit bytes) = false
 
--- numbers have their widths
+-- numbers have their widths; bytes as they were sent may be any, so that nothing is said of what they are read as
 abbrev pub ParamFits : Param → Type 0
 ParamFits (Sent value) = ParamIsInRange value
 ParamFits SentAhead = Unit {0}
+ParamFits (AsSent has_null_bit bytes) = ⊥
 
 pub record SentFits (p : TypedParam) : Type 0 where
   pub flags : (type_flags p.named_type.param_type).0 < 2 ^ 8

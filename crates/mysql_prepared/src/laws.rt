@@ -168,7 +168,8 @@ pub fn execute_head_round_trips()
 
 /// What is written of an execution is read again, whatever follows: its head, and then, under the capabilities of the session, its
 /// parameters and its attributes, each with its type and its name. The server knows how many parameters there are, which were sent
-/// ahead, and where no types are sent, those of an earlier execution. A number of a narrow type is read as a signed one.
+/// ahead, and where no types are sent, those of an earlier execution. A number of a narrow type is read as a signed one. Of parameters
+/// as they were sent nothing is said.
 pub fn execution_round_trips()
     ensures head { (e : Execution) (rest : List ℕ) → head.stmt_id e.head < 2 ^ 32 → head.cursor_flags e.head < 2 ^ 8 → head.iteration_count e.head < 2 ^ 32
         → (head.execute_head.form tt).reads (execution_bytes e ++ rest) ≡ Ok (e.head, bytes_after_head e ++ rest) }

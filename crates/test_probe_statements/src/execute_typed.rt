@@ -150,7 +150,7 @@ pub fn execute_typed(out: &mut Out, request: &Request<'_>) {
     write_at_once(out, builder, &params);
 }
 
-/// A row is written to a slice that has room for it, or why it is refused, and then the slice is as it was.
+/// Writes a row to a slice of 64 bytes, or shows why it is refused, and whether the slice is then as it was.
 pub fn write_row_params(out: &mut Out, request: &Request<'_>) -> Result {
     let alloc = out.alloc();
     let columns = columns(request)?;
