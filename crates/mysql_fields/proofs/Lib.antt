@@ -1,3 +1,4 @@
 pub mod Heads
 pub mod Objects
 pub mod Texts
+pub mod TextLines

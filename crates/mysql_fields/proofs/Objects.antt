@@ -1,5 +1,5 @@
 -- Objects of fields have no float.
-use Rattle.std.proofs.Common.{◌≡◌, ℕ, List, [], ◌∷◌, Bool, true, false, ◌||◌, Ordering, Less, Equal, Greater, refl, true≢false, if◌then◌else◌, pos, negsuc, codes}
+use Rattle.std.proofs.Common.{◌≡◌, ℕ, List, [], ◌∷◌, ◌++◌, append_assoc, ap, ◌∙◌, is_ok, OnOk, Result, Ok, Err, Bool, true, false, Ordering, Less, Equal, Greater, refl, true≢false, if◌then◌else◌, pos, negsuc, codes}
 use Rattle.std.specs.Ordering.{nat_cmp, match_ordering}
 use Rattle.std.specs.Cmp.Lexicographic.{slice_cmp}
 use Rattle.std.specs.Str.{is_utf8}
@@ -9,8 +9,8 @@ use Rattle.serde_json.specs.View.{items_of}
 use Rattle.mysql_values.specs.Value.{Content}
 use Rattle.mysql_values.specs.Value as value
 use Rattle.mysql_fields.specs.Fields.{Held, Number, Bytes, Digits, Word, Flag, Value, WithOffset, Absent, Said, is_float, have_float, value_is_float}
-use Rattle.mysql_fields.specs.FieldObject.{bytes_data, digits_data, value_data, held_data, is_item, has_name, with_members, items_named, with_items, with_list, with_lists, object_of}
-use Rattle.serde_json.specs.Written.{has_float, items_have_float, members_have_float}
+use Rattle.mysql_fields.specs.FieldObject.{bytes_data, digits_data, value_data, held_data, is_item, has_name, with_members, items_named, with_items, with_list, with_lists, object_of, object_line}
+use Rattle.serde_json.specs.Written.{compact_text, has_float, items_have_float, members_have_float}
 
 text-or-digits : (is : Bool) (bytes : List ℕ) → has_float (if is then string bytes else digits_data bytes) ≡ false
 text-or-digits true bytes = refl
@@ -96,6 +96,16 @@ pub lists-in-turn : (fields : List Said) (none one two three four five six seven
     → seven ≡ with_list (codes "expected") fields six → seven ≡ with_lists fields none
 unfolding with_lists
 lists-in-turn fields none one two three four five six seven a b c d e f g = rw (g, f, e, d, c, b, a) refl
+
+-- the text of an object, and a line feed
+pub wrote-object : {T E : Type 0} (r : Result T E) (whole : Data) (head fields : List Said) (old text mid new : List ℕ) → whole ≡ object_of head fields
+    → (has_float whole ≡ false → text ≡ compact_text whole) → mid ≡ old ++ text → new ≡ (if is_ok r then mid ++ codes "\n" else mid)
+    → OnOk r (have_float head ≡ false → have_float fields ≡ false → new ≡ old ++ object_line head fields)
+wrote-object (Ok x) whole head fields old text mid new is written e n = λ h g.
+    let none : has_float whole ≡ false = ap has_float is ∙ object-none head fields h g in
+    let shown : text ≡ compact_text (object_of head fields) = written none ∙ ap compact_text is in
+    n ∙ ap (λ (m : List ℕ). m ++ codes "\n") e ∙ append_assoc old text (codes "\n") ∙ ap (λ (t : List ℕ). old ++ (t ++ codes "\n")) shown
+wrote-object (Err x) whole head fields old text mid new is written e n = tt
 
 pub ruleset in_turn = (lists-in-turn)
 

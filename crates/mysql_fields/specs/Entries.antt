@@ -3,8 +3,8 @@ use Rattle.std.specs.Prelude.{◌≡◌, ℕ, List, [], ◌∷◌, ◌++◌, len
 use Rattle.mysql_conversation.specs.declared.kind.Side.{Side}
 use Rattle.mysql_conversation.specs.declared.kind.Side.TheVariants as side
 use Rattle.mysql_fields.specs.Fields.{Said, said, Number, Word, Digits}
-use Rattle.mysql_fields.specs.FieldText.{lines_of}
-use Rattle.mysql_fields.specs.FieldObject.{object_line}
+use Rattle.mysql_fields.specs.FieldText.{AppendsLines, lines_of}
+use Rattle.mysql_fields.specs.FieldObject.{AppendsObject, object_line}
 use Rattle.mysql_fields.specs.declared.entry.Layout.{Layout}
 use Rattle.mysql_fields.specs.declared.entry.Layout.TheVariants as layout
 use Rattle.mysql_fields.specs.declared.entry.Packet.{Packet}
@@ -67,3 +67,14 @@ remark_text layout.Json r fields = object_line (remark_head r) fields
 abbrev pub remark_front : Layout → Remark → List ℕ
 remark_front layout.Lines r = remark_line r
 remark_front layout.Json r = []
+
+-- ---- whatever the fields hold, floats too
+
+-- after its line the packet's fields are appended, or its object is
+abbrev pub AppendsPacket : Layout → Packet → List Said → (old new : List ℕ) → Type 0
+AppendsPacket layout.Lines p fields old new = AppendsLines fields (old ++ packet_line p) new
+AppendsPacket layout.Json p fields old new = AppendsObject (packet_head p) fields old new
+
+abbrev pub AppendsRemark : Layout → Remark → List Said → (old new : List ℕ) → Type 0
+AppendsRemark layout.Lines r fields old new = AppendsLines fields (old ++ remark_line r) new
+AppendsRemark layout.Json r fields old new = AppendsObject (remark_head r) fields old new

@@ -1,15 +1,17 @@
 -- Fields as a JSON object.
-use Rattle.std.specs.Prelude.{ℕ, ◌||◌, Bool, List, [], ◌∷◌, ◌++◌, codes, if◌then◌else◌}
+use Rattle.std.specs.Prelude.{◌≡◌, ◌≤◌, ℕ, ◌||◌, Bool, List, [], ◌∷◌, ◌++◌, Some, codes, if◌then◌else◌}
 use Rattle.std.specs.Str.{is_utf8, bytes_eq}
 use Rattle.hex.specs.Hex.{encode_lower}
-use Rattle.serde_json.specs.Data.{Data, null, boolean, number, string, array, object, unsigned, Members, no_members, member, put}
+use Rattle.serde_json.specs.Data.{Data, null, boolean, number, string, array, object, unsigned, Members, no_members, member, put, depth}
 use Rattle.serde_json.specs.Find.{of_integer}
 use Rattle.serde_json.specs.View.{items_of}
-use Rattle.serde_json.specs.Written.{compact_text}
+use Rattle.serde_json.specs.Read.{max_depth, read}
+use Rattle.serde_json.specs.Written.{compact_text, IsInOrder}
 use Rattle.mysql_values.specs.Value.{Content}
 use Rattle.mysql_values.specs.Value as value
 use Rattle.mysql_fields.specs.Fields.{Held, Number, Bytes, Digits, Word, Flag, Value, WithOffset, Absent, Said}
 use Rattle.mysql_fields.specs.FieldText.{date_text, offset_date_text, time_text}
+use Rattle.mysql_fields.specs.Floats.{float_data, float_in, double_in}
 
 -- digits, as the one member of an object
 abbrev pub digits_data : List ℕ → Data
@@ -19,14 +21,14 @@ digits_data bytes = object (member (codes "hex") (string (encode_lower bytes)) n
 abbrev pub bytes_data : List ℕ → Data
 bytes_data bytes = if is_utf8 bytes then string bytes else digits_data bytes
 
--- a value that is no float; a date and a time are texts, as in a line
+-- a value; a date and a time are texts, as in a line
 abbrev pub value_data : Content → Data
 value_data value.NULL = null
 value_data (value.Bytes bytes) = bytes_data bytes
 value_data (value.Int n) = number (of_integer n)
 value_data (value.UInt n) = number (unsigned n)
-value_data (value.Float bits) = null
-value_data (value.Double bits) = null
+value_data (value.Float bits) = float_data (float_in bits)
+value_data (value.Double bits) = float_data (double_in bits)
 value_data (value.Date date) = string (date_text date)
 value_data (value.Time time) = string (time_text time)
 
@@ -81,3 +83,11 @@ object_of head fields = object (with_lists fields (with_members fields (with_mem
 -- the object and a line feed
 abbrev pub object_line : List Said → List Said → List ℕ
 object_line head fields = compact_text (object_of head fields) ++ codes "\n"
+
+-- Also where there are floats, whose digits no clause knows: the text has the object's members, each once and in order, and is read as the object.
+abbrev pub IsObjectText : List Said → List Said → List ℕ → Type 0
+IsObjectText head fields text = IsInOrder text (object_of head fields) × (depth (object_of head fields) ≤ max_depth → read text ≡ Some (object_of head fields))
+
+-- such an object and a line feed are appended
+abbrev pub AppendsObject : List Said → List Said → (old new : List ℕ) → Type 0
+AppendsObject head fields old new = (text : List ℕ) × IsObjectText head fields text × (new ≡ old ++ (text ++ codes "\n"))

@@ -1,5 +1,5 @@
 -- Fields as lines.
-use Rattle.std.specs.Prelude.{ℕ, ℤ, pos, negsuc, suc, ◌^◌, ◌-◌, ◌/◌, ◌%◌, Bool, true, false, List, [], ◌++◌, codes, decimal, map}
+use Rattle.std.specs.Prelude.{◌≡◌, ℕ, ℤ, pos, negsuc, suc, ◌^◌, ◌-◌, ◌/◌, ◌%◌, Bool, true, false, List, [], ◌∷◌, ◌++◌, codes, decimal, map}
 use Rattle.std.specs.Fmt.{padded_integral, format_spec, signed_decimal}
 use Rattle.std.specs.List.{concat}
 use Rattle.hex.specs.Hex.{encode_lower}
@@ -9,6 +9,7 @@ use Rattle.mysql_values.specs.Value as value
 use Rattle.mysql_values.specs.declared.temporal.DateTime.{DateTime}
 use Rattle.mysql_values.specs.declared.temporal.TimeSpan.{TimeSpan}
 use Rattle.mysql_fields.specs.Fields.{Held, Number, Bytes, Digits, Word, Flag, Value, WithOffset, Absent, Said}
+use Rattle.mysql_fields.specs.Floats.{IsFloatText, float_in, double_in}
 
 -- bytes: digits after an x
 abbrev pub prefixed : List ℕ → List ℕ
@@ -80,3 +81,28 @@ line_of field = field.name ++ (codes ": " ++ (held_text field.held ++ codes "\n"
 -- a line for each field
 abbrev pub lines_of : List Said → List ℕ
 lines_of fields = concat (map line_of fields)
+
+-- ---- floats, whose digits no clause knows
+
+-- the text is that of the value, also of a float
+abbrev pub IsValueText : Content → List ℕ → Type 0
+IsValueText (value.Float bits) text = IsFloatText (float_in bits) text
+IsValueText (value.Double bits) text = IsFloatText (double_in bits) text
+IsValueText v text = text ≡ value_text v
+
+abbrev pub IsHeldText : Held → List ℕ → Type 0
+IsHeldText (Value v) text = IsValueText v text
+IsHeldText held text = text ≡ held_text held
+
+-- a name and what the field holds
+abbrev pub IsLine : Said → List ℕ → Type 0
+IsLine field line = (text : List ℕ) × IsHeldText field.held text × (line ≡ field.name ++ (codes ": " ++ (text ++ codes "\n")))
+
+-- a line for each field
+abbrev pub AreLines : List Said → List ℕ → Type 0
+AreLines [] text = text ≡ []
+AreLines (field ∷ fields) text = (line : List ℕ) × (rest : List ℕ) × IsLine field line × AreLines fields rest × (text ≡ line ++ rest)
+
+-- such lines are appended
+abbrev pub AppendsLines : List Said → (old new : List ℕ) → Type 0
+AppendsLines fields old new = (text : List ℕ) × AreLines fields text × (new ≡ old ++ text)

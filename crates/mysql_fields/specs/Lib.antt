@@ -3,4 +3,5 @@ pub mod Entries
 pub mod FieldObject
 pub mod FieldText
 pub mod Fields
+pub mod Floats
 pub mod ReplyFields

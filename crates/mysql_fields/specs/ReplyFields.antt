@@ -1,5 +1,5 @@
 -- What replies say.
-use Rattle.std.specs.Prelude.{ℕ, List, [], ◌∷◌, codes, option_map}
+use Rattle.std.specs.Prelude.{List, [], ◌∷◌, codes, option_map}
 use Rattle.mysql_replies.specs.declared.column_count.ColumnCount.{ColumnCount}
 use Rattle.mysql_replies.specs.declared.ok_packet.OkPacket.{OkPacket}
 use Rattle.mysql_replies.specs.declared.progress_report.ProgressReport.{ProgressReport}

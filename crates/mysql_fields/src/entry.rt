@@ -1,6 +1,6 @@
 //! Packets of a recording, and what is said between packets, as they are shown.
 
-ghost use Rattle.std.specs.Prelude.{◌≡◌, ◌++◌, OnOk, string_bytes, false};
+ghost use Rattle.std.specs.Prelude.{◌≡◌, ◌++◌, OnOk, OnErr, string_bytes, false};
 ghost use Rattle.mysql_fields.specs.Entries as spec;
 ghost use Rattle.mysql_fields.specs.Fields.{have_float};
 
@@ -79,11 +79,15 @@ impl<'a> Packet<'a> {
         ensures ok { OnOk result (have_float fields.now ≡ false → string_bytes out.new ≡ string_bytes out.old ++ spec.packet_text layout self.now fields.now) }
         // Also where one of the fields is a float:
         ensures begins { OnOk result (spec.Begins (spec.packet_front layout self.now) (string_bytes out.old) (string_bytes out.new)) }
+        ensures shown { OnOk result (spec.AppendsPacket layout self.now fields.now (string_bytes out.old) (string_bytes out.new)) }
+        // What stands before is left.
+        ensures err { OnErr result (spec.Stays (string_bytes out.old) (string_bytes out.new)) }
     {
         match layout {
             Layout::Lines => {
                 let (sign, sequence, kind) = (sign_of(self.side), self.sequence, self.kind);
-                write!(out, "{sign} {sequence} {kind}\n")?;
+                let line = format!(in alloc; "{sign} {sequence} {kind}\n")?;
+                out.push_str(line.as_str())?;
                 append_lines(alloc, out, fields)
             }
             Layout::Json => {
@@ -115,11 +119,15 @@ impl Remark {
         ensures ok { OnOk result (have_float fields.now ≡ false → string_bytes out.new ≡ string_bytes out.old ++ spec.remark_text layout self.now fields.now) }
         // Also where one of the fields is a float:
         ensures begins { OnOk result (spec.Begins (spec.remark_front layout self.now) (string_bytes out.old) (string_bytes out.new)) }
+        ensures shown { OnOk result (spec.AppendsRemark layout self.now fields.now (string_bytes out.old) (string_bytes out.new)) }
+        // What stands before is left.
+        ensures err { OnErr result (spec.Stays (string_bytes out.old) (string_bytes out.new)) }
     {
         match layout {
             Layout::Lines => {
                 let (sign, kind) = (sign_of(self.side), self.kind);
-                write!(out, "{sign} {kind}\n")?;
+                let line = format!(in alloc; "{sign} {kind}\n")?;
+                out.push_str(line.as_str())?;
                 append_lines(alloc, out, fields)
             }
             Layout::Json => {

@@ -1,6 +1,6 @@
 //! Fields as a JSON object.
 
-ghost use Rattle.std.specs.Prelude.{◌≡◌, ◌++◌, ◌∷◌, [], IfOk, OnOk, string_bytes, true, false, map};
+ghost use Rattle.std.specs.Prelude.{◌≡◌, ◌++◌, ◌∷◌, [], IfOk, OnOk, OnErr, string_bytes, true, false, map};
 ghost use Rattle.std.specs.Str.{bytes_eq};
 ghost use Rattle.serde_json.specs.Data.{object, no_members};
 ghost use Rattle.serde_json.specs.View.{view, members_view};
@@ -8,7 +8,7 @@ ghost use Rattle.serde_json.specs.Written.{compact_text};
 ghost use Rattle.mysql_values.specs.ValueRef.{ref_content};
 ghost use Rattle.mysql_fields.specs.Entries.{Stays};
 ghost use Rattle.mysql_fields.specs.FieldObject as spec;
-ghost use Rattle.mysql_fields.specs.Fields.{have_float, held_of, is_float, value_is_float};
+ghost use Rattle.mysql_fields.specs.Fields.{have_float, held_of};
 
 use crate::field::{Field, Shown};
 use crate::float::{double_of, float_of};
@@ -30,17 +30,21 @@ pub fn append_object(
     fields: &[Field<'_>],
 ) -> Result<(), AllocError>
     ensures ok { OnOk result (have_float head.now ≡ false → have_float fields.now ≡ false → string_bytes out.new ≡ string_bytes out.old ++ spec.object_line head.now fields.now) }
+    ensures object { OnOk result (spec.AppendsObject head.now fields.now (string_bytes out.old) (string_bytes out.new)) }
     ensures stays { OnOk result (Stays (string_bytes out.old) (string_bytes out.new)) }
+    ensures err { OnErr result (Stays (string_bytes out.old) (string_bytes out.new)) }
 {
     let object = object_of(alloc, head, fields)?;
     let text = object.to_string(alloc)?;
-    write!(out, "{text}\n")
+    // (what `write!` leaves where it is refused, no clause says)
+    out.push_str(text.as_str())?;
+    out.push_str("\n")
 }
 
 /// The object of these fields.
 #[tactic(auto, using(crate::proofs::Texts::views), unfolding(crate::specs::FieldObject::object_of))]
 fn object_of(alloc: Global, head: &[Field<'_>], fields: &[Field<'_>]) -> Result<Value, AllocError>
-    ensures ok { IfOk result (λ value. have_float head.now ≡ false → have_float fields.now ≡ false → view value ≡ spec.object_of head.now fields.now) }
+    ensures ok { IfOk result (λ value. view value ≡ spec.object_of head.now fields.now) }
 {
     let mut object = Map::new(alloc);
     put_members(alloc, &mut object, head)?;
@@ -56,7 +60,7 @@ fn put_lists(
     object: &mut Map<String, Value>,
     fields: &[Field<'_>],
 ) -> Result<(), AllocError>
-    ensures ok { OnOk result (have_float fields.now ≡ false → members_view object.new.entries ≡ spec.with_lists fields.now (members_view object.old.entries)) }
+    ensures ok { OnOk result (members_view object.new.entries ≡ spec.with_lists fields.now (members_view object.old.entries)) }
 {
     put_list(alloc, object, "attribute", fields)?;
     put_list(alloc, object, "attribute_value", fields)?;
@@ -94,7 +98,7 @@ fn put_members(
     object: &mut Map<String, Value>,
     fields: &[Field<'_>],
 ) -> Result<(), AllocError>
-    ensures ok { OnOk result (have_float fields.now ≡ false → members_view object.new.entries ≡ spec.with_members fields.now (members_view object.old.entries)) }
+    ensures ok { OnOk result (members_view object.new.entries ≡ spec.with_members fields.now (members_view object.old.entries)) }
 {
     for field in fields {
         if !is_item(field) {
@@ -113,7 +117,7 @@ fn put_list(
     name: &str,
     fields: &[Field<'_>],
 ) -> Result<(), AllocError>
-    ensures ok { OnOk result (have_float fields.now ≡ false → members_view object.new.entries ≡ spec.with_list name.now fields.now (members_view object.old.entries)) }
+    ensures ok { OnOk result (members_view object.new.entries ≡ spec.with_list name.now fields.now (members_view object.old.entries)) }
 {
     let list = list_of(alloc, name, fields)?;
     if list.is_empty() {
@@ -124,7 +128,7 @@ fn put_list(
 
 /// What the fields with this name hold.
 fn list_of(alloc: Global, name: &str, fields: &[Field<'_>]) -> Result<Vec<Value>, AllocError>
-    ensures ok { IfOk result (λ list. have_float fields.now ≡ false → map view list.items ≡ spec.items_named name.now fields.now) }
+    ensures ok { IfOk result (λ list. map view list.items ≡ spec.items_named name.now fields.now) }
 {
     let mut list = Vec::new(alloc);
     for field in fields {
@@ -137,7 +141,7 @@ fn list_of(alloc: Global, name: &str, fields: &[Field<'_>]) -> Result<Vec<Value>
 
 /// What a field holds, as JSON has it.
 fn value_of(alloc: Global, shown: &Shown<'_>) -> Result<Value, AllocError>
-    ensures ok { IfOk result (λ value. is_float (held_of shown.now) ≡ false → view value ≡ spec.held_data (held_of shown.now)) }
+    ensures ok { IfOk result (λ value. view value ≡ spec.held_data (held_of shown.now)) }
 {
     match shown {
         Shown::Number(number) => Ok(Value::from(*number)),
@@ -174,15 +178,21 @@ fn digits_value(alloc: Global, bytes: &[u8]) -> Result<Value, AllocError>
 
 /// The value of a column or a parameter. A number that JSON has none for is null.
 fn column_value(alloc: Global, value: &ValueRef<'_>) -> Result<Value, AllocError>
-    ensures ok { IfOk result (λ json. value_is_float (ref_content value.now) ≡ false → view json ≡ spec.value_data (ref_content value.now)) }
+    ensures ok { IfOk result (λ json. view json ≡ spec.value_data (ref_content value.now)) }
 {
     match value {
         ValueRef::NULL => Ok(Value::Null),
         ValueRef::Bytes(bytes) => bytes_value(alloc, bytes),
         ValueRef::Int(number) => Ok(Value::from(*number)),
         ValueRef::UInt(number) => Ok(Value::from(*number)),
-        ValueRef::Float(bits) => Ok(float_of(*bits).map_or(Value::Null, Value::from)),
-        ValueRef::Double(bits) => Ok(double_of(*bits).map_or(Value::Null, Value::from)),
+        ValueRef::Float(bits) => Ok(match float_of(*bits) {
+            Some(number) => Value::from(number),
+            None => Value::Null,
+        }),
+        ValueRef::Double(bits) => Ok(match double_of(*bits) {
+            Some(number) => Value::from(number),
+            None => Value::Null,
+        }),
         value => Ok(Value::String(temporal_text(alloc, value)?)),
     }
 }

@@ -1,11 +1,12 @@
 //! Fields as lines.
 
-ghost use Rattle.std.specs.Prelude.{◌≡◌, ◌++◌, IfOk, OnOk, string_bytes, true, false};
+ghost use Rattle.std.specs.Prelude.{◌≡◌, ◌++◌, List, ℕ, Some, IfOk, OnOk, OnErr, string_bytes, true, false, codes};
 ghost use Rattle.hex.specs.Hex.{encode_lower};
 ghost use Rattle.mysql_values.specs.ValueRef.{ref_content};
 ghost use Rattle.mysql_fields.specs.Entries.{Stays};
 ghost use Rattle.mysql_fields.specs.FieldText as spec;
-ghost use Rattle.mysql_fields.specs.Fields.{have_float, is_float, is_temporal, value_is_float};
+ghost use Rattle.mysql_fields.specs.Fields.{have_float, held_of, is_temporal};
+ghost use Rattle.mysql_fields.specs.Floats as floats;
 
 use crate::field::{Field, Shown};
 use crate::float::{double_of, float_of};
@@ -17,7 +18,9 @@ use std::alloc::{AllocError, Global};
 /// A float stands by the digits that JSON has for it.
 pub fn append_lines(alloc: Global, out: &mut String, fields: &[Field<'_>]) -> Result<(), AllocError>
     ensures ok { OnOk result (have_float fields.now ≡ false → string_bytes out.new ≡ string_bytes out.old ++ spec.lines_of fields.now) }
+    ensures lines { OnOk result (spec.AppendsLines fields.now (string_bytes out.old) (string_bytes out.new)) }
     ensures stays { OnOk result (Stays (string_bytes out.old) (string_bytes out.new)) }
+    ensures err { OnErr result (Stays (string_bytes out.old) (string_bytes out.new)) }
 {
     for field in fields {
         append_line(alloc, out, field)?;
@@ -25,35 +28,48 @@ pub fn append_lines(alloc: Global, out: &mut String, fields: &[Field<'_>]) -> Re
     Ok(())
 }
 
+/// Appends the line of a field.
 fn append_line(alloc: Global, out: &mut String, field: &Field<'_>) -> Result<(), AllocError>
-    ensures ok { OnOk result (is_float field.now.held ≡ false → string_bytes out.new ≡ string_bytes out.old ++ spec.line_of field.now) }
-    ensures stays { OnOk result (Stays (string_bytes out.old) (string_bytes out.new)) }
+    ensures line { OnOk result ((line : List ℕ) × spec.IsLine field.now line × (string_bytes out.new ≡ string_bytes out.old ++ line)) }
+    ensures err { OnErr result (Stays (string_bytes out.old) (string_bytes out.new)) }
 {
-    let name = field.name;
-    match field.shown {
-        Shown::Number(number) => write!(out, "{name}: {number}\n"),
+    let text = shown_text(alloc, &field.shown)?;
+    put_line(out, field.name, text.as_str())
+}
+
+/// Appends a name and a text. (What `write!` leaves where it is refused, no clause says.)
+fn put_line(out: &mut String, name: &str, text: &str) -> Result<(), AllocError>
+    ensures ok { OnOk result (string_bytes out.new ≡ string_bytes out.old ++ (name.now ++ (codes ": " ++ (text.now ++ codes "\n")))) }
+    ensures err { OnErr result (Stays (string_bytes out.old) (string_bytes out.new)) }
+{
+    out.push_str(name)?;
+    out.push_str(": ")?;
+    out.push_str(text)?;
+    out.push_str("\n")
+}
+
+/// What stands for what a field holds.
+fn shown_text(alloc: Global, shown: &Shown<'_>) -> Result<String, AllocError>
+    ensures text { IfOk result (λ text. spec.IsHeldText (held_of shown.now) (string_bytes text)) }
+{
+    match shown {
+        Shown::Number(number) => format!(in alloc; "{number}"),
         Shown::Bytes(bytes) | Shown::Digits(bytes) => {
-            let digits = hex::encode(alloc, bytes)?;
-            write!(out, "{name}: x{digits}\n")
+            let digits = hex::encode(alloc, *bytes)?;
+            format!(in alloc; "x{digits}")
         }
-        Shown::Word(word) => write!(out, "{name}: {word}\n"),
-        Shown::Flag(true) => write!(out, "{name}: yes\n"),
-        Shown::Flag(false) => write!(out, "{name}: no\n"),
-        Shown::Value(value) => {
-            let text = value_text(alloc, &value)?;
-            write!(out, "{name}: {text}\n")
-        }
-        Shown::DateTimeWithOffset(date) => {
-            let text = offset_date_text(alloc, &date)?;
-            write!(out, "{name}: {text}\n")
-        }
-        Shown::Absent => write!(out, "{name}: none\n"),
+        Shown::Word(word) => String::from_str(alloc, word),
+        Shown::Flag(true) => String::from_str(alloc, "yes"),
+        Shown::Flag(false) => String::from_str(alloc, "no"),
+        Shown::Value(value) => value_text(alloc, value),
+        Shown::DateTimeWithOffset(date) => offset_date_text(alloc, date),
+        Shown::Absent => String::from_str(alloc, "none"),
     }
 }
 
 /// What stands for a value.
 fn value_text(alloc: Global, value: &ValueRef<'_>) -> Result<String, AllocError>
-    ensures text { IfOk result (λ text. value_is_float (ref_content value.now) ≡ false → string_bytes text ≡ spec.value_text (ref_content value.now)) }
+    ensures text { IfOk result (λ text. spec.IsValueText (ref_content value.now) (string_bytes text)) }
 {
     match value {
         ValueRef::NULL => String::from_str(alloc, "NULL"),
@@ -63,22 +79,25 @@ fn value_text(alloc: Global, value: &ValueRef<'_>) -> Result<String, AllocError>
         }
         ValueRef::Int(number) => format!(in alloc; "{number}"),
         ValueRef::UInt(number) => format!(in alloc; "{number}"),
-        ValueRef::Float(bits) => number_text(alloc, float_of(*bits).map(serde_json::Value::from)),
-        ValueRef::Double(bits) => {
-            number_text(alloc, double_of(*bits).map(serde_json::Value::from))
-        }
+        ValueRef::Float(bits) => match float_of(*bits) {
+            Some(number) => number_text(alloc, f64::from(number)),
+            None => String::from_str(alloc, "none"),
+        },
+        ValueRef::Double(bits) => match double_of(*bits) {
+            Some(number) => number_text(alloc, number),
+            None => String::from_str(alloc, "none"),
+        },
         ValueRef::Date(_, _, _, _, _, _, _) | ValueRef::Time(_, _, _, _, _, _) => {
             temporal_text(alloc, value)
         }
     }
 }
 
-/// A float's number; `none` where its bits are no number's.
-fn number_text(alloc: Global, number: Option<serde_json::Value>) -> Result<String, AllocError> {
-    match number {
-        Some(number) => number.to_string(alloc),
-        None => String::from_str(alloc, "none"),
-    }
+/// A number as JSON has it: `null` where it is infinite.
+fn number_text(alloc: Global, number: f64) -> Result<String, AllocError>
+    ensures text { IfOk result (λ text. floats.IsFloatText (Some number) (string_bytes text)) }
+{
+    serde_json::Value::from(number).to_string(alloc)
 }
 
 /// A date with its time of day, or a time: `2024-02-29 23:59:59.000001`, `-1 02:03:04.000000` with the days before the hours.

@@ -81,7 +81,7 @@ pub record AnswersRows (call : BulkCall) (rows : List (List Content)) (answer : 
   pub of_rows : OfRows refusal
   pub shown : answer ≡ run_answer requests (length rows) refusal
 
--- without declared types a row holds values alone; another one is a bad call
+-- without declared types a row holds NULL, bytes and integers alone; another one is a bad call
 abbrev pub AnswersValues : BulkCall → Option (List (List Content)) → Answer → Type 0
 AnswersValues call None answer = answer ≡ usage
 AnswersValues call (Some rows) answer = AnswersRows call rows answer

@@ -1,10 +1,10 @@
 -- Rows that are given as text: one a line, its values separated by one space.
-use Rattle.std.specs.Prelude.{ℕ, ◌^◌, ◌==◌, List, [], ◌∷◌, length, map, codes, Option, Some, None, option_map, if◌then◌else◌}
+use Rattle.std.specs.Prelude.{ℕ, ◌^◌, ◌==◌, Bool, true, false, List, [], ◌∷◌, length, map, codes, Option, Some, None, option_map, if◌then◌else◌}
 use Rattle.std.specs.Global.{Vec}
 use Rattle.std.specs.List.{slice_split}
 use Rattle.std.specs.Io.BufRead.{strip_last}
 use Rattle.mysql_bulk.specs.BulkValue.{Cell, Given, Default, Ignore}
-use Rattle.mysql_values.specs.Value.{Content, NULL, Bytes, Int, UInt, content_of}
+use Rattle.mysql_values.specs.Value.{Content, NULL, Bytes, Int, UInt, Float, Double, Date, Time, content_of}
 use Rattle.mysql_packets.specs.Decimal.{i64_of, number_below}
 use Rattle.mysql_packets.specs.Digits.{bytes_of}
 use Rattle.mysql_packets.specs.Named.{is_named}
@@ -75,14 +75,25 @@ rows_read rows = map row_read rows
 
 -- ---- rows of values alone
 
+-- a value that needs no declared type: NULL, bytes or an integer
+abbrev pub is_plain : Content → Bool
+is_plain NULL = true
+is_plain (Bytes bytes) = true
+is_plain (Int n) = true
+is_plain (UInt n) = true
+is_plain (Float bits) = false
+is_plain (Double bits) = false
+is_plain (Date date) = false
+is_plain (Time time) = false
+
 abbrev pub value_in : Cell → Option Content
-value_in (Given value) = Some value
+value_in (Given value) = if is_plain value then Some value else None
 value_in Default = None
 value_in Ignore = None
 
 abbrev pub values_in : List Cell → Option (List Content)
 values_in row = each value_in row
 
--- unless DEFAULT or IGNORE stands in one
+-- unless a float, a date, a time, DEFAULT or IGNORE stands in one
 abbrev pub value_rows : List (List Cell) → Option (List (List Content))
 value_rows rows = each values_in rows

@@ -35,15 +35,25 @@ impl RowCell {
         }
     }
 
-    /// The value, with bytes of its own, unless it is DEFAULT or IGNORE.
+    /// The value, with bytes of its own, if it is NULL, bytes or an integer.
     fn to_value(&self, alloc: Global) -> Result<Option<Value>, AllocError>
         ensures value { IfOk result (λ value. option_map content_of value ≡ spec.value_in (spec.cell_read self.now)) }
     {
         match self {
-            RowCell::Given(value) => Ok(Some(value.as_ref().to_value(alloc)?)),
-            RowCell::Default | RowCell::Ignore => Ok(None),
+            RowCell::Given(value) if is_plain(value) => Ok(Some(value.as_ref().to_value(alloc)?)),
+            _ => Ok(None),
         }
     }
+}
+
+/// Whether the value is NULL, bytes or an integer, which need no declared type.
+fn is_plain(value: &Value) -> bool
+    ensures { result ≡ spec.is_plain (content_of value.now) }
+{
+    matches!(
+        value,
+        Value::NULL | Value::Bytes(_) | Value::Int(_) | Value::UInt(_)
+    )
 }
 
 /// The rows that the lines of a text spell, unless one of them spells no row.
@@ -135,7 +145,7 @@ fn borrowed_row(alloc: Global, row: &[RowCell]) -> Result<Vec<BulkValue<'_>>, Al
     Ok(borrowed)
 }
 
-/// The values of rows, unless DEFAULT or IGNORE stands in one.
+/// The values of rows, unless a float, a date, a time, DEFAULT or IGNORE stands in one.
 pub fn rows_of_values(
     alloc: Global,
     rows: &[Vec<RowCell>],
@@ -152,7 +162,7 @@ pub fn rows_of_values(
     Ok(Some(values))
 }
 
-/// The values of a row, unless DEFAULT or IGNORE stands in it.
+/// The values of a row, unless a float, a date, a time, DEFAULT or IGNORE stands in it.
 fn values_of_row(alloc: Global, row: &[RowCell]) -> Result<Option<Vec<Value>>, AllocError>
     ensures value { IfOk result (λ values. option_map contents_of_row values ≡ spec.values_in (map spec.cell_read row.now)) }
 {

@@ -1,10 +1,8 @@
-use Rattle.std.proofs.Common.{◌≡◌, ◌++◌, drop, false, map}
+use Rattle.std.proofs.Common.{◌≡◌, ◌++◌, drop, map}
 use Rattle.serde_json.specs.View.{view}
-use Rattle.mysql_fields.specs.Fields.{have_float}
 use Rattle.mysql_fields.specs.FieldObject.{items_named}
 use Rattle.mysql_fields.proofs.json.list_of.Given as goal
 
 -- the items, and then those to come
 abbrev pub invariant-loop-field : goal.invariant-loop-field
-invariant-loop-field l = have_float l.fields ≡ false → (have_float (drop l.field-index l.fields) ≡ false)
-    × (map view l.list.items ++ items_named l.name (drop l.field-index l.fields) ≡ items_named l.name l.fields)
+invariant-loop-field l = map view l.list.items ++ items_named l.name (drop l.field-index l.fields) ≡ items_named l.name l.fields

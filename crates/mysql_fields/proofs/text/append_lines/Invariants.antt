@@ -1,13 +1,11 @@
-use Rattle.std.proofs.Common.{◌≡◌, ◌++◌, drop, string_bytes, false}
+use Rattle.std.proofs.Common.{◌≡◌, ◌++◌, ℕ, List, drop, string_bytes}
 use Rattle.mysql_fields.specs.Entries.{Stays}
-use Rattle.mysql_fields.specs.FieldText.{lines_of}
-use Rattle.mysql_fields.specs.Fields.{have_float}
+use Rattle.mysql_fields.specs.FieldText.{AreLines}
 use Rattle.mysql_fields.proofs.text.append_lines.Given as goal
 
--- what is written, and then the lines to come
+-- what is written, and then any lines to come
 abbrev pub invariant-loop-field : goal.invariant-loop-field
 invariant-loop-field l = record {
-  lines : have_float l.fields ≡ false → (have_float (drop l.field-index l.fields) ≡ false)
-      × (string_bytes l.out ++ lines_of (drop l.field-index l.fields) ≡ string_bytes l.initial.out ++ lines_of l.fields);
+  lines : (rest : List ℕ) → AreLines (drop l.field-index l.fields) rest → (text : List ℕ) × AreLines l.fields text × (string_bytes l.out ++ rest ≡ string_bytes l.initial.out ++ text);
   stays : Stays (string_bytes l.initial.out) (string_bytes l.out);
 }

@@ -1,8 +1,9 @@
-use Rattle.std.proofs.Common.{◌≡◌, ◌++◌, ap, ◌∙◌, string_bytes, arith, rules}
+use Rattle.std.proofs.Common.{◌≡◌, ◌++◌, ap, refl, ◌∙◌, string_bytes, arith, rules}
 use Rattle.std.proofs.lemmas.Grind.{common_steps}
 use Rattle.mysql_fields.specs.Entries.{remark_front, remark_line}
+use Rattle.mysql_fields.proofs.TextLines.{stays_same}
 use Rattle.mysql_fields.specs.Fields.{said, Word}
-use Rattle.mysql_fields.proofs.Heads.{front-begins, on-ok, stays-begins, remark-wrote, remark-members}
+use Rattle.mysql_fields.proofs.Heads.{err-always, front-begins, on-ok, stays-begins, remark-members, remark-object, remark-wrote}
 use Rattle.mysql_fields.proofs.entry.Remark.append.Goals as goal
 
 pub returns-in-Json-clause-ok : goal.returns-in-Json-clause-ok
@@ -16,8 +17,18 @@ pub returns-in-Json-clause-begins : goal.returns-in-Json-clause-begins
 returns-in-Json-clause-begins c =
     stays-begins c.append_object.result _ (string_bytes c.args.out.now) (string_bytes c.append_object.new.out) (ap (λ how. remark_front how c.args.self.now) c.in-Json.is) c.append_object.ensures.stays
 
-pub returns-in_ok-write-in-Lines-clause-begins : goal.returns-in_ok-write-in-Lines-clause-begins
-returns-in_ok-write-in-Lines-clause-begins c =
-    let line : string_bytes c.write.new.self ≡ string_bytes c.args.out.now ++ remark_line c.args.self.now = first_of (search rules, grind (arith, common_steps)) in
-    front-begins c.append_lines.result _ (remark_line c.args.self.now) (string_bytes c.args.out.now) (string_bytes c.write.new.self) (string_bytes c.append_lines.new.out)
+pub returns-in_ok-push_str-in-Lines-clause-begins : goal.returns-in_ok-push_str-in-Lines-clause-begins
+returns-in_ok-push_str-in-Lines-clause-begins c =
+    let line : string_bytes c.push_str.new.self ≡ string_bytes c.args.out.now ++ remark_line c.args.self.now = first_of (search rules, grind (arith, common_steps)) in
+    front-begins c.append_lines.result _ (remark_line c.args.self.now) (string_bytes c.args.out.now) (string_bytes c.push_str.new.self) (string_bytes c.append_lines.new.out)
     (ap (λ how. remark_front how c.args.self.now) c.in-Lines.is) line c.append_lines.ensures.stays
+
+pub returns-in-Json-clause-shown : goal.returns-in-Json-clause-shown
+returns-in-Json-clause-shown c =
+    let head = remark-members c.args.self.now _ _ _
+    (c.word.ensures.value ∙ ap (λ name. said _ (Word name)) c.name_of_side.ensures)
+    c.number.ensures.value c.word-in-Json.ensures.value in
+    remark-object c.append_object.result c.args.self.now _ _ c.args.fields.now (string_bytes c.args.out.now) (string_bytes c.append_object.new.out) c.in-Json.is head c.append_object.ensures.object
+
+pub returns-in_err-line-in-Lines-clause-err : goal.returns-in_err-line-in-Lines-clause-err
+returns-in_err-line-in-Lines-clause-err c = err-always _ (stays_same _ _ refl)
