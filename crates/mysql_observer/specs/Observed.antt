@@ -44,6 +44,14 @@ AreTracked before (x ∷ xs) old new = (next : Tracked) × Tracks true before x 
 abbrev pub IsEncrypted : Observer → Type 0
 IsEncrypted o = sessions.IsEncrypted o.session
 
+-- the client logs in, and by the greeting and the login both sides agree on compression
+abbrev pub AgreesOnCompression : Observer → Side → List ℕ → Type 0
+AgreesOnCompression o side p = sessions.AgreesOnCompression o.session side p
+
+-- the connection stands where it stood
+abbrev pub IsSame : Observer → Observer → Type 0
+IsSame old new = sessions.IsSame old.session new.session × (new.count ≡ old.count)
+
 -- after what was taken the packet comes, of some kind and exchange
 abbrev pub Comes : Observer → Side → List ℕ → Type 0
 Comes o side p = sessions.Comes o.session side p

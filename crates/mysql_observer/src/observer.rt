@@ -1,9 +1,7 @@
 //! A connection that is observed.
 
 ghost use Rattle.std.specs.Prelude.{◌&&◌, Option, IfSome, IfNone, ◌≡◌, ◌↔◌, ◌⊎◌, ◌≤◌, ◌<◌, ◌∷◌, ◌++◌, [], IfOk, IfErr, OnErr, IsTrue, List, ℕ, true, false, None, Some};
-ghost use Rattle.mysql_conversation.specs.Agreements.{agreed_on, compresses};
 ghost use Rattle.mysql_conversation.specs.Session as sessions;
-ghost use Rattle.mysql_conversation.specs.SessionSteps.{login_at};
 ghost use Rattle.mysql_statements.specs.Early as early;
 ghost use Rattle.mysql_statements.specs.Table as tables;
 ghost use Rattle.mysql_observer.specs.Tracked as spec;
@@ -40,7 +38,6 @@ impl Observer {
     ghost use Rattle.mysql_conversation.specs.declared.kind.Kind as declared;
     ghost use Rattle.mysql_conversation.specs.Agreements as agreement;
     ghost use Rattle.mysql_conversation.specs.declared.kind.Side.TheVariants as side;
-    ghost use Rattle.mysql_auth.specs.declared.ssl_request.SslRequest as login_head;
     ghost use Rattle.mysql_conversation.specs.declared.pipeline.Pipeline as pipe;
     ghost use Rattle.mysql_conversation.specs.declared.pipeline.Refusal.TheVariants as refusal;
     ghost use Rattle.mysql_observer.specs.PacketContext as context;
@@ -104,9 +101,9 @@ impl Observer {
         // A request to go on in TLS came, and nothing says that what comes is deciphered.
         ensures encrypted { IfErr result (λ why. why ≡ refusal.Encrypted → observed.IsEncrypted self.old) }
         // It is a login, by which both sides agree on compression.
-        ensures compressed { IfErr result (λ why. why ≡ refusal.Compressed → (server : agreement.Agreed) × (head : login_head.SslRequest) × (login_at payload.now ≡ Some head) × (compresses (agreed_on server (sessions.client_of head)) ≡ true)) }
+        ensures compressed { IfErr result (λ why. why ≡ refusal.Compressed → observed.AgreesOnCompression self.old from payload.now) }
         // As many commands wait as may; or 2^64 - 1 commands came.
-        ensures full { IfErr result (λ why. why ≡ refusal.Full → (p : pipe.Pipeline) × observed.Continues self.old p × (from ≡ side.Client) × ((piped.MustWait p × (piped.limit p ≤ piped.waiting p)) ⊎ piped.CountsNoMore p)) }
+        ensures full { IfErr result (λ why. why ≡ refusal.Full → (p : pipe.Pipeline) × observed.Continues self.old p × piped.IsFull p from payload.now) }
         // There is no memory for a command that waits, as it may.
         ensures memory { IfErr result (λ why. why ≡ refusal.Memory → (p : pipe.Pipeline) × observed.Continues self.old p × (from ≡ side.Client) × piped.MustWait p × (piped.waiting p < piped.limit p) × piped.HasNoCapacity p) }
         // What is refused so comes here.
@@ -114,6 +111,7 @@ impl Observer {
         // A refusal changes nothing.
         ensures err { OnErr result ((items : List Numbered) → Observed self.old items → Observed self.new items) }
         ensures same { OnErr result (observed.tracked self.new ≡ observed.tracked self.old) }
+        ensures unchanged { OnErr result (observed.IsSame self.old self.new) }
     {
         let is_between = self.session.is_at_rest();
         match self.session.next(from, payload) {

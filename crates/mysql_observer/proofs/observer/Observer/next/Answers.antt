@@ -1,4 +1,4 @@
-use Rattle.std.proofs.Common.{◌≡◌, ◌∷◌, ◌++◌, [], sym, ap, subst, ◌∙◌}
+use Rattle.std.proofs.Common.{◌≡◌, ◌∷◌, ◌++◌, [], Err, sym, ap, subst, ◌∙◌}
 use Rattle.mysql_conversation.specs.Piped.{place}
 use Rattle.mysql_conversation.specs.Session.{SessionTaken}
 use Rattle.mysql_observer.specs.PacketContext.{count_after}
@@ -19,3 +19,6 @@ returns-in-Ok-clause-knows c = λ items h.
 
 pub returns-in-Err-clause-refused : goal.returns-in-Err-clause-refused
 returns-in-Err-clause-refused c = λ items kind number e h. c.in-Err.ensures.refused items kind number e h.0
+
+pub returns-in-Err-clause-full : goal.returns-in-Err-clause-full
+returns-in-Err-clause-full c = λ e. c.in-Err.ensures.full.0 (ap Err e)
