@@ -114,6 +114,46 @@ fn read_attributes<'s, 'a>(
     Ok(left.rest().len())
 }
 
+/// The builder of an execution like the one with this head.
+fn builder_of<'a>(
+    head: &ComStmtExecuteHead,
+    sends_types: bool,
+    has_attributes: bool,
+    attributes: &'a [TypedExecuteParam<'a>],
+) -> ComStmtExecuteOptionsBuilder<'a, TypedExecuteParam<'a>> {
+    let plain = ComStmtExecuteOptionsBuilder::<'_, TypedExecuteParam<'_>>::from_head(head);
+    let attributes = if has_attributes {
+        Some(attributes)
+    } else {
+        None
+    };
+    ComStmtExecuteOptionsBuilder {
+        stmt_id: plain.stmt_id,
+        flags: plain.flags,
+        iteration_count: plain.iteration_count,
+        sends_types,
+        attributes,
+    }
+}
+
+/// Writes an execution of these parameters, and adds whether its bytes are these.
+fn show_written(
+    out: &mut Out,
+    builder: ComStmtExecuteOptionsBuilder<'_, TypedExecuteParam<'_>>,
+    params: &[TypedExecuteParam<'_>],
+    sent: Option<&[u8]>,
+) {
+    let mut written = Vec::new(out.alloc());
+    match builder.write_ref(params, &mut written) {
+        Ok(_as_long_data) if Some(written.as_slice()) == sent => out.field("written", "same"),
+        Ok(_as_long_data) => {
+            out.word("written=");
+            show(out, &written);
+        }
+        Err(_) => out.field("written", "refused"),
+    }
+}
+
 /// Writes an execution again as it was sent, and adds whether the bytes are those that it was read from.
 fn write_again<'s>(
     out: &mut Out,
@@ -131,24 +171,8 @@ fn write_again<'s>(
     let has_attributes = agreed
         .mysql
         .contains(CapabilityFlags::CLIENT_QUERY_ATTRIBUTES);
-    let builder = ComStmtExecuteOptionsBuilder {
-        sends_types,
-        attributes: if has_attributes {
-            Some(attributes.as_slice())
-        } else {
-            None
-        },
-        ..ComStmtExecuteOptionsBuilder::from_head(head)
-    };
-    let mut written = Vec::new(out.alloc());
-    match builder.write_ref(&params, &mut written) {
-        Ok(_as_long_data) if Some(written.as_slice()) == sent => out.field("written", "same"),
-        Ok(_as_long_data) => {
-            out.word("written=");
-            show(out, &written);
-        }
-        Err(_) => out.field("written", "refused"),
-    }
+    let builder = builder_of(head, sends_types, has_attributes, &attributes);
+    show_written(out, builder, &params, sent);
     Ok(())
 }
 

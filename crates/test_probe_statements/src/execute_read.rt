@@ -91,7 +91,44 @@ fn read_as_sent<'s, 'a>(
     Ok(params)
 }
 
-/// Writes an execution again as it was sent: `written=same`, or what is written.
+/// The builder of an execution like the one with this head.
+fn builder_of<'a>(
+    head: &ComStmtExecuteHead,
+    sends_types: bool,
+    has_attributes: bool,
+    attributes: &'a [TypedExecuteParam<'a>],
+) -> ComStmtExecuteOptionsBuilder<'a, TypedExecuteParam<'a>> {
+    let plain = ComStmtExecuteOptionsBuilder::<'_, TypedExecuteParam<'_>>::from_head(head);
+    let attributes = if has_attributes {
+        Some(attributes)
+    } else {
+        None
+    };
+    ComStmtExecuteOptionsBuilder {
+        stmt_id: plain.stmt_id,
+        flags: plain.flags,
+        iteration_count: plain.iteration_count,
+        sends_types,
+        attributes,
+    }
+}
+
+/// Writes an execution of these parameters: `written=same`, or what is written.
+fn write_again(
+    out: &mut Out,
+    builder: ComStmtExecuteOptionsBuilder<'_, TypedExecuteParam<'_>>,
+    params: &[TypedExecuteParam<'_>],
+    bytes: &[u8],
+) {
+    let mut buffer = begun(out);
+    match counted!(out.alloc(); builder.write_ref(params, &mut buffer)) {
+        Ok(_as_long_data) => show_written(out, true, &buffer, bytes.get(..after(&buffer).len())),
+        Err(TypedExecutionError::Memory) => show_written(out, false, &buffer, None),
+        Err(error) => show_refused(out, &error),
+    }
+}
+
+/// Writes an execution again as it was sent.
 fn write_as_sent<'s>(
     out: &mut Out,
     capabilities: CapabilityFlags,
@@ -104,21 +141,8 @@ fn write_as_sent<'s>(
     let sends_types = view.sends_types();
     let params = read_as_sent(out, &mut view, &mut attributes)?;
     let has_attributes = capabilities.contains(CapabilityFlags::CLIENT_QUERY_ATTRIBUTES);
-    let builder = ComStmtExecuteOptionsBuilder {
-        sends_types,
-        attributes: if has_attributes {
-            Some(attributes.as_slice())
-        } else {
-            None
-        },
-        ..ComStmtExecuteOptionsBuilder::from_head(head)
-    };
-    let mut buffer = begun(out);
-    match counted!(out.alloc(); builder.write_ref(&params, &mut buffer)) {
-        Ok(_as_long_data) => show_written(out, true, &buffer, bytes.get(..after(&buffer).len())),
-        Err(TypedExecutionError::Memory) => show_written(out, false, &buffer, None),
-        Err(error) => show_refused(out, &error),
-    }
+    let builder = builder_of(head, sends_types, has_attributes, &attributes);
+    write_again(out, builder, &params, bytes);
     Ok(())
 }
 
