@@ -1,10 +1,10 @@
 /* The operations of driver.c as a careful C programmer writes them by hand, each for one kind of packet. They are what the library's
  * instruction counts are compared with: linked with driver.c in place of the library, built and counted by bench/run.
  *
- * The care it takes: every read is checked against the end of the packet, a length may have any of its forms, and a column any type that a
- * server sends, NULL included. Writers compute the size first, check it for overflow, and grow their buffer once. Failed allocations are
- * handled. What the library has beyond that is left out: the kind of a fault, other layouts of the same packet, payloads of several
- * frames (they are refused), and a conversation that knows which packet comes next.
+ * The care it takes: every read is checked against the end of the packet. A length may have any of its forms, and a column any type that
+ * a server sends, NULL included. Writers compute the size before they write; values of 4 GiB or more are refused, so that it can't
+ * overflow. Failed allocations are handled. Left out is what the library has beyond that: the kind of a fault, other layouts of the
+ * same packet, payloads of several frames (they are refused), and a conversation that knows which packet comes next.
  *
  * A sum is the one that the library returns for the same packets, so bench/run can compare both. An operation that isn't written by hand
  * returns 0. A function for one packet is not inlined where it would be a call of a library, and columns and values are hidden
@@ -920,7 +920,7 @@ static CALL uint8_t *put_other(uint8_t *out, const struct value *value)
     }
 }
 
-/* Adds the size of a value; 0 where bytes are longer than any packet, so that sizes can't overflow. */
+/* Adds the size of a value; 0 where bytes are 4 GiB or more, so that sizes can't overflow. */
 static inline int add_size(size_t *size, const struct value *value)
 {
     if (value->kind == INT || value->kind == UINT) {
