@@ -119,6 +119,32 @@ static inline int read_string(struct input *in, const uint8_t **bytes, size_t *l
     return 1;
 }
 
+struct buffer {
+    uint8_t *bytes;
+    size_t len, capacity;
+};
+
+static CALL int grow(struct buffer *out, size_t more)
+{
+    size_t capacity;
+    uint8_t *bytes;
+    if (more > SIZE_MAX / 2 - out->len)
+        return 0;
+    capacity = 2 * out->capacity > out->len + more ? 2 * out->capacity : out->len + more;
+    bytes = realloc(out->bytes, capacity);
+    if (!bytes)
+        return 0;
+    out->bytes = bytes;
+    out->capacity = capacity;
+    return 1;
+}
+
+/* Makes the buffer large enough for so many bytes more. */
+static inline int reserve(struct buffer *out, size_t more)
+{
+    return more <= out->capacity - out->len || grow(out, more);
+}
+
 /* ---- values */
 
 enum {
@@ -318,6 +344,43 @@ uint64_t bench_statements_read(const uint8_t *bytes, size_t len)
     return sum;
 }
 
+static inline int write_statement(const struct statement *statement, struct buffer *out)
+{
+    uint8_t *p;
+    if (!reserve(out, 12))
+        return 0;
+    p = out->bytes + out->len;
+    p[0] = 0;
+    memcpy(p + 1, &statement->id, 4);
+    memcpy(p + 5, &statement->columns, 2);
+    memcpy(p + 7, &statement->params, 2);
+    p[9] = 0;
+    memcpy(p + 10, &statement->warnings, 2);
+    out->len += 12;
+    return 1;
+}
+
+/* what was written, of which the buffer is let go */
+static inline uint64_t written(struct buffer *out)
+{
+    HIDE(out->bytes);
+    free(out->bytes);
+    return out->len;
+}
+
+uint64_t bench_statements_written(const uint8_t *bytes, size_t len)
+{
+    struct buffer out = { 0 };
+    if (!reserve(&out, len))
+        return 0;
+    for (; len >= 12; bytes += 12, len -= 12) {
+        struct statement it;
+        if (read_statement(bytes, 12, &it) && !write_statement(&it, &out))
+            break;
+    }
+    return written(&out);
+}
+
 struct column {
     /* schema, table, original table, name, original name */
     struct {
@@ -387,6 +450,34 @@ uint64_t bench_errors_read(const uint8_t *bytes, size_t len)
         if (read_error(packet, &error))
             sum += (uint64_t)error.code + error.len;
     return sum;
+}
+
+static inline int write_error(const struct error *error, struct buffer *out)
+{
+    uint8_t *p;
+    if (error->len > UINT32_MAX || !reserve(out, 9 + error->len))
+        return 0;
+    p = out->bytes + out->len;
+    p[0] = 0xff;
+    memcpy(p + 1, &error->code, 2);
+    p[3] = '#';
+    memcpy(p + 4, error->state, 5);
+    memcpy(p + 9, error->message, error->len);
+    out->len += 9 + error->len;
+    return 1;
+}
+
+uint64_t bench_errors_written(const uint8_t *bytes, size_t len)
+{
+    struct input batch = { bytes, bytes + len }, packet;
+    struct buffer out = { 0 };
+    struct error error;
+    if (!reserve(&out, len))
+        return 0;
+    while (next_packet(&batch, &packet))
+        if (read_error(packet, &error) && !write_error(&error, &out))
+            break;
+    return written(&out);
 }
 
 /* What a change of the session adds to the sum: 1 for variables, the length of a schema's name. */
@@ -782,6 +873,63 @@ uint64_t bench_payloads_found(const uint8_t *bytes, size_t len)
     return found < 0 ? 0 : sum;
 }
 
+/* The payloads that a piece of a stream ends; what is left of the last frame is kept. 0 where there is no such frame, or memory is out. */
+static int join_payloads(struct buffer *kept, uint8_t *number, struct input piece, uint64_t *sum)
+{
+    struct input payload;
+    int found;
+    while (kept->len > 0) {
+        size_t wanted = kept->len < 4 ? 4 : 4 + (size_t)number3(kept->bytes);
+        size_t more = wanted - kept->len;
+        if (more > left(&piece))
+            more = left(&piece);
+        if (!reserve(kept, more))
+            return 0;
+        memcpy(kept->bytes + kept->len, piece.at, more);
+        kept->len += more;
+        piece.at += more;
+        if (kept->len >= 4) {
+            struct input frame = { kept->bytes, kept->bytes + kept->len };
+            found = next_payload(&frame, number, &payload);
+            if (found < 0)
+                return 0;
+            if (found > 0) {
+                *sum += seen(payload.at, left(&payload));
+                kept->len = 0;
+            }
+        }
+        if (piece.at == piece.end)
+            return 1;
+    }
+    while ((found = next_payload(&piece, number, &payload)) > 0)
+        *sum += seen(payload.at, left(&payload));
+    if (found < 0 || !reserve(kept, left(&piece)))
+        return 0;
+    if (left(&piece) > 0)
+        memcpy(kept->bytes, piece.at, left(&piece));
+    kept->len = left(&piece);
+    return 1;
+}
+
+uint64_t bench_payloads_joined(const uint8_t *bytes, size_t len)
+{
+    enum { SEGMENT = 1460 };
+    struct buffer kept = { 0 };
+    uint64_t sum = 0;
+    uint8_t number = 0;
+    while (len > 0) {
+        size_t size = len < SEGMENT ? len : SEGMENT;
+        if (!join_payloads(&kept, &number, (struct input){ bytes, bytes + size }, &sum)) {
+            sum = 0;
+            break;
+        }
+        bytes += size;
+        len -= size;
+    }
+    free(kept.bytes);
+    return sum;
+}
+
 /* Writes a payload as one frame, and returns how many bytes that takes: 0 where there are not so many. */
 static inline size_t write_frame(uint8_t *out, size_t size, uint8_t *number, struct input payload)
 {
@@ -935,11 +1083,6 @@ static inline int add_size(size_t *size, const struct value *value)
     return 1;
 }
 
-struct buffer {
-    uint8_t *bytes;
-    size_t len, capacity;
-};
-
 /* the type of a parameter, with its flag for numbers without a sign */
 static inline void put_type(uint8_t *out, uint8_t type, uint8_t flags)
 {
@@ -958,13 +1101,9 @@ static CALL int write_execution(uint32_t id, const struct value *values, size_t 
     for (size_t i = 0; i < count; i++)
         if (!add_size(&size, &values[i]))
             return 0;
-    if (size > out->capacity) {
-        uint8_t *grown = realloc(out->bytes, size);
-        if (!grown)
-            return 0;
-        out->bytes = grown;
-        out->capacity = size;
-    }
+    out->len = 0;
+    if (!reserve(out, size))
+        return 0;
     out->bytes[0] = 0x17;
     memcpy(out->bytes + 1, &id, 4);
     out->bytes[5] = 0;
@@ -1069,13 +1208,9 @@ uint64_t bench_executions_received(const uint8_t *bytes, size_t len)
 static int start_bulk(struct buffer *out, uint32_t id, const struct column_type *columns, size_t count)
 {
     size_t size = 7 + 2 * count;
-    if (size > out->capacity) {
-        uint8_t *grown = realloc(out->bytes, size);
-        if (!grown)
-            return 0;
-        out->bytes = grown;
-        out->capacity = size;
-    }
+    out->len = 0;
+    if (!reserve(out, size))
+        return 0;
     out->bytes[0] = 0xfa;
     memcpy(out->bytes + 1, &id, 4);
     out->bytes[5] = 0x80;
@@ -1086,7 +1221,7 @@ static int start_bulk(struct buffer *out, uint32_t id, const struct column_type 
     return 1;
 }
 
-/* Whether a value that is neither a signed number nor bytes is written as its column says. */
+/* Whether a value that is neither a signed number nor bytes is written as its column says. Integers are written in eight bytes alone. */
 static CALL int is_other_of_column(const struct value *value, struct column_type column)
 {
     switch (value->kind) {
@@ -1124,14 +1259,8 @@ static CALL int add_bulk_row(struct buffer *out, size_t most, const struct colum
             return -1;
     if (out->len > most || size > most - out->len)
         return 0;
-    if (size > out->capacity - out->len) {
-        size_t capacity = 2 * out->capacity > out->len + size ? 2 * out->capacity : out->len + size;
-        uint8_t *grown = realloc(out->bytes, capacity);
-        if (!grown)
-            return -1;
-        out->bytes = grown;
-        out->capacity = capacity;
-    }
+    if (!reserve(out, size))
+        return -1;
     data = out->bytes + out->len;
     for (size_t i = 0; i < count; i++) {
         *data++ = values[i].kind == NULL_VALUE;
@@ -1188,6 +1317,95 @@ uint64_t bench_bulk_rows_streamed(const uint8_t *bytes, size_t len)
     return added == 1 ? sum : 0;
 }
 
+/* ---- rows that are sent */
+
+static CALL int write_text_row(const struct value *values, size_t count, struct buffer *out)
+{
+    size_t size = 0;
+    uint8_t *data;
+    for (size_t i = 0; i < count; i++) {
+        if (values[i].kind == NULL_VALUE)
+            size++;
+        else if (values[i].kind != BYTES || !add_size(&size, &values[i]))
+            return 0;
+    }
+    out->len = 0;
+    if (!reserve(out, size))
+        return 0;
+    data = out->bytes;
+    for (size_t i = 0; i < count; i++) {
+        if (values[i].kind == NULL_VALUE)
+            *data++ = 0xfb;
+        else
+            data = put_string(data, &values[i]);
+    }
+    out->len = size;
+    return 1;
+}
+
+uint64_t bench_text_rows_sent(const uint8_t *bytes, size_t len)
+{
+    struct input batch = { bytes, bytes + len }, packet;
+    struct value values[COLUMNS];
+    struct buffer out = { 0 };
+    uint64_t sum = 0;
+    while (next_packet(&batch, &packet))
+        if (place_text_row(packet, COLUMNS, values) && write_text_row(values, COLUMNS, &out))
+            sum += out.len;
+    free(out.bytes);
+    return sum;
+}
+
+static CALL int write_binary_row(const struct column_type *columns, const struct value *values, size_t count, struct buffer *out)
+{
+    size_t bitmap_size = (count + 9) / 8, size = 1 + bitmap_size;
+    uint8_t *bitmap, *data;
+    for (size_t i = 0; i < count; i++)
+        if (values[i].kind != NULL_VALUE && (!is_of_column(&values[i], columns[i]) || !add_size(&size, &values[i])))
+            return 0;
+    out->len = 0;
+    if (!reserve(out, size))
+        return 0;
+    out->bytes[0] = 0;
+    bitmap = out->bytes + 1;
+    memset(bitmap, 0, bitmap_size);
+    data = bitmap + bitmap_size;
+    for (size_t i = 0; i < count; i++) {
+        switch (values[i].kind) {
+        case NULL_VALUE:
+            bitmap[(i + 2) / 8] |= (uint8_t)(1 << (i + 2) % 8);
+            break;
+        case INT:
+        case UINT:
+            memcpy(data, &values[i].number, 8);
+            data += 8;
+            break;
+        case BYTES:
+            data = put_string(data, &values[i]);
+            break;
+        default:
+            data = put_other(data, &values[i]);
+        }
+    }
+    out->len = size;
+    return 1;
+}
+
+uint64_t bench_rows_sent(const uint8_t *bytes, size_t len)
+{
+    struct input batch = { bytes, bytes + len }, packet;
+    struct column_type columns[COLUMNS];
+    struct value values[COLUMNS];
+    struct buffer out = { 0 };
+    uint64_t sum = 0;
+    ten_columns(columns);
+    while (next_packet(&batch, &packet))
+        if (place_binary_row(packet, columns, COLUMNS, values) && write_binary_row(columns, values, COLUMNS, &out))
+            sum += out.len;
+    free(out.bytes);
+    return sum;
+}
+
 /* ---- not written by hand */
 
 #define MISSING(name) \
@@ -1198,13 +1416,9 @@ uint64_t bench_bulk_rows_streamed(const uint8_t *bytes, size_t len)
         return 0; \
     }
 
-MISSING(bench_statements_written)
 MISSING(bench_columns_read)
 MISSING(bench_columns_written)
-MISSING(bench_errors_written)
 MISSING(bench_ok_packets_sent)
-MISSING(bench_rows_sent)
-MISSING(bench_text_rows_sent)
 MISSING(bench_executions_written)
 MISSING(bench_bulk_rows_made)
 MISSING(bench_bulk_rows_written)
@@ -1216,5 +1430,4 @@ MISSING(bench_responses_written)
 MISSING(bench_registrations_written)
 MISSING(bench_gtid_dumps_read)
 MISSING(bench_gtid_dumps_written)
-MISSING(bench_payloads_joined)
 MISSING(bench_exchanges_followed)

@@ -43,7 +43,10 @@ STYLE = """
 def titles():
     """What each operation of bench/driver.c is."""
     found = dict(re.findall(r'^ {4}\{ "(\w+)", \d+, "([^"]+)"', (TOP / "bench/driver.c").read_text(), re.MULTILINE))
-    return found | {"rows_counted": "binary row of 10 columns, read (by hand: in one block)"}
+    return found | {
+        "rows_counted": "binary row of 10 columns, read (by hand: in one block)",
+        "payloads_joined": "payload of a text row, found in pieces of 1,460 bytes",
+    }
 
 
 def operations():
