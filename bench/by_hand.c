@@ -360,7 +360,7 @@ static inline int write_statement(const struct statement *statement, struct buff
     return 1;
 }
 
-/* what was written, of which the buffer is let go */
+/* Frees the buffer, and returns how many bytes were written to it. */
 static inline uint64_t written(struct buffer *out)
 {
     HIDE(out->bytes);
