@@ -1204,18 +1204,18 @@ uint64_t bench_executions_received(const uint8_t *bytes, size_t len)
     return sum;
 }
 
-/* Starts a bulk request with the types of its columns. */
-static int start_bulk(struct buffer *out, uint32_t id, const struct column_type *columns, size_t count)
+/* Starts a bulk request. The first one has the types of its columns, which the server keeps for those after it. */
+static int start_bulk(struct buffer *out, uint32_t id, int is_first, const struct column_type *columns, size_t count)
 {
-    size_t size = 7 + 2 * count;
+    size_t size = is_first ? 7 + 2 * count : 7;
     out->len = 0;
     if (!reserve(out, size))
         return 0;
     out->bytes[0] = 0xfa;
     memcpy(out->bytes + 1, &id, 4);
-    out->bytes[5] = 0x80;
+    out->bytes[5] = is_first ? 0x80 : 0;
     out->bytes[6] = 0;
-    for (size_t i = 0; i < count; i++)
+    for (size_t i = 0; is_first && i < count; i++)
         put_type(out->bytes + 7 + 2 * i, columns[i].type, columns[i].is_unsigned ? 0x80 : 0);
     out->len = size;
     return 1;
@@ -1292,7 +1292,7 @@ uint64_t bench_bulk_rows_streamed(const uint8_t *bytes, size_t len)
     uint64_t sum = 0;
     int added = 1;
     HIDE(columns);
-    if (!start_bulk(&out, 1, columns, 3))
+    if (!start_bulk(&out, 1, 1, columns, 3))
         return 0;
     for (; len >= 28; bytes += 28, len -= 28) {
         struct value row[3];
@@ -1305,7 +1305,7 @@ uint64_t bench_bulk_rows_streamed(const uint8_t *bytes, size_t len)
         added = add_bulk_row(&out, most, columns, row, 3);
         if (added == 0) {
             sum += out.len;
-            if (!start_bulk(&out, 1, columns, 3))
+            if (!start_bulk(&out, 1, 0, columns, 3))
                 break;
             added = add_bulk_row(&out, most, columns, row, 3);
         }
