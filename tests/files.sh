@@ -1,5 +1,5 @@
 #!/usr/bin/env bash
-# Holds files to what they must say: HANDLES, and the lines that documents quote.
+# Holds files to what they must say: HANDLES, the lines that documents quote, and the chart of instruction counts.
 # The last line is 'N passed, N failed'.
 set -uo pipefail
 cd -- "$(dirname -- "${BASH_SOURCE[0]}")/.." || exit 1
@@ -20,6 +20,8 @@ expect() {
 expect 'HANDLES holds another line' cmp -s HANDLES <(printf 'Handles allowed: none.\n')
 expect 'the table of recorded packets is out of date' tests/captured/versions.py --check
 expect 'a page quotes other lines than the crate has, or names what no library has' tools/quoted_lines.py
+
+expect 'the chart of instruction counts is out of date' bench/chart.py --check
 
 # Words that no page of the field uses, and what stands for them: untrusted, little-endian, the initial handshake, a mutant, an
 # allocation that fails, passed or shown, after, capacity, to check, EofName, the reference decoder, X_round_trips.
