@@ -54,9 +54,9 @@ class Executions(Watcher):
         words = [f"param:{kind}={'ahead' if is_sent_ahead else shown(value)}" for kind, _, _, is_sent_ahead, value in params]
         return [*words, "written=same" if again == sent else f"written={again.hex()}"]
 
-    def binary_row(self, payload):
-        columns, buf = self.columns or self.statements.get(self.runs, []), Buf(payload)
-        if not columns:
+    def binary_row(self, payload, exchange):
+        (width, columns), buf = self.statements.get(self.runs, (None, [])), Buf(payload)
+        if len(columns) != width:
             self.words.append("row=unknown")
             return {}
         buf.take(1)
@@ -71,12 +71,12 @@ class Executions(Watcher):
         if has_begun:
             self.payloads.append(packet.side + packet.payload.hex())
         kind = kind.split(":")[0]
-        if packet.side != CLIENT or not self.session.waiting:
+        if packet.side != CLIENT:
             self.serve(number)
         if kind == "ssl_request" and packet.begins_tls:
             self.session.decipher()
         try:
-            self.fields(packet.side, kind, packet.payload)
+            self.fields(kind, packet.payload, number)
         except (Eof, Invalid, IndexError):
             pass
 
