@@ -173,7 +173,7 @@ def inside():
            bytes.fromhex("fa01000000" "8000" "0500" "00" "000000000000f03f" "00" "0000000000000440"))
     expect("a decimal is its text", session.write_execution(statement, [decimal.Decimal("1.50")]), [bytes.fromhex("170100000000010000000001fd0004312e3530")])
     expect("a date", session.write_execution(statement, [datetime.date(2010, 10, 17)]), [bytes.fromhex("170100000000010000000001" "0c00" "04da070a11")])
-    refused("a row past the limit", my.RowTooLarge, list,    refused("a row past the limit", my.RowTooLarge, list, session.write_bulk(statement, [("x" * 2000,)], 1004))
+    refused("a row past the limit", my.RowTooLarge, list, session.write_bulk(statement, [("x" * 2000,)], 1004))
     print(f"{passed} passed, {failed} failed")
     return 1 if failed else 0
 
