@@ -1,6 +1,6 @@
 #!/usr/bin/env python3
 """Holds include/mysql_packets.h to the library: each struct, field and number, each call with its parameters and its answer; and to the hosts
-that it is for.
+that it is for. Each call is made in memory.c, and each that hands out a place in a packet is made in hostile_twice.c.
 
 The offset of each field and the size of each struct, as Rattle lays a `repr(C)` struct out, are asserted by the C compiler over the
 header. Numbers are those of crates/mysql_wire, and of <mysql.h> where Debian's libmariadb-dev is installed. The last line is 'N passed, N
@@ -139,6 +139,21 @@ def calls(header):
     return exported, declared
 
 
+def hands_out(header, declared):
+    """The calls that hand out a place: those that fill in a struct with a pointer in it."""
+    bodies = dict(re.findall(r"typedef struct (myp_\w+) \{(.*?)\} \1;", header, re.S))
+    places = {name for name, body in bodies.items() if "*" in body}
+    while found := {name for name, body in bodies.items() if places & set(re.findall(r"\bmyp_\w+", body))} - places:
+        places |= found
+    return {name for name, kinds in declared.items() if places & {it.removesuffix(" *") for it in kinds}}
+
+
+def not_called(file, names):
+    """The calls that a test of this folder has not."""
+    called = set(re.findall(r"\b(myp_\w+)\(", comments_out((TOP / "tests/c" / file).read_text())))
+    return [f"{it} is not called in tests/c/{file}" for it in sorted(names - called)]
+
+
 def main():
     header, passed, wrong = comments_out(HEADER.read_text()), 0, []
     lines, found = asserted(header)
@@ -148,6 +163,9 @@ def main():
     passed += len(exported.keys() & declared.keys())
     wrong += [f"{it} is a call of one side alone" for it in exported.keys() ^ declared.keys()]
     wrong += [f"{it} takes {', '.join(declared[it])} in C, and {', '.join(exported[it])} in Rattle" for it in exported.keys() & declared.keys() if exported[it] != declared[it]]
+    for file, names in (("memory.c", declared.keys()), ("hostile_twice.c", hands_out(header, declared))):
+        missing = not_called(file, names)
+        passed, wrong = passed + len(names) - len(missing), wrong + missing
     hosts = {"whose pointers have 4 bytes": ["-m32", "-ffreestanding"], "that is big-endian": ["-U__BYTE_ORDER__", "-D__BYTE_ORDER__=__ORDER_BIG_ENDIAN__"]}
     taken = [it for it, flags in hosts.items() if not any("the library is one for" in line for line in refused(["#include <mysql_packets.h>"], *flags))]
     passed, wrong = passed + len(hosts) - len(taken), wrong + [f"a host {it} is not refused" for it in taken]

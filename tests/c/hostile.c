@@ -1,6 +1,6 @@
 /* Reads cut and changed packets that end right before a page that may not be touched, through every reader, and checks that
  * each place that is handed out lies in the packet, and that what stands there after a refusal is what stood there before. What
- * was read is written, and read again as the same.
+ * was read is written, and read again as the same. Each packet is also read twice into one struct, from two buffers.
  *
  * hostile COUNT [SEED] < SEEDS: a packet a line, in hexadecimal digits, beside those that stand here */
 #define _GNU_SOURCE
@@ -16,7 +16,7 @@ uint64_t varied(void)
     return state;
 }
 
-static uint8_t *page_end; /* the first byte that may not be touched */
+static uint8_t *page_end, *other_end; /* the first bytes that may not be touched, after two buffers */
 uint32_t capabilities;
 const uint8_t *from, *to;
 unsigned long bad, done, refused, changed, written;
@@ -50,6 +50,7 @@ static const uint8_t change[] = "\x11u\0\x02\x01\x02" "d\0\x02\x01" "client_ed25
 static const uint8_t execute[] = { 0x17, 1, 0, 0, 0, 0, 1, 0, 0, 0, 1, 1, 6, 0, 8, 0, 0xfd, 0, 12, 0, 1, 0, 0, 0, 0, 0, 0, 0, 2, 'h', 'i', 4, 0xe8, 7, 2, 29 };
 const myp_column_type kinds[6] = { { 3, 0 }, { 8, 0 }, { 253, 0 }, { 12, 0 }, { 11, 0 }, { 1, 1 } };
 
+#define SEED(text) { (const uint8_t *)(text), sizeof(text) - 1 }
 static struct {
     const uint8_t *at;
     size_t len;
@@ -57,15 +58,28 @@ static struct {
     { stmt, sizeof stmt }, { err, sizeof err - 1 }, { progress, sizeof progress - 1 }, { ok, sizeof ok }, { eof, sizeof eof }, { infile, sizeof infile },
     { column, sizeof column - 1 }, { text_row, sizeof text_row }, { binary_row, sizeof binary_row }, { handshake, sizeof handshake }, { key, sizeof key - 1 }, { parsec_salt, sizeof parsec_salt - 1 },
     { session_state, sizeof session_state - 1 }, { login, sizeof login - 1 }, { long_data, sizeof long_data - 1 }, { close_one, sizeof close_one - 1 }, { execute, sizeof execute }, { dump, sizeof dump - 1 }, { registration, sizeof registration - 1 }, { gtid_dump, sizeof gtid_dump - 1 }, { change, sizeof change - 1 },
+    SEED("\xfe" "mysql_native_password\0zQg4i6oNy6=rHN/>-b)A"), SEED("\x02" "mysql_native_password\0zQg4i6oNy6=rHN/>-b)A"), /* switches, with names that a library may know */
+    SEED("\xfe\0\0\x02\x40\1\0\2hi\x07\1\5\4test"), /* the end of rows, with information and a state */
+    SEED("\3def\2ve\1t\1t\1j\1k\x09\0\4uuid\1\1a\x0c\x2d\0\xff\xff\xff\xff\xfc\x90\0\0\0\0"), /* extended metadata, and with a default value */
+    SEED("\3def\2ve\1t\1t\1j\1k\x09\0\4uuid\1\1a\x0c\x2d\0\xff\xff\xff\xff\xfc\x90\0\0\0\0\1" "0"),
+    SEED("\1\0\0\0\x0e\0\0\0\x09\2\0\0\1ab"), /* three frames */
+    SEED("\x0a" "autocommit\3OFF\4name\5value"), SEED("\0\4uuid\1\4json"), SEED("\1a\1b\2cd\2ef"), /* variables, attributes of a column and of a login */
+    SEED("0123456789abcdef\6app\1\0\0\0\0\0\0\0\1\0\0\0\0\0\0\0\x64\0\0\0\0\0\0\0" "0123456789abcdef\0\0\0\0\0\0\0\0\0"), /* sids with tags, and intervals */
+    SEED("\1\0\0\0\0\0\0\0\x64\0\0\0\0\0\0\0\xc8\0\0\0\0\0\0\0\xd2\0\0\0\0\0\0\0"),
+    SEED("\xfa\1\0\0\0\x80\0\3\0\xfe\0\x08\x80\0\x2a\0\0\0\0\2hi\1"), SEED("\3\0\xfe\0\x08\x80\0\x2a\0\0\0\0\2hi\1"), /* a bulk request, and its types and a row */
+    SEED("\0\x2a\0\0\0\0\7\0\0\0\0\0\0\0\0\2hi\1\1\0\2ho"), /* rows of three of the columns here */
+    SEED("\4t\0a%"), SEED("\3\2\1\0\1\xfe\0\2n1\xfe\0\2n2\2v1\2v2" "DO 1"), /* commands: a list of fields, and a query with attributes */
+    SEED("\x17\1\0\0\0\x08\1\0\0\0\3\0\1\x08\0\0\x08\0\0\xfe\0\1a\7\0\0\0\0\0\0\0\7\0\0\0\0\0\0\0\1z"), /* an execution with an attribute */
+    SEED("\x13\2db\1t"), SEED("\xef\x96\x65\0\0\0\0\0\0mbin.000001"), SEED("\0\xef\1event"), /* a dump of a table, an acknowledgement, an event */
 };
-static size_t count_of_packets = 21;
+static size_t count_of_packets;
 
 /* an answer that no call is to give: the first ones are shown, with their packet */
 void lost(const char *call, uint32_t code)
 {
     if (bad++ >= 12)
         return;
-    printf("%.16s: code %u, caps %08x, packet", call, code, capabilities);
+    printf("%.60s: code %u, caps %08x, packet", call, code, capabilities);
     for (const uint8_t *p = from; p < to; p++)
         printf(" %02x", *p);
     puts("");
@@ -149,6 +163,8 @@ static void read_all(size_t len)
 static void take_seeds(void)
 {
     static char line[2 * LONGEST + 2];
+    while (packets[count_of_packets].at)
+        count_of_packets++;
     while (count_of_packets < MOST && fgets(line, sizeof line, stdin)) {
         size_t len = strcspn(line, "\n") / 2;
         uint8_t *bytes = malloc(len + 1);
@@ -168,10 +184,10 @@ int main(int argc, char **argv)
     unsigned long count = argc > 1 ? strtoul(argv[1], NULL, 10) : 100000;
     if (argc > 2)
         state ^= strtoul(argv[2], NULL, 10) * 0x9e3779b97f4a7c15u;
-    uint8_t *area = mmap(NULL, 8192, PROT_READ | PROT_WRITE, MAP_PRIVATE | MAP_ANONYMOUS, -1, 0);
-    if (area == MAP_FAILED || mprotect(area + 4096, 4096, PROT_NONE))
+    uint8_t *area = mmap(NULL, 4 * 4096, PROT_READ | PROT_WRITE, MAP_PRIVATE | MAP_ANONYMOUS, -1, 0);
+    if (area == MAP_FAILED || mprotect(area + 4096, 4096, PROT_NONE) || mprotect(area + 3 * 4096, 4096, PROT_NONE))
         return 3;
-    page_end = area + 4096;
+    page_end = area + 4096, other_end = area + 3 * 4096;
     take_seeds();
     /* (each packet is read as it is first) */
     for (unsigned long i = 0; i < count + count_of_packets; i++) {
@@ -187,13 +203,15 @@ int main(int argc, char **argv)
                 for (size_t k = varied() % 40; k && len < sizeof bytes; k--)
                     bytes[len++] = (uint8_t)varied();
         }
-        memcpy(page_end - len, bytes, len);
+        memcpy(page_end - len, bytes, len), memcpy(other_end - len, bytes, len);
         read_all(len);
         read_client(page_end - len, len);
         read_server(page_end - len, len);
         read_again(page_end - len, len, capabilities);
+        read_twice(page_end - len, other_end - len, len, i < count_of_packets);
     }
-    printf("hostile: %zu packets, %lu reads, %lu refused, %lu written again, %lu changed something and refused, %lu bad\n", count_of_packets, done, refused,
-           written, changed, bad);
+    unsigned long twice = end_twice();
+    printf("hostile: %zu packets, %lu reads, %lu refused, %lu written again, %lu read twice, %lu changed something and refused, %lu bad\n",
+           count_of_packets, done, refused, written, twice, changed, bad);
     return bad != 0 || changed != 0;
 }

@@ -28,4 +28,8 @@ void read_client(const uint8_t *packet, size_t len);
 void read_server(const uint8_t *packet, size_t len);
 void read_again(const uint8_t *packet, size_t len, uint32_t capabilities);
 
+/* Reads two buffers with equal bytes into one struct; at the end, how many reads there were. */
+void read_twice(uint8_t *first, const uint8_t *second, size_t len, int is_seed);
+unsigned long end_twice(void);
+
 #endif

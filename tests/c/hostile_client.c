@@ -39,7 +39,7 @@ static void read_changes(const uint8_t *p, size_t len)
     } left;
     memset(&left, 7, sizeof left), left.rest.data = p, left.rest.len = len;
     left.change.content = left.change.text = left.change.variables = nothing;
-    NEXT(left, (place("data", left.change.content), place("text", left.change.text), variables(left.change.variables)), myp_next_change(&left.rest, &left.change));
+    NEXT(left, (place("data", left.change.content), place("text", left.change.text), place("variables", left.change.variables), place("rest", left.rest), variables(left.change.variables)), myp_next_change(&left.rest, &left.change));
     variables((myp_bytes){ p, len });
 }
 
@@ -70,7 +70,8 @@ static void read_field_list(const uint8_t *p, size_t len)
     memset(&f, 7, sizeof f), f.column.column.schema = f.column.column.table = f.column.column.org_table = nothing;
     f.column.column.name = f.column.column.org_name = f.column.metadata = f.default_value = nothing;
     CALL(f, myp_read_field_list_column(p, len, (uint32_t)varied(), &f));
-    place("schema", f.column.column.schema), place("name", f.column.column.name), place("metadata", f.column.metadata);
+    place("schema", f.column.column.schema), place("table", f.column.column.table), place("org_table", f.column.column.org_table);
+    place("name", f.column.column.name), place("org_name", f.column.column.org_name), place("metadata", f.column.metadata);
     place("default_value", f.default_value);
 }
 

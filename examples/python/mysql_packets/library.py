@@ -13,11 +13,15 @@ import os
 import re
 import sys
 from pathlib import Path
+from typing import Any, Dict, Iterable, Iterator, List, Optional, Sequence, Tuple, Union
 
 from .errors import NAMES, InvalidValue, PacketError
-from .values import Packed, Structs, converted
+from .records import Value
+from .values import Packed, Sent, Structs, converted
 
-NUMBERS = {
+Content = bytes  # (a method of Library has that name)
+Location = Union[str, "os.PathLike[str]"]
+NUMBERS: Dict[str, Any] = {
     "uint8_t": ctypes.c_uint8, "uint16_t": ctypes.c_uint16, "uint32_t": ctypes.c_uint32, "uint64_t": ctypes.c_uint64,
     "size_t": ctypes.c_size_t,
 }
@@ -30,7 +34,7 @@ CALL = re.compile(r"^uint32_t (myp_\w+)\(([^)]*)\);", re.M)
 DECLARED = re.compile(r"(?:const )?(\w+) (\**)(\w+)(?:\[(\d+)\])?$")
 
 
-def found(prefix=None):
+def found(prefix: Optional[Location] = None) -> Tuple[Path, Path]:
     """The shared library and its header: under the prefix that is given or named by MYSQL_PACKETS_PREFIX, beside this file, or where
     Python, or a system, has its libraries."""
     beside = Path(__file__).parent
@@ -44,17 +48,26 @@ def found(prefix=None):
     raise ImportError("libmysql_packets.so is not found: pass the prefix of mypackets-c, or name it in MYSQL_PACKETS_PREFIX")
 
 
+def declared(text: str) -> Tuple[str, str, str, Optional[str]]:
+    """The type of a declaration, its stars, its name, and the size of an array."""
+    it = DECLARED.match(text)
+    if not it:
+        raise ImportError(f"the header has a declaration that this package does not read: {text}")
+    return it[1], it[2], it[3], it[4]
+
+
 class Library:
     """The library that is installed under a prefix, or found."""
 
-    def __init__(self, prefix=None, library=None, header=None):
+    def __init__(self, prefix: Optional[Location] = None, library: Optional[Location] = None, header: Optional[Location] = None):
         if not (library and header):
             where = found(prefix)
             library, header = library or where[0], header or where[1]
-        header = Path(header).read_text()
+        text = COMMENT.sub("", Path(header).read_text())
         self.dll = ctypes.CDLL(str(library))
-        self.types, self.calls, self.numbers = dict(NUMBERS), {}, {}
-        text = COMMENT.sub("", header)
+        self.types = dict(NUMBERS)
+        self.calls: Dict[str, List[str]] = {}
+        self.numbers: Dict[str, int] = {}
         for name, value in MACRO.findall(text):
             self.numbers[name] = int(value, 16)
         for body in ENUM.findall(text):
@@ -71,13 +84,14 @@ class Library:
             raise ImportError("the library and its header have different versions")
         self.structs = Structs(self.numbers, self.types["myp_value"])
 
-    def __getattr__(self, name):
+    def __getattr__(self, name: str) -> int:
         try:
-            return self.__dict__["numbers"][name]
+            numbers: Dict[str, int] = self.__dict__["numbers"]
+            return numbers[name]
         except KeyError:
             raise AttributeError(name) from None
 
-    def _number(self, body):
+    def _number(self, body: str) -> None:
         """The values of an enum: each is the one before it and 1, where none is written."""
         value = -1
         for part in body.split(","):
@@ -87,27 +101,27 @@ class Library:
                 value = shifted[0] << shifted[1] if len(shifted) == 2 else shifted[0]
                 self.numbers[name.strip()] = value
 
-    def _fields(self, line):
+    def _fields(self, line: str) -> Iterator[Tuple[str, Any]]:
         """The fields of a line of a struct: one type, and names with commas between them."""
         first, *more = [it.strip() for it in line.strip().split(",")]
-        of, stars, name, size = DECLARED.match(first).groups()
-        kind = ctypes.POINTER(self.types[of]) if stars else self.types[of]
+        of, stars, name, size = declared(first)
+        kind: Any = ctypes.POINTER(self.types[of]) if stars else self.types[of]
         for it in [name + (f"[{size}]" if size else ""), *more]:
             array = re.fullmatch(r"(\w+)\[(\d+)\]", it)
             yield (array[1], kind * int(array[2])) if array else (it, kind)
 
-    def _argument(self, text):
-        of, stars, name, _ = DECLARED.match(" ".join(text.split())).groups()
+    def _argument(self, text: str) -> Tuple[str, Any]:
+        of, stars, name, _ = declared(" ".join(text.split()))
         return name, ctypes.POINTER(self.types[of]) if stars else self.types[of]
 
-    def bytes(self, content):
+    def bytes(self, content: Content) -> Any:
         """A byte string as a `myp_bytes`, which keeps the bytes that it points to."""
         held = ctypes.create_string_buffer(content, len(content) + 1)
         it = self.types["myp_bytes"](ctypes.cast(held, ctypes.POINTER(ctypes.c_uint8)), len(content))
         it.held = held
         return it
 
-    def new(self, name, /, **fields):
+    def new(self, name: str, /, **fields: Any) -> Any:
         """A struct with these fields: numbers, byte strings, and lists of structs, beside which `n_FIELD` is set. Each other
         byte string is empty."""
         it = self.types[name]()
@@ -129,22 +143,22 @@ class Library:
             raise TypeError(f"{name} has no {', '.join(fields)}")
         return it
 
-    def array(self, kind, items):
+    def array(self, kind: Any, items: Sequence[Any]) -> Any:
         kind = self.types.get(kind, kind)
         it = (kind * max(len(items), 1))(*items)
         it.held = items
         return it
 
-    def text(self, span):
+    def text(self, span: Any) -> Content:
         """The bytes that a `myp_bytes` stands for."""
         return ctypes.string_at(span.data, span.len) if span.len else b""
 
-    def refusal(self, call, code, written=0):
+    def refusal(self, call: str, code: int, written: int = 0) -> PacketError:
         """The exception of a code."""
         kind = next((it for name, it in NAMES.items() if self.numbers[name] == code), PacketError)
         return kind(call, code, written)
 
-    def read(self, call, packet, *context, into):
+    def read(self, call: str, packet: Content, *context: Any, into: str) -> Any:
         """What a reader gives of a packet: a struct, or the number or byte string that it hands out."""
         payload = self.bytes(packet)
         out = self.new(into) if into not in NUMBERS and into != "myp_bytes" else self.bytes(b"") if into == "myp_bytes" else NUMBERS[into]()
@@ -154,16 +168,16 @@ class Library:
         out.packet = payload
         return out
 
-    def next(self, call, rest, *out, given=()):
+    def next(self, call: str, rest: Any, *out: Any, given: Sequence[Any] = ()) -> bool:
         """Whether another one stood at the front of `rest`, which then begins after it."""
-        code = getattr(self.dll, call)(ctypes.byref(rest), *given, *(ctypes.byref(it) for it in out))
+        code: int = getattr(self.dll, call)(ctypes.byref(rest), *given, *(ctypes.byref(it) for it in out))
         if code not in (self.MYP_OK, self.MYP_END):
             raise self.refusal(call, code)
         return code == self.MYP_OK
 
-    def converted(self, values):
+    def converted(self, values: Iterable[Value]) -> List[Sent]:
         """Parameters as they are sent: None, numbers, bytes, dates and spans of time. InvalidValue if one can't be."""
-        sent = []
+        sent: List[Sent] = []
         for place, value in enumerate(values):
             try:
                 it = converted(value)
@@ -172,31 +186,32 @@ class Library:
             sent.append(str(it).encode() if isinstance(it, decimal.Decimal) else it)
         return sent
 
-    def packed(self, values):
+    def packed(self, values: Sequence[Sent]) -> Any:
         """Converted values as an array of `myp_value`, which keeps what it points to."""
         packed = Packed(self.structs, [[it] for it in values])
         it = (self.types["myp_value"] * packed.count).from_buffer(packed.array)
         it.held = packed
         return it
 
-    def value(self, value):
+    def value(self, value: Value) -> Any:
         """A value as a `myp_value`. InvalidValue if it can't be sent."""
         return self.packed(self.converted([value]))[0]
 
-    def content(self, value):
+    def content(self, value: Any) -> Any:
         """What a `myp_value` is in Python. A date that is none is a text."""
         return self.structs.read(bytes(value))[0]
 
-    def write(self, call, *arguments, size=512, after=()):
+    def write(self, call: str, *arguments: Any, size: int = 512, after: Sequence[Any] = ()) -> Content:
         """What a writer writes, into a buffer that grows once where it is too small. A struct is handed in as its place, and
         a byte string as its bytes and their count."""
-        flat = []
+        flat: List[Any] = []
         for it in arguments:
             if isinstance(it, bytes):
                 it = self.bytes(it)
                 flat += [it.data, it.len]
             elif isinstance(it, ctypes.Array):
-                flat += [it, len(it.held) if isinstance(it.held, list) else len(it)]
+                held: Any = getattr(it, "held", None)
+                flat += [it, len(held) if isinstance(held, list) else len(it)]
             else:
                 flat.append(ctypes.byref(it) if isinstance(it, ctypes.Structure) else it)
         while True:

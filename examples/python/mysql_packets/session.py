@@ -1,6 +1,6 @@
 """The packets of a connection, by what both sides agreed on."""
 import ctypes
-from typing import Iterable, Iterator, List, Optional, Sequence, Tuple
+from typing import Any, Iterable, Iterator, List, Optional, Sequence, Tuple
 
 from .errors import InvalidData
 from .library import Library
@@ -18,7 +18,7 @@ class Session:
         self.library = library or Library()
         self.capabilities = self.mariadb_capabilities = 0
 
-    def _text(self, span) -> str:
+    def _text(self, span: Any) -> str:
         return self.library.text(span).decode("utf-8", "surrogateescape")
 
     def _flags(self, prefix: str, names: Sequence[str]) -> int:
@@ -74,7 +74,8 @@ class Session:
     # ---- replies
 
     def is_error(self, payload: bytes) -> bool:
-        return self.library.read("myp_reply_kind", payload, into="uint32_t").value == self.library.MYP_REPLY_ERROR
+        kind: int = self.library.read("myp_reply_kind", payload, into="uint32_t").value
+        return kind == self.library.MYP_REPLY_ERROR
 
     def read_error(self, payload: bytes) -> ServerError:
         it = self.library.read("myp_read_error", payload, self.capabilities, into="myp_error")
@@ -86,7 +87,7 @@ class Session:
         it = p.read("myp_read_ok", payload, getattr(p, f"MYP_OK_{kind}"), self.capabilities, into="myp_ok")
         return OkPacket(it.affected_rows, it.last_insert_id, it.status_flags, it.warnings, self._text(it.info), tuple(self._changes(it.session_state)))
 
-    def _changes(self, rest) -> Iterator[Change]:
+    def _changes(self, rest: Any) -> Iterator[Change]:
         p, change, name, value = self.library, self.library.new("myp_change"), self.library.bytes(b""), self.library.bytes(b"")
         while rest.len and p.next("myp_next_change", rest, change):
             variables = []
@@ -98,12 +99,13 @@ class Session:
 
     def read_column_count(self, payload: bytes) -> int:
         agreed = self.capabilities, self.mariadb_capabilities
-        return self.library.read("myp_read_column_count_with_metadata", payload, *agreed, into="myp_column_count").count
+        count: int = self.library.read("myp_read_column_count_with_metadata", payload, *agreed, into="myp_column_count").count
+        return count
 
     def read_column(self, payload: bytes) -> Column:
         it = self.library.read("myp_read_extended_column", payload, self.mariadb_capabilities, into="myp_extended_column").column
-        names = (self._text(span) for span in (it.schema, it.table, it.org_table, it.name, it.org_name))
-        return Column(*names, it.character_set, it.column_length, it.column_type, it.flags, it.decimals)
+        schema, table, org_table, name, org_name = (self._text(span) for span in (it.schema, it.table, it.org_table, it.name, it.org_name))
+        return Column(schema, table, org_table, name, org_name, it.character_set, it.column_length, it.column_type, it.flags, it.decimals)
 
     def row_reader(self, columns: Sequence[Column], is_binary: bool) -> RowReader:
         """A reader of all rows of a result with these columns, faster than a call of its own for each row."""

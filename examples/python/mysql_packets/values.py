@@ -6,7 +6,7 @@ import enum
 import struct
 import uuid
 from itertools import accumulate, chain
-from typing import Any, Callable, Dict, Iterable, List, NamedTuple, Optional, Sequence, Tuple, Type, Union
+from typing import Any, Callable, Dict, List, NamedTuple, Optional, Sequence, Tuple, Type, Union
 
 from .errors import InvalidValue
 
@@ -208,7 +208,7 @@ class Structs:
         minutes, second = divmod(whole.seconds, 60)
         return self._packed("TIME", 0, int(value < datetime.timedelta()), 0, 0, minutes // 60, minutes % 60, second, whole.microseconds, whole.days)
 
-    def read(self, values: Any) -> Iterable[Any]:
+    def read(self, values: Any) -> List[Any]:
         """The contents of structs, in order, of a buffer of them."""
         readers = self.readers
         return [readers[it[0]](*it) for it in LAYOUT.iter_unpack(values)]
