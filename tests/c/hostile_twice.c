@@ -227,7 +227,7 @@ static void read_call(const struct call *call, uint8_t *first, const uint8_t *se
     memcpy(first, second, len);
 }
 
-/* Calls without a packet: the text of a code, and the intervals of a sid, which lie where the call is told to put them. */
+/* Calls without a packet: the text of a code, and the intervals of a sid, which lie in the array that is passed. */
 static void read_apart(void)
 {
     for (uint32_t code = MYP_OK; code <= MYP_END; code++) {
