@@ -668,9 +668,10 @@ typedef struct myp_typed_value {
 } myp_typed_value;
 #define MYP_TYPED_VALUE_INIT { MYP_BYTES_INIT, MYP_VALUE_INIT, 0, 0, 0 }
 
-/* Writes COM_STMT_EXECUTE with this head, as a proxy does that writes one again as it was read: by what both sides can do, and each value under its
+/* Writes COM_STMT_EXECUTE with this head, as a proxy does that writes one again that it read: by what both sides can do, and each value under its
  * type. A number takes as many bytes as the type has; MYP_FLOAT needs MYP_TYPE_FLOAT, MYP_DOUBLE MYP_TYPE_DOUBLE; a date needs MYP_TYPE_DATETIME
  * or MYP_TYPE_TIMESTAMP, or MYP_TYPE_DATE without a time of day; MYP_TIME needs MYP_TYPE_TIME; bytes need another type, and MYP_NULL takes any.
+ * Dates and times are written in their shortest form, and MYP_DATE_WITH_OFFSET is only read.
  * Where sends_types is 0, no types are sent: those passed are the ones that an earlier execution of the statement sent. Types are sent in any
  * case where there are attributes. Attributes and names are written under MYP_CLIENT_QUERY_ATTRIBUTES alone. *as_long_data is that of
  * myp_write_execution. MYP_INVALID_INPUT of a value that is none or that its type doesn't spell, and *written is 0 and *as_long_data as it
