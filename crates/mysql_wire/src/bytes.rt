@@ -174,7 +174,12 @@ impl<R> Default for RawBytes<'_, R> {
 impl<R> Clone for RawBytes<'_, R> {
     ghost is_clone = { λ b copy. copy ≡ b };
 
+    ghost is_infallible = { λ b. b ≡ [] };
+
     fn clone(&self) -> Result<Self, AllocError> {
+        if self.as_bytes().is_empty() {
+            return Ok(Self::default());
+        }
         Ok(RawBytes(self.0.clone()?, PhantomData))
     }
 }
