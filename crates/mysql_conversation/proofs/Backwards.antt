@@ -5,13 +5,14 @@ use Rattle.mysql_prepared.specs.Stmt.{num_columns, num_params}
 use Rattle.mysql_prepared.specs.StmtWithMetadata.{packet_of}
 use Rattle.mysql_prepared.specs.declared.stmt_with_metadata.StmtPacketWithMetadata.{StmtPacketWithMetadata}
 use Rattle.mysql_conversation.specs.Agreements.{Agreed, deprecates_eof}
-use Rattle.mysql_conversation.specs.Parts.{◌followed_by◌, ◌or◌}
+use Rattle.mysql_conversation.specs.Parts.{◌followed_by◌, ◌or◌, many}
 use Rattle.mysql_conversation.specs.Payloads.{definitions_follow, has_more, opens_cursor, first_is, IsOk, IsEnd, IsOldEnd, IsInfileRequest, IsCount, IsRow, IsPrepared, asks_cursor}
 use Rattle.mysql_conversation.specs.Conversation as c
-use Rattle.mysql_conversation.specs.Conversation.{Packet, sent, served, answering, answered, ending, format_of, authentication_kind}
-use Rattle.mysql_conversation.specs.Machine.{serve, answers, reply_step, infile_step, infile_reply_step, line_step, last_step, prepared_by, prepared_step, column_end, param_end, command_step, begun, acknowledgement_step, logged_in, authentication_step, answer_step, ack_step, definitions_end_step, event_step, columns_step, counted, less, define, ended, line_of, reply_of, old_end_of, statement_at, ok_status}
+use Rattle.mysql_conversation.specs.Conversation.{Packet, sent, served, code_of, answering, answered, ending, format_of, authentication_kind}
+use Rattle.mysql_conversation.specs.Machine.{serve, answers, reply_step, infile_step, infile_reply_step, line_step, last_step, prepared_by, prepared_step, column_end, param_end, last_ok, last_end, acknowledgement_step, logged_in, authentication_step, answer_step, ack_step, definitions_end_step, event_step, columns_step, counted, less, define, ended, line_of, reply_of, old_end_of, statement_at, ok_status}
 use Rattle.mysql_conversation.specs.Taken.{packet}
-use Rattle.mysql_conversation.proofs.Classes.{reply_means, line_means, old_end_means, statement_at_is, ok_status_is, chosen, some_is, eqb_refl}
+use Rattle.mysql_conversation.proofs.Classes.{reply_means, line_means, old_end_means, statement_at_is, ok_status_is, chosen, some_is}
+use Rattle.mysql_conversation.proofs.States.{may_shut}
 use Rattle.mysql_conversation.specs.declared.state.After.{After}
 use Rattle.mysql_conversation.specs.declared.state.After.TheVariants as after
 use Rattle.mysql_conversation.specs.declared.state.Answer.{Answer}
@@ -123,10 +124,6 @@ any_end_of : (a : Agreed) (more : Bool) (p : List ℕ) (items rest : List Packet
 any_end_of a true p items rest t e h = inl (serving (ending (deprecates_eof a)) (IsEnd a true) p items rest t e h)
 any_end_of a false p items rest t e h = inr (serving (ending (deprecates_eof a)) (IsEnd a false) p items rest t e h)
 
-any_ok_of : (a : Agreed) (more : Bool) (p : List ℕ) (items rest : List Packet) → items ≡ rest → first_is 0xff p ≡ false → IsOk a more p → c.any_ok a (packet Server p kind.Ok ∷ items) rest
-any_ok_of a true p items rest t e h = inl (serving kind.Ok (IsOk a true) p items rest t e h)
-any_ok_of a false p items rest t e h = inr (serving kind.Ok (IsOk a false) p items rest t e h)
-
 back_fetch : (a : Agreed) (p : List ℕ) (r : Option Line) (k : Kind) (m : State) (items rest : List Packet)
     → first_is 0xff p ≡ false → line_of a Binary p ≡ r → last_step (deprecates_eof a) (kind.Row Binary) state.Fetch r ≡ Some (k, m) → tail_of a m items rest → tail_of a state.Fetch (packet Server p k ∷ items) rest
 back_fetch a p None k m items rest e w h t = absurd cc
@@ -135,14 +132,29 @@ back_fetch a p (Some line.Row) k m items rest e w h t = back a state.Fetch Serve
 back_fetch a p (Some (line.End more)) k m items rest e w h t = back a state.Fetch Server p _ k _ m items rest h
     (λ t. (_, many_none (c.row a Binary) _, any_end_of a more p items rest t e (line_means a Binary p _ w))) t
 
-back_acknowledgement : (a : Agreed) (p : List ℕ) (l : Option Line) (r : Option Reply) (k : Kind) (m : State) (items rest : List Packet)
-    → first_is 0xff p ≡ false → line_of a Text p ≡ l → reply_of a p ≡ r → acknowledgement_step (deprecates_eof a) l r ≡ Some (k, m) → tail_of a m items rest → tail_of a state.Acknowledgement (packet Server p k ∷ items) rest
-back_acknowledgement a p (Some (line.End more)) r k m items rest e w v h t = back a state.Acknowledgement Server p _ k _ m items rest h (λ t. inr (any_end_of a more p items rest t e (line_means a Text p _ w))) t
-back_acknowledgement a p (Some line.Row) (Some (reply.Ok more)) k m items rest e w v h t = back a state.Acknowledgement Server p _ k _ m items rest h (λ t. inl (any_ok_of a more p items rest t e (reply_means a p _ v))) t
-back_acknowledgement a p (Some line.Row) (Some reply.Infile) k m items rest e w v h t = absurd cc
-back_acknowledgement a p (Some line.Row) (Some (reply.Columns n follow)) k m items rest e w v h t = absurd cc
-back_acknowledgement a p (Some line.Row) None k m items rest e w v h t = absurd cc
-back_acknowledgement a p None r k m items rest e w v h t = absurd cc
+back_last_ok : (a : Agreed) (s n : State) (p : List ℕ) (r : Option Reply) (k : Kind) (m : State) (items rest : List Packet) → first_is 0xff p ≡ false → reply_of a p ≡ r → last_ok n r ≡ Some (k, m)
+    → (IsOk a false p → tail_of a n items rest → tail_of a s (packet Server p kind.Ok ∷ items) rest) → tail_of a m items rest → tail_of a s (packet Server p k ∷ items) rest
+back_last_ok a s n p (Some (reply.Ok false)) k m items rest e v h f t = back a s Server p _ k _ m items rest h (f (reply_means a p _ v)) t
+back_last_ok a s n p (Some (reply.Ok true)) k m items rest e v h f t = absurd cc
+back_last_ok a s n p (Some reply.Infile) k m items rest e v h f t = absurd cc
+back_last_ok a s n p (Some (reply.Columns x follow)) k m items rest e v h f t = absurd cc
+back_last_ok a s n p None k m items rest e v h f t = absurd cc
+
+ok_acknowledged : (a : Agreed) (may_end : Bool) (p : List ℕ) (items rest : List Packet) → first_is 0xff p ≡ false → IsOk a false p → items ≡ rest → c.acknowledged a may_end (packet Server p kind.Ok ∷ items) rest
+ok_acknowledged a true p items rest e o t = inl (serving kind.Ok (IsOk a false) p items rest t e o)
+ok_acknowledged a false p items rest e o t = serving kind.Ok (IsOk a false) p items rest t e o
+
+back_last_end : (a : Agreed) (may_end more : Bool) (p : List ℕ) (k : Kind) (m : State) (items rest : List Packet)
+    → first_is 0xff p ≡ false → IsEnd a more p → last_end (deprecates_eof a) may_end more ≡ Some (k, m) → tail_of a m items rest → tail_of a (state.Acknowledgement may_end) (packet Server p k ∷ items) rest
+back_last_end a true false p k m items rest e w h t = back a (state.Acknowledgement true) Server p _ k _ m items rest h (λ t. inr (serving (ending (deprecates_eof a)) (IsEnd a false) p items rest t e w)) t
+back_last_end a true true p k m items rest e w h t = absurd cc
+back_last_end a false more p k m items rest e w h t = absurd cc
+
+back_acknowledgement : (a : Agreed) (may_end : Bool) (p : List ℕ) (l : Option Line) (k : Kind) (m : State) (items rest : List Packet)
+    → first_is 0xff p ≡ false → line_of a Text p ≡ l → acknowledgement_step (deprecates_eof a) may_end l (reply_of a p) ≡ Some (k, m) → tail_of a m items rest → tail_of a (state.Acknowledgement may_end) (packet Server p k ∷ items) rest
+back_acknowledgement a may_end p (Some (line.End more)) k m items rest e w h t = back_last_end a may_end more p k m items rest e (line_means a Text p _ w) h t
+back_acknowledgement a may_end p (Some line.Row) k m items rest e w h t = back_last_ok a (state.Acknowledgement may_end) state.Rest p (reply_of a p) k m items rest e refl h (λ o t. ok_acknowledged a may_end p items rest e o t) t
+back_acknowledgement a may_end p None k m items rest e w h t = absurd cc
 
 back_fields : (a : Agreed) (p : List ℕ) (r : Option Line) (k : Kind) (m : State) (items rest : List Packet)
     → first_is 0xff p ≡ false → line_of a Text p ≡ r → last_step (deprecates_eof a) kind.FieldListColumn state.Fields r ≡ Some (k, m) → tail_of a m items rest → tail_of a state.Fields (packet Server p k ∷ items) rest
@@ -167,31 +179,34 @@ one_round : (a : Agreed) (p : List ℕ) (items rest : List Packet) → first_is 
 one_round a p items rest e z t =
     (t.2.0, many_more (round a) _ t.0 t.2.0 (items, (packet Server p (authentication_kind a p), (refl, refl, e, z), refl), t.1) t.2.1, t.2.2)
 
-authenticated : (a : Agreed) (p : List ℕ) (status : StatusFlags) (items rest : List Packet) → items ≡ rest → first_is 0xff p ≡ false → first_is 0 p ≡ true → ok_status a p ≡ Some status → c.authentication a (packet Server p kind.Ok ∷ items) rest
-authenticated a p status items rest t e z w = (_, many_none (round a) _, any_ok_of a (has_more status) p items rest t e (z, status, ok_status_is a status p w, refl))
+authenticated : (a : Agreed) (p : List ℕ) (status : StatusFlags) (items rest : List Packet) → items ≡ rest → first_is 0xff p ≡ false → first_is 0 p ≡ true → ok_status a p ≡ Some status → has_more status ≡ false → c.authentication a (packet Server p kind.Ok ∷ items) rest
+authenticated a p status items rest t e z w n = (_, many_none (round a) _, serving kind.Ok (IsOk a false) p items rest t e (z, status, ok_status_is a status p w, n))
 
 -- where the client was asked, and does not answer
 pub unanswered : (a : Agreed) (b : Bool) (items rest : List Packet) → c.authentication a items rest → authenticating a b items rest
 unanswered a true items rest h = (items, inl refl, h)
 unanswered a false items rest h = h
 
-back_ok_status : (a : Agreed) (b : Bool) (p : List ℕ) (status : Option StatusFlags) (k : Kind) (m : State) (items rest : List Packet)
-    → first_is 0xff p ≡ false → first_is 0 p ≡ true → ok_status a p ≡ status → logged_in status ≡ Some (k, m) → tail_of a m items rest → tail_of a (state.Authentication b) (packet Server p k ∷ items) rest
-back_ok_status a b p None k m items rest e z w h t = absurd cc
-back_ok_status a b p (Some status) k m items rest e z w h t = back a (state.Authentication b) Server p _ k _ m items rest h (λ t. unanswered a b _ rest (authenticated a p status items rest t e z w)) t
+back_ok_status : (a : Agreed) (login b : Bool) (p : List ℕ) (status : Option StatusFlags) (k : Kind) (m : State) (items rest : List Packet)
+    → first_is 0xff p ≡ false → first_is 0 p ≡ true → ok_status a p ≡ status → logged_in status ≡ Some (k, m) → tail_of a m items rest → tail_of a (state.Authentication login b) (packet Server p k ∷ items) rest
+back_ok_status a login b p None k m items rest e z w h t = absurd cc
+back_ok_status a login b p (Some status) k m items rest e z w h t = elim (chosen (has_more status) _ _ _ h) [
+  | inl n ↦ absurd cc
+  | inr n ↦ back a (state.Authentication login b) Server p _ k _ m items rest n.1 (λ t. unanswered a b _ rest (authenticated a p status items rest t e z w n.0)) t
+]
 
-back_authentication : (a : Agreed) (b : Bool) (p : List ℕ) (k : Kind) (m : State) (items rest : List Packet)
-    → first_is 0xff p ≡ false → authentication_step a p (ok_status a p) ≡ Some (k, m) → tail_of a m items rest → tail_of a (state.Authentication b) (packet Server p k ∷ items) rest
-back_authentication a b p k m items rest e h t = elim (chosen (first_is 0 p) _ _ _ h) [
-  | inl z ↦ back_ok_status a b p (ok_status a p) k m items rest e z.0 refl z.1 t
-  | inr z ↦ back a (state.Authentication b) Server p _ k _ m items rest z.1 (λ t. unanswered a b _ rest (one_round a p items rest e z.0 t)) t
+pub back_authentication : (a : Agreed) (login b : Bool) (p : List ℕ) (k : Kind) (m : State) (items rest : List Packet)
+    → first_is 0xff p ≡ false → authentication_step a login p (ok_status a p) ≡ Some (k, m) → tail_of a m items rest → tail_of a (state.Authentication login b) (packet Server p k ∷ items) rest
+back_authentication a login b p k m items rest e h t = elim (chosen (first_is 0 p) _ _ _ h) [
+  | inl z ↦ back_ok_status a login b p (ok_status a p) k m items rest e z.0 refl z.1 t
+  | inr z ↦ back a (state.Authentication login b) Server p _ k _ m items rest z.1 (λ t. unanswered a b _ rest (one_round a p items rest e z.0 t)) t
 ]
 
 -- what the client answers, one step back
-pub back_answer : (a : Agreed) (b : Bool) (p : List ℕ) (k : Kind) (m : State) (items rest : List Packet)
-    → answer_step b ≡ Some (k, m) → tail_of a m items rest → tail_of a (state.Authentication b) (packet Client p k ∷ items) rest
-back_answer a true p k m items rest h t = back a (state.Authentication true) Client p _ k _ m items rest h (λ t. (items, inr (sending kind.AuthData _ p items items refl tt), t)) t
-back_answer a false p k m items rest h t = absurd cc
+pub back_answer : (a : Agreed) (login b : Bool) (p : List ℕ) (k : Kind) (m : State) (items rest : List Packet)
+    → answer_step login b ≡ Some (k, m) → tail_of a m items rest → tail_of a (state.Authentication login b) (packet Client p k ∷ items) rest
+back_answer a login true p k m items rest h t = back a (state.Authentication login true) Client p _ k _ m items rest h (λ t. (items, inr (sending kind.AuthData _ p items items refl tt), t)) t
+back_answer a login false p k m items rest h t = absurd cc
 
 -- an acknowledgement of an event, one step back
 pub back_ack : (a : Agreed) (p : List ℕ) (k : Kind) (m : State) (items rest : List Packet)
@@ -247,11 +262,15 @@ back_prepared : (a : Agreed) (p : List ℕ) (r : Option StmtPacketWithMetadata) 
 back_prepared a p None k m items rest e w h t = absurd cc
 back_prepared a p (Some s) k m items rest e w h t = back a state.Prepared Server p _ k _ m items rest h (by_following a s p (definitions_follow s) items rest e w refl) t
 
+-- a packet of the clone plugin's protocol
+pub one_clone : (side : Side) (p : List ℕ) (items rest : List Packet) → many c.clone items rest → many c.clone (packet side p kind.Clone ∷ items) rest
+one_clone side p items rest t = many_more c.clone _ items rest (packet side p kind.Clone, refl, refl) t
+
 -- a packet of the server that is no error, one step back
 pub back_serve : (a : Agreed) (s : State) (p : List ℕ) (k : Kind) (m : State) (items rest : List Packet)
     → first_is 0xff p ≡ false → serve a s p ≡ Some (k, m) → tail_of a m items rest → tail_of a s (packet Server p k ∷ items) rest
 back_serve a state.Rest p k m items rest e h t = absurd cc
-back_serve a (state.Authentication b) p k m items rest e h t = back_authentication a b p k m items rest e h t
+back_serve a (state.Authentication login b) p k m items rest e h t = back_authentication a login b p k m items rest e h t
 back_serve a (state.Infile r) p k m items rest e h t = absurd cc
 back_serve a (state.Reply r) p k m items rest e h t = back_reply a r p (reply_of a p) k m items rest e refl h t
 back_serve a (state.InfileReply r) p k m items rest e h t = back_infile_reply a r p (reply_of a p) k m items rest e refl h t
@@ -260,45 +279,45 @@ back_serve a (state.DefinitionsEnd b) p k m items rest e h t = back_definitions_
 back_serve a (state.Rows r) p k m items rest e h t = back_line a r p (line_of a (format_of r) p) k m items rest e refl h t
 back_serve a state.Prepared p k m items rest e h t = back_prepared a p (statement_at a p) k m items rest e refl h t
 back_serve a state.Fetch p k m items rest e h t = back_fetch a p (line_of a Binary p) k m items rest e refl h t
-back_serve a state.Acknowledgement p k m items rest e h t = back_acknowledgement a p (line_of a Text p) (reply_of a p) k m items rest e refl refl h t
+back_serve a (state.Acknowledgement may_end) p k m items rest e h t = back_acknowledgement a may_end p (line_of a Text p) k m items rest e refl h t
 back_serve a state.Text p k m items rest e h t = back a state.Text Server p _ k _ m items rest h (λ t. serving kind.Statistics _ p items rest t e tt) t
 back_serve a state.Fields p k m items rest e h t = back_fields a p (line_of a Text p) k m items rest e refl h t
 back_serve a state.Events p k m items rest e h t = back_events a p (first_is 0 p) (old_end_of a p) k m items rest e refl refl h t
 back_serve a state.Refusal p k m items rest e h t = absurd cc
+back_serve a state.CloneReply p k m items rest e h t = back_last_ok a state.CloneReply state.Clone p (reply_of a p) k m items rest e refl h
+    (λ o t. inl (items, serving kind.Ok (IsOk a false) p items items refl e o, t)) t
+back_serve a state.Clone p k m items rest e h t = back a state.Clone Server p _ k _ m items rest h (λ t. one_clone Server p items rest t) t
+back_serve a state.Over p k m items rest e h t = absurd cc
 
--- where an answer begins, all of it comes
-answer_comes : (a : Agreed) (r : Answer) (items rest : List Packet) → tail_of a (answers r) items rest → answered a (Some r) items rest
-answer_comes a (answer.Results r) items rest t = t
-answer_comes a answer.Prepared items rest t = t
-answer_comes a answer.Rows items rest t = t
-answer_comes a answer.Acknowledgement items rest t = t
-answer_comes a answer.Text items rest t = t
-answer_comes a answer.Fields items rest t = t
-answer_comes a answer.Authentication items rest t = t
-answer_comes a answer.Events items rest t = t
-answer_comes a answer.Nothing items rest t = t
-answer_comes a answer.Refusal items rest t = t
-
--- a command, and all that answers it
-answered_by : (a : Agreed) (code : ℕ) (r : Option Answer) (k : Kind) (m : State) (items rest : List Packet)
-    → begun code r ≡ Some (k, m) → tail_of a m items rest → (kind.Command code ≡ k) × answered a r items rest
-answered_by a code None k m items rest h t = absurd cc
-answered_by a code (Some r) k m items rest h t =
-    let e = some_is h in
-    (ap (λ (x : Kind × State). x.0) e, answer_comes a r items rest (subst (λ s. tail_of a s items rest) (sym (ap (λ (x : Kind × State). x.1) e)) t))
+-- where an answer begins, all of it comes, but for a command that may end the connection
+answer_comes : (a : Agreed) (r : Answer) (items rest : List Packet) → may_shut r ≡ false → tail_of a (answers r) items rest → answered a (Some r) items rest
+answer_comes a (answer.Results r) items rest n t = t
+answer_comes a answer.Prepared items rest n t = t
+answer_comes a answer.Rows items rest n t = t
+answer_comes a (answer.Acknowledgement may_end) items rest n t = t
+answer_comes a answer.Text items rest n t = t
+answer_comes a answer.Fields items rest n t = t
+answer_comes a answer.Authentication items rest n t = t
+answer_comes a answer.Events items rest n t = t
+answer_comes a answer.Nothing items rest n t = t
+answer_comes a answer.Quit items rest n t = absurd cc
+answer_comes a answer.Clone items rest n t = absurd cc
+answer_comes a answer.Refusal items rest n t = t
 
 one_exchange : (a : Agreed) (code : ℕ) (cursor : Bool) (items rest : List Packet) → c.exchange_of a code cursor items rest → c.exchange a items rest
 one_exchange a code true items rest h = (code, inl h)
 one_exchange a code false items rest h = (code, inr h)
 
--- a command, one step back
-pub back_command : (a : Agreed) (p : List ℕ) (k : Kind) (m : State) (items rest : List Packet)
-    → command_step p ≡ Some (k, m) → tail_of a m items rest → c.exchange a (packet Client p k ∷ items) rest
-back_command a [] k m items rest h t = absurd cc
-back_command a (code ∷ bytes) k m items rest h t =
-    let cursor = asks_cursor (code ∷ bytes) in
-    let r = answered_by a code (answering code cursor) k m items rest h t in
-    one_exchange a code cursor _ rest (items, (packet Client (code ∷ bytes) k, (refl, sym r.0, (eqb_refl code, refl)), refl), r.1)
+-- a command and what answers it
+pub exchange_by : (a : Agreed) (p : List ℕ) (r : Answer) (items rest : List Packet) → answering (code_of p) (asks_cursor p) ≡ Some r → answered a (Some r) items rest
+    → c.exchange a (packet Client p (kind.Command (code_of p)) ∷ items) rest
+exchange_by a p r items rest e t =
+    one_exchange a (code_of p) (asks_cursor p) _ rest (items, (packet Client p (kind.Command (code_of p)), (refl, refl, (refl, refl)), refl), subst (λ o. answered a o items rest) (sym e) t)
+
+-- the same, one step back
+pub back_command : (a : Agreed) (p : List ℕ) (r : Answer) (items rest : List Packet) → may_shut r ≡ false → answering (code_of p) (asks_cursor p) ≡ Some r → tail_of a (answers r) items rest
+    → c.exchange a (packet Client p (kind.Command (code_of p)) ∷ items) rest
+back_command a p r items rest n e t = exchange_by a p r items rest e (answer_comes a r items rest n t)
 
 -- the same of the content of a file
 pub back_content : (a : Agreed) (r : Request) (p : List ℕ) (k : Kind) (m : State) (items rest : List Packet)

@@ -186,12 +186,12 @@ old_end_comes a after.Rest =
     (old_end, [], refl, serving kind.Eof _ old_end_bytes [] [] refl refl (plain, (refl, old_end_spelled a)))
 
 authentication_comes : (a : Agreed) → c.authentication a (packet Server ok_bytes kind.Ok ∷ []) []
-authentication_comes a = (_, many_none (round a) _, inr (ok_then a []))
+authentication_comes a = (_, many_none (round a) _, ok_then a [])
 
 -- where an exchange runs, some packet goes on to its end
 pub to_come : (a : Agreed) (s : State) → rests s ≡ false → ToCome a s
 to_come a state.Rest h = absurd cc
-to_come a (state.Authentication b) h = (packet Server ok_bytes kind.Ok, [], refl, unanswered a b _ [] (authentication_comes a))
+to_come a (state.Authentication login b) h = (packet Server ok_bytes kind.Ok, [], refl, unanswered a b _ [] (authentication_comes a))
 to_come a (state.Infile r) h = (
   packet Client [] kind.InfileEnd,
   packet Server ok_bytes kind.Ok ∷ [],
@@ -212,8 +212,12 @@ to_come a state.Prepared h = (
   (0, (0, inl ([], serving (kind.PrepareOk 0 0 true) (IsPrepared a 0 0 true) statement_bytes [] [] refl refl (statement_is a (sends_metadata a.mysql) refl), ([], ([], refl, refl), ([], refl, refl))))),
 )
 to_come a state.Fetch h = let e = end_then a [] in (e.0, [], e.1, (_, many_none (c.row a Binary) _, inr e.2))
-to_come a state.Acknowledgement h = (packet Server ok_bytes kind.Ok, [], refl, inl (inr (ok_then a [])))
+to_come a (state.Acknowledgement true) h = (packet Server ok_bytes kind.Ok, [], refl, inl (ok_then a []))
+to_come a (state.Acknowledgement false) h = (packet Server ok_bytes kind.Ok, [], refl, ok_then a [])
 to_come a state.Text h = (packet Server [] kind.Statistics, [], refl, serving kind.Statistics _ [] [] [] refl refl tt)
 to_come a state.Fields h = let e = end_then a [] in (e.0, [], e.1, (_, many_none (c.field a) _, inr e.2))
 to_come a state.Events h = let e = old_end_comes a after.Rest in (e.0, e.1, e.2, (_, many_none (c.event or c.ack) _, e.3))
 to_come a state.Refusal h = (packet Server (0xff ∷ []) kind.Error, [], refl, (packet Server (0xff ∷ []) kind.Error, (refl, refl, (refl, short_report a)), refl))
+to_come a state.CloneReply h = (packet Server (0xff ∷ []) kind.Error, [], refl, inr (packet Server (0xff ∷ []) kind.Error, (refl, refl, (refl, short_report a)), refl))
+to_come a state.Clone h = absurd cc
+to_come a state.Over h = absurd cc

@@ -1,16 +1,16 @@
 -- What the grammar allows, the machine takes.
 use Rattle.std.proofs.Common.{◌≡◌, ◌≢◌, ℕ, ◌<◌, zero, suc, List, [], ◌∷◌, ◌++◌, inl, inr, Option, Some, None, refl, sym, ap, subst, ◌∙◌, Bool, true, false, arith}
-use Rattle.std.proofs.lemmas.Bool.{not-true}
+use Rattle.std.proofs.lemmas.Bool.{not-true, cases_Bool}
 use Rattle.mysql_wire.specs.Flags.{StatusFlags}
 use Rattle.mysql_conversation.proofs.Runs.{join, part}
 use Rattle.mysql_conversation.specs.Parts.{nothing, never, ◌followed_by◌, ◌or◌, for_some, times, many, broken}
-use Rattle.mysql_conversation.specs.Payloads.{has_more, opens_cursor, first_is, IsOk, IsEnd, IsOldEnd, IsInfileRequest, IsCount, IsRow, IsPrepared, IsError, asks_cursor}
+use Rattle.mysql_conversation.specs.Payloads.{has_more, opens_cursor, first_is, IsOk, IsEnd, IsOldEnd, IsInfileRequest, IsCount, IsRow, IsPrepared, IsError, is_report, asks_cursor}
 use Rattle.mysql_conversation.specs.Agreements.{Agreed, deprecates_eof}
 use Rattle.mysql_conversation.specs.Conversation as c
-use Rattle.mysql_conversation.specs.Conversation.{Packet, sent, served, answering, answered, ending, format_of, authentication_kind, commands, inside}
-use Rattle.mysql_conversation.specs.Machine.{entrance, step, client_step, serve, rests, Run, StepsTo, answers, reply_step, infile_step, infile_reply_step, line_step, last_step, prepared_by, prepared_step, column_end, param_end, command_step, begun, acknowledgement_step, definitions_end_step, event_step, old_end_of, enter, defined, counted, less, define, ended, reply_of}
-use Rattle.mysql_conversation.proofs.Classes.{ok_status_of, reply_ok, reply_infile, reply_count, line_row, line_end, old_end_of_is, statement_at_of, eqb_is, zero_is_no_end, end_is_no_zero}
-use Rattle.mysql_conversation.proofs.States.{step_listens}
+use Rattle.mysql_conversation.specs.Conversation.{Packet, sent, served, code_of, answering, answered, ending, format_of, authentication_kind, commands, inside}
+use Rattle.mysql_conversation.specs.Machine.{entrance, step, client_step, serve, rests, Run, StepsTo, answers, reply_step, infile_step, infile_reply_step, line_step, last_step, prepared_by, prepared_step, column_end, param_end, command_step, begun, error_step, last_ok, acknowledgement_step, definitions_end_step, event_step, old_end_of, enter, defined, counted, less, define, ended, reply_of}
+use Rattle.mysql_conversation.proofs.Classes.{ok_status_of, reply_ok, reply_infile, reply_count, line_row, line_end, old_end_of_is, statement_at_of, zero_is_no_end, end_is_no_zero}
+use Rattle.mysql_conversation.proofs.States.{step_listens, is_login, stays_no_login, error_rests, error_ends, failed_no_report, failed_clone}
 use Rattle.mysql_conversation.specs.declared.state.After.{After}
 use Rattle.mysql_conversation.specs.declared.state.After.TheVariants as after
 use Rattle.mysql_conversation.specs.declared.state.Answer.{Answer}
@@ -21,9 +21,12 @@ use Rattle.mysql_conversation.specs.declared.kind.Format.TheVariants.{Text, Bina
 use Rattle.mysql_conversation.specs.declared.kind.Kind.{Kind}
 use Rattle.mysql_conversation.specs.declared.kind.Kind.TheVariants as kind
 use Rattle.mysql_conversation.specs.declared.state.Line.TheVariants as line
+use Rattle.mysql_conversation.specs.declared.state.Reply.{Reply}
+use Rattle.mysql_conversation.specs.declared.state.Reply.TheVariants as reply
 use Rattle.mysql_conversation.specs.declared.kind.Opening.{Opening}
 use Rattle.mysql_conversation.specs.declared.kind.Opening.TheVariants as opened_at
-use Rattle.mysql_conversation.specs.declared.kind.Side.TheVariants.{Server}
+use Rattle.mysql_conversation.specs.declared.kind.Side.{Side}
+use Rattle.mysql_conversation.specs.declared.kind.Side.TheVariants.{Client, Server}
 use Rattle.mysql_conversation.specs.declared.state.State.{State}
 use Rattle.mysql_conversation.specs.declared.state.State.TheVariants as state
 
@@ -220,17 +223,17 @@ lead_fetched a =
     at_end : (more : Bool) → Leads a state.Fetch (c.end a more) state.Rest
     at_end more = lead_served a state.Fetch (ending (deprecates_eof a)) (IsEnd a more) state.Rest (λ p h. ap (last_step (deprecates_eof a) (kind.Row Binary) state.Fetch) (line_end a Binary more p h))
 
-lead_acknowledged : (a : Agreed) → Leads a state.Acknowledgement (c.any_ok a or c.any_end a) state.Rest
-lead_acknowledged a =
-    lead_or a _ _ _ _ (lead_or a _ _ _ _ (acknowledged_ok true) (acknowledged_ok false)) (lead_or a _ _ _ _ (acknowledged_end true) (acknowledged_end false))
-  where
-    acknowledged_ok : (more : Bool) → Leads a state.Acknowledgement (c.ok a more) state.Rest
-    acknowledged_ok more = lead_served a state.Acknowledgement kind.Ok (IsOk a more) state.Rest
-        (λ p h. ap (λ l. acknowledgement_step (deprecates_eof a) l (reply_of a p)) (line_row a Text p (zero_is_no_end (deprecates_eof a) p h.0)) ∙ ap (acknowledgement_step (deprecates_eof a) (Some line.Row)) (reply_ok a more p h))
+last_ok_of : (m : State) (r : Option Reply) → r ≡ Some (reply.Ok false) → last_ok m r ≡ Some (kind.Ok, m)
+last_ok_of m r e = ap (last_ok m) e
 
-    acknowledged_end : (more : Bool) → Leads a state.Acknowledgement (c.end a more) state.Rest
-    acknowledged_end more = lead_served a state.Acknowledgement (ending (deprecates_eof a)) (IsEnd a more) state.Rest
-        (λ p h. ap (λ l. acknowledgement_step (deprecates_eof a) l (reply_of a p)) (line_end a Text more p h))
+lead_acknowledged_ok : (a : Agreed) (may_end : Bool) → Leads a (state.Acknowledgement may_end) (c.ok a false) state.Rest
+lead_acknowledged_ok a may_end = lead_served a (state.Acknowledgement may_end) kind.Ok (IsOk a false) state.Rest
+    (λ p h. ap (λ l. acknowledgement_step (deprecates_eof a) may_end l (reply_of a p)) (line_row a Text p (zero_is_no_end (deprecates_eof a) p h.0)) ∙ last_ok_of state.Rest (reply_of a p) (reply_ok a false p h))
+
+lead_acknowledged : (a : Agreed) (may_end : Bool) → Leads a (state.Acknowledgement may_end) (c.acknowledged a may_end) state.Rest
+lead_acknowledged a true = lead_or a _ _ _ _ (lead_acknowledged_ok a true) (lead_served a (state.Acknowledgement true) (ending (deprecates_eof a)) (IsEnd a false) state.Rest
+    (λ p h. ap (λ l. acknowledgement_step (deprecates_eof a) true l (reply_of a p)) (line_end a Text false p h)))
+lead_acknowledged a false = lead_acknowledged_ok a false
 
 lead_fields : (a : Agreed) → Leads a state.Fields (many (c.field a) followed_by c.any_end a) state.Rest
 lead_fields a =
@@ -251,69 +254,71 @@ lead_events a =
 
 -- ---- authentication
 
-asked_step : (a : Agreed) (b : Bool) (p : List ℕ) (k : Kind) → k ≡ authentication_kind a p → first_is 0xff p ≡ false → first_is 0 p ≡ false → step a (state.Authentication b) Server p ≡ Some (k, state.Authentication true)
-asked_step a b p k e f z = rw (f, z) (ap (λ (k : Kind). Some (k, state.Authentication true)) (sym e))
+asked_step : (a : Agreed) (login b : Bool) (p : List ℕ) (k : Kind) → k ≡ authentication_kind a p → first_is 0xff p ≡ false → first_is 0 p ≡ false → step a (state.Authentication login b) Server p ≡ Some (k, state.Authentication login true)
+asked_step a login b p k e f z = rw (f, z) (ap (λ (k : Kind). Some (k, state.Authentication login true)) (sym e))
 
-lead_asked : (a : Agreed) (b : Bool) → Leads a (state.Authentication b) (c.asked a) (state.Authentication true)
-lead_asked a b items rest t h r =
+lead_asked : (a : Agreed) (login b : Bool) → Leads a (state.Authentication login b) (c.asked a) (state.Authentication login true)
+lead_asked a login b items rest t h r =
     let x = h.0 in
-    let found : step a (state.Authentication b) x.from x.payload ≡ Some (x.kind, state.Authentication true) =
-    subst (λ side. step a (state.Authentication b) side x.payload ≡ Some (x.kind, state.Authentication true)) (sym h.1.0) (asked_step a b x.payload x.kind h.1.1 h.1.2 h.1.3) in
-    subst (λ xs. Run a (state.Authentication b) xs t) (sym h.2) (state.Authentication true, found, r)
+    let found : step a (state.Authentication login b) x.from x.payload ≡ Some (x.kind, state.Authentication login true) =
+    subst (λ side. step a (state.Authentication login b) side x.payload ≡ Some (x.kind, state.Authentication login true)) (sym h.1.0) (asked_step a login b x.payload x.kind h.1.1 h.1.2 h.1.3) in
+    subst (λ xs. Run a (state.Authentication login b) xs t) (sym h.2) (state.Authentication login true, found, r)
 
-lead_auth_data : (a : Agreed) → Leads a (state.Authentication true) c.auth_data (state.Authentication false)
-lead_auth_data a = lead_sent a (state.Authentication true) kind.AuthData _ (state.Authentication false) (λ p h. refl)
+lead_auth_data : (a : Agreed) (login : Bool) → Leads a (state.Authentication login true) c.auth_data (state.Authentication login false)
+lead_auth_data a login = lead_sent a (state.Authentication login true) kind.AuthData _ (state.Authentication login false) (λ p h. refl)
 
-lead_auth_ok : (a : Agreed) (b more : Bool) → Leads a (state.Authentication b) (c.ok a more) state.Rest
-lead_auth_ok a b more = lead_served a (state.Authentication b) kind.Ok (IsOk a more) state.Rest (λ p h. rw (h.0, ok_status_of a h.1 p h.2) refl)
-
-lead_any_ok : (a : Agreed) (b : Bool) → Leads a (state.Authentication b) (c.any_ok a) state.Rest
-lead_any_ok a b = lead_or a _ _ _ _ (lead_auth_ok a b true) (lead_auth_ok a b false)
+lead_auth_ok : (a : Agreed) (login b : Bool) → Leads a (state.Authentication login b) (c.ok a false) state.Rest
+lead_auth_ok a login b = lead_served a (state.Authentication login b) kind.Ok (IsOk a false) state.Rest (λ p h. rw (h.0, ok_status_of a h.1 p h.2, h.3) refl)
 
 -- the rounds that are left, and the OK packet
-lead_rounds : (a : Agreed) (b : Bool) (n : ℕ) → Leads a (state.Authentication b) (times n (c.asked a followed_by (nothing or c.auth_data)) followed_by c.any_ok a) state.Rest
-lead_rounds a b zero items rest t h r = lead_any_ok a b items rest t (subst (λ xs. c.any_ok a xs rest) (sym h.1) h.2) r
-lead_rounds a b (suc n) items rest t h r = lead_asked a b items h.1.1.0 t h.1.1.1 (elim h.1.1.2 [
-  | inl e ↦ lead_rounds a true n h.1.1.0 rest t (h.0, subst (λ xs. times n (c.asked a followed_by (nothing or c.auth_data)) xs h.0) (sym e) h.1.2, h.2) r
-  | inr d ↦ lead_auth_data a h.1.1.0 h.1.0 t d (lead_rounds a false n h.1.0 rest t (h.0, h.1.2, h.2) r)
+lead_rounds : (a : Agreed) (login b : Bool) (n : ℕ) → Leads a (state.Authentication login b) (times n (c.asked a followed_by (nothing or c.auth_data)) followed_by c.ok a false) state.Rest
+lead_rounds a login b zero items rest t h r = lead_auth_ok a login b items rest t (subst (λ xs. c.ok a false xs rest) (sym h.1) h.2) r
+lead_rounds a login b (suc n) items rest t h r = lead_asked a login b items h.1.1.0 t h.1.1.1 (elim h.1.1.2 [
+  | inl e ↦ lead_rounds a login true n h.1.1.0 rest t (h.0, subst (λ xs. times n (c.asked a followed_by (nothing or c.auth_data)) xs h.0) (sym e) h.1.2, h.2) r
+  | inr d ↦ lead_auth_data a login h.1.1.0 h.1.0 t d (lead_rounds a login false n h.1.0 rest t (h.0, h.1.2, h.2) r)
 ])
 
-pub lead_authentication : (a : Agreed) (b : Bool) → Leads a (state.Authentication b) (c.authentication a) state.Rest
-lead_authentication a b items rest t h r = lead_rounds a b h.1.0 items rest t (h.0, h.1.1, h.2) r
+pub lead_authentication : (a : Agreed) (login b : Bool) → Leads a (state.Authentication login b) (c.authentication a) state.Rest
+lead_authentication a login b items rest t h r = lead_rounds a login b h.1.0 items rest t (h.0, h.1.1, h.2) r
 
 -- ---- errors
 
-error_step : (a : Agreed) (s : State) (x : Packet) → rests s ≡ false → x.from ≡ Server → x.kind ≡ kind.Error → IsError a x.payload → step a s x.from x.payload ≡ Some (x.kind, state.Rest)
-error_step a s x n f k e = rw (f, k, e.0, e.1, n) refl
+-- what a packet is that is an error
+error_at : (a : Agreed) (s : State) (x : Packet) (k : Kind) (m : State) → error_step s ≡ Some (k, m) → x.from ≡ Server → x.kind ≡ k → IsError a x.payload → step a s x.from x.payload ≡ Some (x.kind, m)
+error_at a s x k m o f e i = rw (f, i.0, i.1) (failed_no_report s ∙ o ∙ ap (λ (k : Kind). Some (k, m)) (sym e))
 
-lead_error : (a : Agreed) (s : State) → rests s ≡ false → Leads a s (c.error a) state.Rest
-lead_error a s n items rest t h r = subst (λ xs. Run a s xs t) (sym h.2) (state.Rest, error_step a s h.0 n h.1.0 h.1.1 h.1.2, r)
+lead_error : (a : Agreed) (s : State) → error_step s ≡ Some (kind.Error, state.Rest) → Leads a s (c.error a) state.Rest
+lead_error a s o items rest t h r = subst (λ xs. Run a s xs t) (sym h.2) (state.Rest, error_at a s h.0 kind.Error state.Rest o h.1.0 h.1.1 h.1.2, r)
 
-unasked_step : (a : Agreed) (x : Packet) → x.from ≡ Server → x.kind ≡ kind.UnaskedError → IsError a x.payload → step a state.Rest x.from x.payload ≡ Some (x.kind, state.Rest)
-unasked_step a x f k e = rw (f, k, e.0, e.1) refl
-
-lead_unasked : (a : Agreed) → Leads a state.Rest (c.unasked_error a) state.Rest
-lead_unasked a items rest t h r = subst (λ xs. Run a state.Rest xs t) (sym h.2) (state.Rest, unasked_step a h.0 h.1.0 h.1.1 h.1.2, r)
+lead_unasked : (a : Agreed) → Leads a state.Rest (c.unasked_error a) state.Over
+lead_unasked a items rest t h r = subst (λ xs. Run a state.Rest xs t) (sym h.2) (state.Over, error_at a state.Rest h.0 kind.UnaskedError state.Over refl h.1.0 h.1.1 h.1.2, r)
 
 -- ---- exchanges
 
-command_begins : (code : ℕ) (cursor : Bool) (p : List ℕ) → first_is code p ≡ true → asks_cursor p ≡ cursor → command_step p ≡ begun code (answering code cursor)
-command_begins code cursor [] h g = absurd cc
-command_begins code cursor (x ∷ bytes) h g = ap (λ b. begun x (answering x b)) g ∙ ap (λ n. begun n (answering n cursor)) (eqb_is x code h)
+command_begins : (code : ℕ) (cursor : Bool) (p : List ℕ) → code_of p ≡ code → asks_cursor p ≡ cursor → command_step p ≡ begun code (answering code cursor)
+command_begins code cursor p h g = ap (λ b. begun (code_of p) (answering (code_of p) b)) g ∙ ap (λ n. begun n (answering n cursor)) h
 
 lead_command : (a : Agreed) (code : ℕ) (cursor : Bool) (r : Answer) → answering code cursor ≡ Some r → Leads a state.Rest (c.command code cursor) (answers r)
 lead_command a code cursor r e = lead_sent a state.Rest (kind.Command code) _ (answers r) (λ p h. command_begins code cursor p h.0 h.1 ∙ ap (begun code) e)
+
+lead_commanding : (a : Agreed) (r : Answer) → Leads a state.Rest (c.commanding r) (answers r)
+lead_commanding a r items rest t h run =
+    let x = h.0 in
+    let found : step a state.Rest x.from x.payload ≡ Some (x.kind, answers r) = rw (h.1.0, h.1.1) (ap (begun (code_of x.payload)) h.1.2) in
+    subst (λ xs. Run a state.Rest xs t) (sym h.2) (answers r, found, run)
 
 lead_answer : (a : Agreed) (r : Answer) → Leads a (answers r) (answered a (Some r)) state.Rest
 lead_answer a (answer.Results r) = lead_results a r
 lead_answer a answer.Prepared = lead_prepared a
 lead_answer a answer.Rows = lead_fetched a
-lead_answer a answer.Acknowledgement = lead_acknowledged a
+lead_answer a (answer.Acknowledgement may_end) = lead_acknowledged a may_end
 lead_answer a answer.Text = lead_served a state.Text kind.Statistics _ state.Rest (λ p h. refl)
 lead_answer a answer.Fields = lead_fields a
-lead_answer a answer.Authentication = lead_authentication a false
+lead_answer a answer.Authentication = lead_authentication a false false
 lead_answer a answer.Events = lead_events a
 lead_answer a answer.Nothing = lead_nothing a state.Rest
+lead_answer a answer.Quit = lead_never a state.Over state.Rest
+lead_answer a answer.Clone = lead_error a state.CloneReply refl
 lead_answer a answer.Refusal = lead_error a state.Refusal refl
 
 lead_answered : (a : Agreed) (code : ℕ) (cursor : Bool) (r : Option Answer) → answering code cursor ≡ r → Leads a state.Rest (c.command code cursor followed_by answered a r) state.Rest
@@ -329,25 +334,79 @@ lead_exchange a = lead_some a _ _ _ (λ code. lead_or a _ _ _ _ (lead_answered a
 pub inside_runs : (a : Agreed) (s : State) (x : Packet) (m : State) → c.IsInside x → step a s x.from x.payload ≡ Some (x.kind, m) → rests s ≡ false
 inside_runs a s x m i h = not-true (rests s) (sym (step_listens a s x.from x.payload x.kind m h).1 ∙ i)
 
-lead_broken : (a : Agreed) (s : State) (f : List Packet → List Packet → Type 0) → Leads a s f state.Rest → Leads a s (broken f c.IsInside (c.error a)) state.Rest
-lead_broken a s f l items rest t h r =
-    let whole = l (h.0 ++ h.1 ∷ h.2) [] state.Rest h.5 refl in
-    let cut = part (StepsTo a) s h.0 (h.1 ∷ h.2) state.Rest whole in
-    let n = inside_runs a cut.0 h.1 cut.2.0 h.4 cut.2.1 in
-    let err = h.7 in
-    let last : Run a cut.0 h.3 t = subst (λ xs. Run a cut.0 xs t) (sym err.2) (state.Rest, error_step a cut.0 err.0 n err.1.0 err.1.1 err.1.2, r) in
-    subst (λ xs. Run a s xs t) (sym h.6) (join (StepsTo a) s h.0 cut.0 h.3 t cut.1 last)
+-- no login begins where none runs
+run_no_login : (a : Agreed) (s : State) (items : List Packet) (t : State) → is_login s ≡ false → Run a s items t → is_login t ≡ false
+run_no_login a s [] t l r = ap is_login (sym r) ∙ l
+run_no_login a s (x ∷ items) t l r = run_no_login a r.0 items t (stays_no_login a s x.from x.payload x.kind r.0 l r.1) r.2
 
-lead_unless_broken : (a : Agreed) (s : State) (f : List Packet → List Packet → Type 0) → Leads a s f state.Rest → Leads a s (c.unless_broken a f) state.Rest
-lead_unless_broken a s f l = lead_or a s f (broken f c.IsInside (c.error a)) state.Rest l (lead_broken a s f l)
+-- where a part is broken off: an exchange runs, and an error comes
+cut_off : (a : Agreed) (s : State) (f : List Packet → List Packet → Type 0) (m : State) (items rest : List Packet) → Leads a s f m → broken f c.IsInside (c.error a) items rest
+    → (cut : State) × (front : List Packet) × (mid : List Packet) × (items ≡ front ++ mid) × Run a s front cut × (rests cut ≡ false) × c.error a mid rest
+cut_off a s f m items rest l h =
+    let whole = l (h.0 ++ h.1 ∷ h.2) [] m h.5 refl in
+    let cut = part (StepsTo a) s h.0 (h.1 ∷ h.2) m whole in
+    (cut.0, h.0, h.3, h.6, cut.1, inside_runs a cut.0 h.1 cut.2.0 h.4 cut.2.1, h.7)
 
-lead_opening : (a : Agreed) (o : Opening) → Leads a (entrance o) (c.opening a o) state.Rest
-lead_opening a opened_at.Login = lead_unless_broken a (state.Authentication false) (c.authentication a) (lead_authentication a false)
-lead_opening a opened_at.Commands = lead_nothing a state.Rest
+lead_broken : (a : Agreed) (s : State) (f : List Packet → List Packet → Type 0) → is_login s ≡ false → Leads a s f state.Rest → Leads a s (broken f c.IsInside (c.error a)) state.Rest
+lead_broken a s f n l items rest t h r =
+    let b = cut_off a s f state.Rest items rest l h in
+    let last : Run a b.0 b.2 t = lead_error a b.0 (error_rests b.0 b.5 (run_no_login a s b.1 b.0 n b.4)) b.2 rest t b.6 r in
+    subst (λ xs. Run a s xs t) (sym b.3) (join (StepsTo a) s b.1 b.0 b.2 t b.4 last)
 
 lead_exchanges : (a : Agreed) → Leads a state.Rest (c.exchanges a) state.Rest
-lead_exchanges a = lead_many a state.Rest _ (lead_or a _ _ _ _ (lead_unless_broken a state.Rest (c.exchange a) (lead_exchange a)) (lead_unasked a))
+lead_exchanges a = lead_many a state.Rest _ (lead_or a _ _ _ _ (lead_exchange a) (lead_broken a state.Rest (c.exchange a) refl (lead_exchange a)))
 
--- each conversation is answered by its kinds, and leaves the machine at rest
-pub conversation_runs : (a : Agreed) (o : Opening) (items : List Packet) → c.conversation a o items [] → Run a (entrance o) items state.Rest
-conversation_runs a o items h = lead_then a (entrance o) (c.opening a o) (c.exchanges a) state.Rest state.Rest (lead_opening a o) (lead_exchanges a) items [] state.Rest h refl
+-- ---- to the end
+
+-- the packets leave the machine where no exchange runs
+abbrev pub RunsOut : Agreed → State → List Packet → Type 0
+RunsOut a s items = (t : State) × Run a s items t × (rests t ≡ true)
+
+leads_out : (a : Agreed) (s : State) (f : List Packet → List Packet → Type 0) (m : State) (items : List Packet) → Leads a s f m → rests m ≡ true → f items [] → RunsOut a s items
+leads_out a s f m items l n h = (m, l items [] m h refl, n)
+
+clone_step : (a : Agreed) (side : Side) (p : List ℕ) → step a state.Clone side p ≡ Some (kind.Clone, state.Clone)
+clone_step a Client p = refl
+clone_step a Server p = elim (cases_Bool (first_is 0xff p)) [
+  | inl f ↦ rw f (failed_clone (is_report a p))
+  | inr f ↦ rw f refl
+]
+
+lead_clone : (a : Agreed) → Leads a state.Clone c.clone state.Clone
+lead_clone a items rest t h r =
+    let x = h.0 in
+    let found : step a state.Clone x.from x.payload ≡ Some (x.kind, state.Clone) = clone_step a x.from x.payload ∙ ap (λ (k : Kind). Some (k, state.Clone)) (sym h.1) in
+    subst (λ xs. Run a state.Clone xs t) (sym h.2) (state.Clone, found, r)
+
+lead_cloned : (a : Agreed) → Leads a state.Rest (c.cloned a) state.Clone
+lead_cloned a = lead_then a _ _ _ state.CloneReply _ (lead_commanding a answer.Clone)
+    (lead_then a _ _ _ state.Clone _
+    (lead_served a state.CloneReply kind.Ok (IsOk a false) state.Clone (λ p h. last_ok_of state.Clone (reply_of a p) (reply_ok a false p h)))
+    (lead_many a state.Clone c.clone (lead_clone a)))
+
+last_out : (a : Agreed) (items : List Packet) → c.last a items [] → RunsOut a state.Rest items
+last_out a items (inl h) = leads_out a state.Rest nothing state.Rest items (lead_nothing a state.Rest) refl h
+last_out a items (inr (inl h)) = leads_out a state.Rest c.quit state.Over items (lead_commanding a answer.Quit) refl h
+last_out a items (inr (inr (inl h))) = leads_out a state.Rest (c.unasked_error a) state.Over items (lead_unasked a) refl h
+last_out a items (inr (inr (inr h))) = leads_out a state.Rest (c.cloned a) state.Clone items (lead_cloned a) refl h
+
+-- and before them a part that leads there
+then_out : (a : Agreed) (s : State) (f : List Packet → List Packet → Type 0) (m : State) (items mid : List Packet) → Leads a s f m → f items mid → RunsOut a m mid → RunsOut a s items
+then_out a s f m items mid l h o = (o.0, l items mid o.0 h o.1, o.2)
+
+commanded_out : (a : Agreed) (items : List Packet) → c.commanded a items [] → RunsOut a state.Rest items
+commanded_out a items h = then_out a state.Rest (c.exchanges a) state.Rest items h.0 (lead_exchanges a) h.1 (last_out a h.0 h.2)
+
+-- a login that is refused
+refused_out : (a : Agreed) (items : List Packet) → c.refused_login a items [] → RunsOut a (entrance opened_at.Login) items
+refused_out a items h =
+    let b = cut_off a (state.Authentication true false) (c.authentication a) state.Rest items [] (lead_authentication a true false) h in
+    let e = error_ends b.0 b.5 in
+    let last : Run a b.0 b.2 e.0 = subst (λ xs. Run a b.0 xs e.0) (sym b.6.2) (e.0, error_at a b.0 b.6.0 kind.Error e.0 e.1 b.6.1.0 b.6.1.1 b.6.1.2, refl) in
+    (e.0, subst (λ xs. Run a (entrance opened_at.Login) xs e.0) (sym b.3) (join (StepsTo a) (entrance opened_at.Login) b.1 b.0 b.2 e.0 b.4 last), e.2)
+
+-- each conversation is answered by its kinds, and leaves the machine where no exchange runs
+pub conversation_runs : (a : Agreed) (o : Opening) (items : List Packet) → c.conversation a o items → RunsOut a (entrance o) items
+conversation_runs a opened_at.Login items (inl h) = then_out a (entrance opened_at.Login) (c.authentication a) state.Rest items h.0 (lead_authentication a true false) h.1 (commanded_out a h.0 h.2)
+conversation_runs a opened_at.Login items (inr h) = refused_out a items h
+conversation_runs a opened_at.Commands items h = commanded_out a items h

@@ -2,10 +2,10 @@
 use Rattle.std.proofs.Common.{◌≡◌, ℕ, ◌+◌, ◌<◌, ◌≤◌, ◌-◌, ◌^◌, List, ◌⊎◌, inl, inr, length, Option, Some, None, refl, sym, ap, subst, ◌∙◌, true, false, arith}
 use Rattle.std.specs.Prelude.{◌↔◌, Result, Ok, Err, IfErr}
 use Rattle.mysql_conversation.specs.Agreements.{Agreed}
-use Rattle.mysql_conversation.specs.Machine.{take_step, is_due, rests}
-use Rattle.mysql_conversation.specs.Standing.{IsFullOf, command_of}
+use Rattle.mysql_conversation.specs.Machine.{take_step, is_due, is_idle}
+use Rattle.mysql_conversation.specs.Standing.{IsFullOf, quits, command_of}
 use Rattle.mysql_conversation.specs.Piped.{IsCommand, IsFull, MustWait, IsIdle, CountsNoMore, limit, waiting}
-use Rattle.mysql_conversation.proofs.States.{rests_is}
+use Rattle.mysql_conversation.proofs.States.{idle_is}
 use Rattle.mysql_conversation.proofs.Turns.{no_aside, rest_step_is, command_step}
 use Rattle.mysql_conversation.specs.declared.kind.Kind.{Kind}
 use Rattle.mysql_conversation.specs.declared.kind.Side.{Side}
@@ -29,26 +29,31 @@ only (Err w) why h f e = f w h (cc e)
 
 -- ---- a command that comes early
 
-pub full_of : (n last : ℕ) (q : List Waiting) (c : Option Command) (command : Command) → c ≡ Some command → (n ≤ length q) ⊎ (last ≡ 2 ^ 64 - 1) → IsFullOf n last q c
-full_of n last q c command e h = (command, e, h)
+pub full_of : (n last : ℕ) (q : List Waiting) (c : Option Command) (command : Command) → c ≡ Some command → quits q ≡ false → (n ≤ length q) ⊎ (last ≡ 2 ^ 64 - 1) → IsFullOf n last q c
+full_of n last q c command e g h = (command, e, g, h)
 
 pub no_command : (n last : ℕ) (q : List Waiting) (c : Option Command) → c ≡ None → IsFullOf n last q c → ⊥
 no_command n last q c e h = let no : None ≡ Some h.0 = sym e ∙ h.1 in absurd cc
 
 pub has_place : (n last : ℕ) (q : List Waiting) (c : Option Command) → length q < n → last + 1 < 2 ^ 64 → IsFullOf n last q c → ⊥
-has_place n last q c a b (command, e, inl h) = omega arith
-has_place n last q c a b (command, e, inr h) = omega arith
+has_place n last q c a b (command, e, g, inl h) = omega arith
+has_place n last q c a b (command, e, g, inr h) = omega arith
 
-pub early_full : (c : Pipeline) (p : List ℕ) → MustWait c → IsFullOf c.limit c.last c.waiting.items (command_of p) → IsFull c Client p
-early_full c p m (command, e, inl h) = ((refl, command, e), inl (m, h))
-early_full c p m (command, e, inr h) = ((refl, command, e), inr (inl m, h))
+-- after COM_QUIT none comes
+pub quit_has_no_place : (n last : ℕ) (q : List Waiting) (c : Option Command) → quits q ≡ true → IsFullOf n last q c → ⊥
+quit_has_no_place n last q c e h = let no : true ≡ false = sym e ∙ h.2 in absurd cc
 
-pub full_early : (c : Pipeline) (p : List ℕ) → MustWait c → IsFull c Client p → IsFullOf c.limit c.last c.waiting.items (command_of p)
-full_early c p m (k, inl h) = (k.1, k.2, inl h.1)
-full_early c p m (k, inr h) = (k.1, k.2, inr h.1)
+pub early_full : (c : Pipeline) (p : List ℕ) → is_due c.state ≡ true → IsFullOf c.limit c.last c.waiting.items (command_of p) → IsFull c Client p
+early_full c p m (command, e, g, inl h) = ((refl, command, e), inl ((m, g), h))
+early_full c p m (command, e, g, inr h) = ((refl, command, e), inr (inl (m, g), h))
+
+pub full_early : (c : Pipeline) (p : List ℕ) → is_due c.state ≡ true → IsFull c Client p → IsFullOf c.limit c.last c.waiting.items (command_of p)
+full_early c p m (k, inl h) = (k.1, k.2, h.0.1, inl h.1)
+full_early c p m (k, inr (inl h, n)) = (k.1, k.2, h.1, inr n)
+full_early c p m (k, inr (inr h, n)) = let no : is_due c.state ≡ false = ap is_due (idle_is c.state h) in absurd cc
 
 -- what the client says while the server is to speak, and is no command, is not full
-pub aside_has_place : (c : Pipeline) (p : List ℕ) (k : Kind) (m : State) → MustWait c → take_step c.agreed c.state Client p ≡ Some (k, m) → IsFull c Client p → ⊥
+pub aside_has_place : (c : Pipeline) (p : List ℕ) (k : Kind) (m : State) → is_due c.state ≡ true → take_step c.agreed c.state Client p ≡ Some (k, m) → IsFull c Client p → ⊥
 aside_has_place c p k m d e h =
     let none = no_aside c.agreed c.state p h.0.1 d h.0.2 in absurd (cc (none, e))
 
@@ -60,7 +65,7 @@ some_command (Some c) k m h = (c, refl)
 
 pub idle_full : (c : Pipeline) (p : List ℕ) (k : Kind) (m : State) → IsIdle c → take_step c.agreed c.state Client p ≡ Some (k, m) → CountsNoMore c → IsFull c Client p
 idle_full c p k m i e n =
-    let step = subst (λ s. take_step c.agreed s Client p ≡ Some (k, m)) (rests_is c.state i) e in
+    let step = subst (λ s. take_step c.agreed s Client p ≡ Some (k, m)) (idle_is c.state i) e in
     let f = some_command (command_of p) k m (sym (rest_step_is c.agreed p) ∙ step) in
     ((refl, f.0, f.1), inr (inr i, n))
 
@@ -69,19 +74,19 @@ idle_step a p command e n = let no : None ≡ command_step (Some command) = sym 
 
 -- what the machine does not take while the client may speak
 pub refused_has_place : (c : Pipeline) (p : List ℕ) → is_due c.state ≡ false → take_step c.agreed c.state Client p ≡ None → IsFull c Client p → ⊥
-refused_has_place c p d e (k, inl h) = let no : true ≡ false = sym h.0 ∙ d in absurd cc
-refused_has_place c p d e (k, inr (inl h, n)) = let no : true ≡ false = sym h ∙ d in absurd cc
-refused_has_place c p d e (k, inr (inr h, n)) = idle_step c.agreed p k.1 k.2 (subst (λ s. take_step c.agreed s Client p ≡ None) (rests_is c.state h) e)
+refused_has_place c p d e (k, inl h) = let no : true ≡ false = sym h.0.0 ∙ d in absurd cc
+refused_has_place c p d e (k, inr (inl h, n)) = let no : true ≡ false = sym h.0 ∙ d in absurd cc
+refused_has_place c p d e (k, inr (inr h, n)) = idle_step c.agreed p k.1 k.2 (subst (λ s. take_step c.agreed s Client p ≡ None) (idle_is c.state h) e)
 
 -- what is no command's turn
-pub running_has_place : (c : Pipeline) (p : List ℕ) → is_due c.state ≡ false → rests c.state ≡ false → IsFull c Client p → ⊥
-running_has_place c p d i (k, inl h) = let no : true ≡ false = sym h.0 ∙ d in absurd cc
-running_has_place c p d i (k, inr (inl h, n)) = let no : true ≡ false = sym h ∙ d in absurd cc
+pub running_has_place : (c : Pipeline) (p : List ℕ) → is_due c.state ≡ false → is_idle c.state ≡ false → IsFull c Client p → ⊥
+running_has_place c p d i (k, inl h) = let no : true ≡ false = sym h.0.0 ∙ d in absurd cc
+running_has_place c p d i (k, inr (inl h, n)) = let no : true ≡ false = sym h.0 ∙ d in absurd cc
 running_has_place c p d i (k, inr (inr h, n)) = let no : true ≡ false = sym h ∙ i in absurd cc
 
 -- it is counted
 pub counted_has_place : (c : Pipeline) (p : List ℕ) → is_due c.state ≡ false → c.last + 1 < 2 ^ 64 → IsFull c Client p → ⊥
-counted_has_place c p d b (k, inl h) = let no : true ≡ false = sym h.0 ∙ d in absurd cc
+counted_has_place c p d b (k, inl h) = let no : true ≡ false = sym h.0.0 ∙ d in absurd cc
 counted_has_place c p d b (k, inr (w, n)) = omega arith
 
 -- ---- the server's packets

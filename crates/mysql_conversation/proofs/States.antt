@@ -1,16 +1,20 @@
 -- Whose turn it is in each state, and what the kind of a packet says of it.
 use Rattle.std.proofs.Common.{◌≡◌, ℕ, zero, suc, List, [], ◌∷◌, ◌⊎◌, inl, inr, Option, Some, None, refl, sym, ap, subst, ◌∙◌, Bool, true, false, cond}
 use Rattle.std.specs.Prelude.{◌&&◌, not}
-use Rattle.std.proofs.lemmas.Bool.{and_parts}
+use Rattle.std.proofs.lemmas.Bool.{and_parts, cases_Bool}
 use Rattle.mysql_wire.specs.Flags.{StatusFlags}
 use Rattle.mysql_prepared.specs.Stmt.{num_columns, num_params}
 use Rattle.mysql_prepared.specs.StmtWithMetadata.{packet_of}
 use Rattle.mysql_prepared.specs.declared.stmt_with_metadata.StmtPacketWithMetadata.{StmtPacketWithMetadata}
 use Rattle.mysql_conversation.specs.Agreements.{Agreed, deprecates_eof, asks_factors}
 use Rattle.mysql_conversation.specs.Payloads.{first_is, definitions_follow, is_one_byte, is_report, asks_cursor, opens_cursor, has_more}
-use Rattle.mysql_conversation.specs.Conversation.{answering, asks, commands, inside, ending, format_of, authentication_kind}
-use Rattle.mysql_conversation.specs.Machine.{entrance, step, take_step, client_step, serve, rests, listens, is_due, error_kind, answers, begun, command_step, infile_step, answer_step, logged_in, authentication_step, reply_step, infile_reply_step, columns_step, definitions_end_step, event_step, line_step, last_step, prepared_by, prepared_step, column_end, param_end, acknowledgement_step, enter, defined, less, define, counted, ended, reply_of, line_of, old_end_of, statement_at, ok_status}
+use Rattle.mysql_conversation.specs.Conversation.{code_of, answering, asks, commands, inside, ending, format_of, authentication_kind}
+use Rattle.mysql_conversation.specs.Machine.{entrance, step, take_step, client_step, serve, rests, is_idle, is_shut, listens, is_due, error_step, failed, answers, begun, infile_step, answer_step, logged_in, authentication_step, reply_step, infile_reply_step, columns_step, definitions_end_step, event_step, line_step, last_step, prepared_by, prepared_step, column_end, param_end, last_ok, last_end, acknowledgement_step, enter, defined, less, define, counted, ended, reply_of, line_of, old_end_of, statement_at, ok_status}
+use Rattle.mysql_conversation.specs.Expected.{shutting_names}
+use Rattle.mysql_conversation.specs.KindName.{name_of, is_in}
+use Rattle.mysql_conversation.specs.Standing.{is_quit}
 use Rattle.mysql_conversation.proofs.Classes.{chosen, some_is}
+use Rattle.mysql_conversation.specs.declared.kind_name.KindName.TheVariants as name
 use Rattle.mysql_conversation.specs.declared.kind.Format.TheVariants.{Text, Binary}
 use Rattle.mysql_conversation.specs.declared.kind.Kind.{Kind}
 use Rattle.mysql_conversation.specs.declared.kind.Kind.TheVariants as kind
@@ -31,45 +35,76 @@ use Rattle.mysql_conversation.specs.declared.state.Request.TheVariants.{Query, E
 use Rattle.mysql_conversation.specs.declared.state.State.{State}
 use Rattle.mysql_conversation.specs.declared.state.State.TheVariants as state
 
--- no exchange runs, or the client may answer, or the server is to speak
+-- a command may come, or the client may answer, or the server is to speak, or no command comes any more
 abbrev pub Turn : State → Type 0
-Turn s = (s ≡ state.Rest) ⊎ (((listens s ≡ true) × (rests s ≡ false) × (is_due s ≡ false)) ⊎ ((is_due s ≡ true) × (rests s ≡ false) × (listens s ≡ false)))
+Turn s =
+    (s ≡ state.Rest)
+    ⊎ (((listens s ≡ true) × (rests s ≡ false) × (is_due s ≡ false))
+    ⊎ (((is_due s ≡ true) × (rests s ≡ false) × (listens s ≡ false))
+    ⊎ ((is_shut s ≡ true) × (rests s ≡ true) × (listens s ≡ false) × (is_due s ≡ false))))
 
 pub turn : (s : State) → Turn s
 turn state.Rest = inl refl
-turn (state.Authentication true) = inr (inl (refl, refl, refl))
-turn (state.Authentication false) = inr (inr (refl, refl, refl))
-turn (state.Reply r) = inr (inr (refl, refl, refl))
+turn (state.Authentication login true) = inr (inl (refl, refl, refl))
+turn (state.Authentication login false) = inr (inr (inl (refl, refl, refl)))
+turn (state.Reply r) = inr (inr (inl (refl, refl, refl)))
 turn (state.Infile r) = inr (inl (refl, refl, refl))
-turn (state.InfileReply r) = inr (inr (refl, refl, refl))
-turn (state.Definitions n b) = inr (inr (refl, refl, refl))
-turn (state.DefinitionsEnd b) = inr (inr (refl, refl, refl))
-turn (state.Rows r) = inr (inr (refl, refl, refl))
-turn state.Prepared = inr (inr (refl, refl, refl))
-turn state.Fetch = inr (inr (refl, refl, refl))
-turn state.Acknowledgement = inr (inr (refl, refl, refl))
-turn state.Text = inr (inr (refl, refl, refl))
-turn state.Fields = inr (inr (refl, refl, refl))
-turn state.Events = inr (inr (refl, refl, refl))
-turn state.Refusal = inr (inr (refl, refl, refl))
+turn (state.InfileReply r) = inr (inr (inl (refl, refl, refl)))
+turn (state.Definitions n b) = inr (inr (inl (refl, refl, refl)))
+turn (state.DefinitionsEnd b) = inr (inr (inl (refl, refl, refl)))
+turn (state.Rows r) = inr (inr (inl (refl, refl, refl)))
+turn state.Prepared = inr (inr (inl (refl, refl, refl)))
+turn state.Fetch = inr (inr (inl (refl, refl, refl)))
+turn (state.Acknowledgement may_end) = inr (inr (inl (refl, refl, refl)))
+turn state.Text = inr (inr (inl (refl, refl, refl)))
+turn state.Fields = inr (inr (inl (refl, refl, refl)))
+turn state.Events = inr (inr (inl (refl, refl, refl)))
+turn state.Refusal = inr (inr (inl (refl, refl, refl)))
+turn state.CloneReply = inr (inr (inl (refl, refl, refl)))
+turn state.Clone = inr (inr (inr (refl, refl, refl, refl)))
+turn state.Over = inr (inr (inr (refl, refl, refl, refl)))
 
-pub which_rests : (s : State) → (s ≡ state.Rest) ⊎ (rests s ≡ false)
+-- an exchange runs, or none does
+pub which_rests : (s : State) → (rests s ≡ true) ⊎ (rests s ≡ false)
 which_rests s = elim (turn s) [
-  | inl e ↦ inl e
-  | inr t ↦ elim t [ inl l ↦ inr l.1 | inr d ↦ inr d.1 ]
+  | inl e ↦ inl (ap rests e)
+  | inr (inl t) ↦ inr t.1
+  | inr (inr (inl t)) ↦ inr t.1
+  | inr (inr (inr t)) ↦ inl t.1
 ]
+
+pub idle_is : (s : State) → is_idle s ≡ true → s ≡ state.Rest
+idle_is state.Rest h = refl
+idle_is _ h = absurd cc
+
+pub running_idle : (s : State) → rests s ≡ false → is_idle s ≡ false
+running_idle state.Rest h = absurd cc
+running_idle _ h = refl
+
+pub running_shut : (s : State) → rests s ≡ false → is_shut s ≡ false
+running_shut state.Clone h = absurd cc
+running_shut state.Over h = absurd cc
+running_shut _ h = refl
+
+pub shut_idle : (s : State) → is_shut s ≡ true → is_idle s ≡ false
+shut_idle state.Rest h = absurd cc
+shut_idle _ h = refl
 
 -- the server is to speak where an exchange runs and the client is not asked
 pub due_of : (s : State) → rests s ≡ false → listens s ≡ false → is_due s ≡ true
 due_of s n l = elim (turn s) [
   | inl e ↦ (let no : rests s ≡ true = ap rests e in absurd cc)
-  | inr t ↦ elim t [ inl m ↦ absurd cc | inr d ↦ d.0 ]
+  | inr (inl m) ↦ absurd cc
+  | inr (inr (inl d)) ↦ d.0
+  | inr (inr (inr d)) ↦ absurd cc
 ]
 
 pub due_runs : (s : State) → is_due s ≡ true → (rests s ≡ false) × (listens s ≡ false)
 due_runs s h = elim (turn s) [
   | inl e ↦ (let no : is_due s ≡ false = ap is_due e in absurd cc)
-  | inr t ↦ elim t [ inl m ↦ absurd cc | inr d ↦ (d.1, d.2) ]
+  | inr (inl m) ↦ absurd cc
+  | inr (inr (inl d)) ↦ (d.1, d.2)
+  | inr (inr (inr d)) ↦ absurd cc
 ]
 
 pub entrance_listens : (o : Opening) → listens (entrance o) ≡ false
@@ -78,8 +113,33 @@ entrance_listens opened_at.Commands = refl
 
 -- ---- after each packet the client is asked or not, by its kind; and inside of an exchange each is of a kind that is inside
 
+-- a login runs
+abbrev pub is_login : State → Bool
+is_login (state.Authentication true is_asked) = true
+is_login _ = false
+
+-- what the client is asked for, and whether a login runs, and whether no command comes any more
+abbrev pub stance : State → Bool × Bool × Bool
+stance s = (listens s, is_login s, is_shut s)
+
+abbrev pub quiet : Bool × Bool × Bool
+quiet = (false, false, false)
+
+-- after a packet of this kind in an exchange
 abbrev Listening : Kind → State → Type 0
-Listening k m = listens m ≡ asks k
+Listening k m = stance m ≡ (asks k, false, false)
+
+asking : (x y : Bool) → x ≡ y → ◌≡◌ {A = Bool × Bool × Bool} (x, false, false) (y, false, false)
+asking x y h = ap (λ b. (b, false, false)) h
+
+pub stance_listens : (m : State) (b : Bool) → stance m ≡ (b, false, false) → listens m ≡ b
+stance_listens m b h = ap (λ (x : Bool × Bool × Bool). x.0) h
+
+pub stance_login : (m : State) (b : Bool) → stance m ≡ (b, false, false) → is_login m ≡ false
+stance_login m b h = ap (λ (x : Bool × Bool × Bool). x.1) h
+
+pub stance_shut : (m : State) (b : Bool) → stance m ≡ (b, false, false) → is_shut m ≡ false
+stance_shut m b h = ap (λ (x : Bool × Bool × Bool). x.2) h
 
 abbrev Fits : Option (Kind × State) → Type 0
 Fits None = Unit {0}
@@ -89,44 +149,78 @@ fits_cond : (b : Bool) (x y : Option (Kind × State)) → Fits x → Fits y → 
 fits_cond true x y f g = f
 fits_cond false x y f g = g
 
-ended_listens : (r : Request) (more : Bool) → listens (ended r more) ≡ false
+ended_listens : (r : Request) (more : Bool) → stance (ended r more) ≡ quiet
 ended_listens r true = refl
 ended_listens r false = refl
 
-enter_listens : (b : After) → listens (enter b) ≡ false
+enter_listens : (b : After) → stance (enter b) ≡ quiet
 enter_listens (after.Rows r) = refl
 enter_listens (after.Columns zero) = refl
 enter_listens (after.Columns (suc n)) = refl
 enter_listens after.End = refl
 enter_listens after.Rest = refl
 
-defined_listens : (d : Bool) (b : After) → listens (defined d b) ≡ false
+defined_listens : (d : Bool) (b : After) → stance (defined d b) ≡ quiet
 defined_listens true b = enter_listens b
 defined_listens false b = refl
 
-less_listens : (d : Bool) (n : ℕ) (b : After) → listens (less d n b) ≡ false
+less_listens : (d : Bool) (n : ℕ) (b : After) → stance (less d n b) ≡ quiet
 less_listens d zero b = defined_listens d b
 less_listens d (suc n) b = refl
 
-define_listens : (n : ℕ) (b : After) → listens (define n b) ≡ false
+define_listens : (n : ℕ) (b : After) → stance (define n b) ≡ quiet
 define_listens zero b = enter_listens b
 define_listens (suc n) b = refl
 
-counted_listens : (d : Bool) (n : ℕ) (follow : Bool) (b : After) → listens (counted d n follow b) ≡ false
+counted_listens : (d : Bool) (n : ℕ) (follow : Bool) (b : After) → stance (counted d n follow b) ≡ quiet
 counted_listens d n true b = define_listens n b
 counted_listens d n false b = defined_listens d b
 
-pub answers_listens : (r : Answer) → listens (answers r) ≡ false
-answers_listens (answer.Results r) = refl
-answers_listens answer.Prepared = refl
-answers_listens answer.Rows = refl
-answers_listens answer.Acknowledgement = refl
-answers_listens answer.Text = refl
-answers_listens answer.Fields = refl
-answers_listens answer.Authentication = refl
-answers_listens answer.Events = refl
-answers_listens answer.Nothing = refl
-answers_listens answer.Refusal = refl
+pub answers_listens : (r : Answer) → is_quit r ≡ false → stance (answers r) ≡ quiet
+answers_listens (answer.Results r) h = refl
+answers_listens answer.Prepared h = refl
+answers_listens answer.Rows h = refl
+answers_listens (answer.Acknowledgement may_end) h = refl
+answers_listens answer.Text h = refl
+answers_listens answer.Fields h = refl
+answers_listens answer.Authentication h = refl
+answers_listens answer.Events h = refl
+answers_listens answer.Nothing h = refl
+answers_listens answer.Quit h = absurd cc
+answers_listens answer.Clone h = refl
+answers_listens answer.Refusal h = refl
+
+-- a command that may end the connection
+abbrev pub may_shut : Answer → Bool
+may_shut answer.Quit = true
+may_shut answer.Clone = true
+may_shut _ = false
+
+-- after COM_QUIT no command comes
+pub answers_shut : (r : Answer) → is_shut (answers r) ≡ is_quit r
+answers_shut (answer.Results r) = refl
+answers_shut answer.Prepared = refl
+answers_shut answer.Rows = refl
+answers_shut (answer.Acknowledgement may_end) = refl
+answers_shut answer.Text = refl
+answers_shut answer.Fields = refl
+answers_shut answer.Authentication = refl
+answers_shut answer.Events = refl
+answers_shut answer.Nothing = refl
+answers_shut answer.Quit = refl
+answers_shut answer.Clone = refl
+answers_shut answer.Refusal = refl
+
+pub answers_quiet : (r : Answer) → listens (answers r) ≡ false
+answers_quiet answer.Quit = refl
+answers_quiet r = elim (cases_Bool (is_quit r)) [
+  | inl q ↦ quit_quiet r q
+  | inr n ↦ stance_listens (answers r) false (answers_listens r n)
+]
+  where
+    quit_quiet : (r : Answer) → is_quit r ≡ true → listens (answers r) ≡ false
+    quit_quiet answer.Quit h = refl
+    quit_quiet _ h = absurd cc
 
 ending_asks : (d : Bool) → asks (ending d) ≡ false
 ending_asks true = refl
@@ -136,8 +230,8 @@ ending_inside : (d : Bool) → inside (ending d) ≡ true
 ending_inside true = refl
 ending_inside false = refl
 
-fits_end : (d : Bool) (m : State) → listens m ≡ false → Fits (Some (ending d, m))
-fits_end d m h = (h ∙ sym (ending_asks d), ending_inside d)
+fits_end : (d : Bool) (m : State) → stance m ≡ quiet → Fits (Some (ending d, m))
+fits_end d m h = (h ∙ asking false (asks (ending d)) (sym (ending_asks d)), ending_inside d)
 
 module _ (P : Kind → Type 0) where
   pub by_cond : (b : Bool) (x y : Kind) → P x → P y → P (cond b x y)
@@ -154,10 +248,30 @@ kind_inside a p = by_cond (λ k. inside k ≡ true) (first_is 0xfe p) _ _ (by_co
 
 fits_status : (status : Option StatusFlags) → Fits (logged_in status)
 fits_status None = tt
-fits_status (Some status) = (refl, refl)
+fits_status (Some status) = fits_cond (has_more status) _ _ tt (refl, refl)
 
-fits_authentication : (a : Agreed) (p : List ℕ) (status : Option StatusFlags) → Fits (authentication_step a p status)
-fits_authentication a p status = fits_cond (first_is 0 p) _ _ (fits_status status) (sym (kind_asks a p), kind_inside a p)
+fits_authentication : (a : Agreed) (p : List ℕ) (status : Option StatusFlags) → Fits (authentication_step a false p status)
+fits_authentication a p status = fits_cond (first_is 0 p) _ _ (fits_status status) (asking true (asks (authentication_kind a p)) (sym (kind_asks a p)), kind_inside a p)
+
+-- the same of a login
+abbrev FitsLogin : Option (Kind × State) → Type 0
+FitsLogin None = Unit {0}
+FitsLogin (Some x) = (listens x.1 ≡ asks x.0) × (inside x.0 ≡ true) × (is_shut x.1 ≡ false) × (is_in (name_of x.0) (name.Error ∷ []) ≡ false)
+
+login_cond : (b : Bool) (x y : Option (Kind × State)) → FitsLogin x → FitsLogin y → FitsLogin (cond b x y)
+login_cond true x y f g = f
+login_cond false x y f g = g
+
+login_status : (status : Option StatusFlags) → FitsLogin (logged_in status)
+login_status None = tt
+login_status (Some status) = login_cond (has_more status) _ _ tt (refl, refl, refl, refl)
+
+kind_no_error : (a : Agreed) (p : List ℕ) → is_in (name_of (authentication_kind a p)) (name.Error ∷ []) ≡ false
+kind_no_error a p = by_cond (λ k. is_in (name_of k) (name.Error ∷ []) ≡ false) (first_is 0xfe p) _ _ (by_cond (λ k. is_in (name_of k) (name.Error ∷ []) ≡ false) (is_one_byte p) _ _ refl refl)
+    (by_cond (λ k. is_in (name_of k) (name.Error ∷ []) ≡ false) (first_is 1 p) _ _ refl (by_cond (λ k. is_in (name_of k) (name.Error ∷ []) ≡ false) (first_is 2 p && asks_factors a) _ _ refl refl))
+
+fits_login : (a : Agreed) (p : List ℕ) (status : Option StatusFlags) → FitsLogin (authentication_step a true p status)
+fits_login a p status = login_cond (first_is 0 p) _ _ (login_status status) (sym (kind_asks a p), kind_inside a p, refl, kind_no_error a p)
 
 fits_reply : (d : Bool) (r : Request) (x : Option Reply) → Fits (reply_step d r x)
 fits_reply d r None = tt
@@ -201,16 +315,16 @@ fits_last d k s None h i = tt
 fits_last d k s (Some line.Row) h i = (h, i)
 fits_last d k s (Some (line.End more)) h i = fits_end d state.Rest refl
 
-column_end_listens : (n : ℕ) → listens (column_end n) ≡ false
+column_end_listens : (n : ℕ) → stance (column_end n) ≡ quiet
 column_end_listens zero = refl
 column_end_listens (suc n) = refl
 
-param_end_listens : (params columns : ℕ) → listens (param_end params columns) ≡ false
+param_end_listens : (params columns : ℕ) → stance (param_end params columns) ≡ quiet
 param_end_listens zero columns = column_end_listens columns
 param_end_listens (suc n) zero = refl
 param_end_listens (suc n) (suc m) = refl
 
-prepared_listens : (d follow : Bool) (columns params : ℕ) → listens (prepared_by d follow columns params) ≡ false
+prepared_listens : (d follow : Bool) (columns params : ℕ) → stance (prepared_by d follow columns params) ≡ quiet
 prepared_listens d true columns params = define_listens params (after.Columns columns)
 prepared_listens true false columns params = refl
 prepared_listens false false columns params = param_end_listens params columns
@@ -219,43 +333,64 @@ fits_prepared : (d : Bool) (s : Option StmtPacketWithMetadata) → Fits (prepare
 fits_prepared d None = tt
 fits_prepared d (Some s) = (prepared_listens d (definitions_follow s) (num_columns (packet_of s)) (num_params (packet_of s)), refl)
 
-fits_acknowledgement : (d : Bool) (l : Option Line) (r : Option Reply) → Fits (acknowledgement_step d l r)
-fits_acknowledgement d (Some (line.End more)) r = fits_end d state.Rest refl
-fits_acknowledgement d (Some line.Row) (Some (reply.Ok more)) = (refl, refl)
-fits_acknowledgement d (Some line.Row) (Some reply.Infile) = tt
-fits_acknowledgement d (Some line.Row) (Some (reply.Columns n follow)) = tt
-fits_acknowledgement d (Some line.Row) None = tt
-fits_acknowledgement d None r = tt
+-- of the OK packet that answers COM_CLONE alone no more commands come
+fits_last_ok : (r : Option Reply) → Fits (last_ok state.Rest r)
+fits_last_ok (Some (reply.Ok false)) = (refl, refl)
+fits_last_ok (Some (reply.Ok true)) = tt
+fits_last_ok (Some reply.Infile) = tt
+fits_last_ok (Some (reply.Columns n follow)) = tt
+fits_last_ok None = tt
 
-fits_serve : (a : Agreed) (s : State) (p : List ℕ) → Fits (serve a s p)
-fits_serve a state.Rest p = tt
-fits_serve a (state.Authentication b) p = fits_authentication a p (ok_status a p)
-fits_serve a (state.Infile r) p = tt
-fits_serve a (state.Reply r) p = fits_reply (deprecates_eof a) r (reply_of a p)
-fits_serve a (state.InfileReply r) p = fits_infile_reply r (reply_of a p)
-fits_serve a (state.Definitions n b) p = (less_listens (deprecates_eof a) n b, refl)
-fits_serve a (state.DefinitionsEnd b) p = fits_definitions_end b (old_end_of a p)
-fits_serve a (state.Rows r) p = fits_line (deprecates_eof a) r (line_of a (format_of r) p)
-fits_serve a state.Prepared p = fits_prepared (deprecates_eof a) (statement_at a p)
-fits_serve a state.Fetch p = fits_last (deprecates_eof a) (kind.Row Binary) state.Fetch (line_of a Binary p) refl refl
-fits_serve a state.Acknowledgement p = fits_acknowledgement (deprecates_eof a) (line_of a Text p) (reply_of a p)
-fits_serve a state.Text p = (refl, refl)
-fits_serve a state.Fields p = fits_last (deprecates_eof a) kind.FieldListColumn state.Fields (line_of a Text p) refl refl
-fits_serve a state.Events p = fits_event (first_is 0 p) (old_end_of a p)
-fits_serve a state.Refusal p = tt
+fits_last_end : (d may_end more : Bool) → Fits (last_end d may_end more)
+fits_last_end d true false = fits_end d state.Rest refl
+fits_last_end d true true = tt
+fits_last_end d false more = tt
+
+fits_acknowledgement : (d may_end : Bool) (l : Option Line) (r : Option Reply) → Fits (acknowledgement_step d may_end l r)
+fits_acknowledgement d may_end (Some (line.End more)) r = fits_last_end d may_end more
+fits_acknowledgement d may_end (Some line.Row) r = fits_last_ok r
+fits_acknowledgement d may_end None r = tt
+
+-- an exchange runs that is neither a login nor COM_CLONE
+abbrev pub is_plain : State → Bool
+is_plain (state.Authentication true is_asked) = false
+is_plain state.CloneReply = false
+is_plain s = not (rests s)
+
+fits_serve : (a : Agreed) (s : State) (p : List ℕ) → is_plain s ≡ true → Fits (serve a s p)
+fits_serve a state.Rest p h = absurd cc
+fits_serve a (state.Authentication true b) p h = absurd cc
+fits_serve a (state.Authentication false b) p h = fits_authentication a p (ok_status a p)
+fits_serve a (state.Infile r) p h = tt
+fits_serve a (state.Reply r) p h = fits_reply (deprecates_eof a) r (reply_of a p)
+fits_serve a (state.InfileReply r) p h = fits_infile_reply r (reply_of a p)
+fits_serve a (state.Definitions n b) p h = (less_listens (deprecates_eof a) n b, refl)
+fits_serve a (state.DefinitionsEnd b) p h = fits_definitions_end b (old_end_of a p)
+fits_serve a (state.Rows r) p h = fits_line (deprecates_eof a) r (line_of a (format_of r) p)
+fits_serve a state.Prepared p h = fits_prepared (deprecates_eof a) (statement_at a p)
+fits_serve a state.Fetch p h = fits_last (deprecates_eof a) (kind.Row Binary) state.Fetch (line_of a Binary p) refl refl
+fits_serve a (state.Acknowledgement may_end) p h = fits_acknowledgement (deprecates_eof a) may_end (line_of a Text p) (reply_of a p)
+fits_serve a state.Text p h = (refl, refl)
+fits_serve a state.Fields p h = fits_last (deprecates_eof a) kind.FieldListColumn state.Fields (line_of a Text p) refl refl
+fits_serve a state.Events p h = fits_event (first_is 0 p) (old_end_of a p)
+fits_serve a state.Refusal p h = tt
+fits_serve a state.CloneReply p h = absurd cc
+fits_serve a state.Clone p h = absurd cc
+fits_serve a state.Over p h = absurd cc
 
 fits_infile : (r : Request) (p : List ℕ) → Fits (infile_step r p)
 fits_infile r [] = (refl, refl)
 fits_infile r (b ∷ p) = (refl, refl)
 
-fits_answer : (b : Bool) → Fits (answer_step b)
+fits_answer : (b : Bool) → Fits (answer_step false b)
 fits_answer true = (refl, refl)
 fits_answer false = tt
 
 -- of the client, while an exchange runs
-fits_client : (s : State) (p : List ℕ) → rests s ≡ false → Fits (client_step s p)
+fits_client : (s : State) (p : List ℕ) → is_plain s ≡ true → Fits (client_step s p)
 fits_client state.Rest p h = absurd cc
-fits_client (state.Authentication b) p h = fits_answer b
+fits_client (state.Authentication true b) p h = absurd cc
+fits_client (state.Authentication false b) p h = fits_answer b
 fits_client (state.Infile r) p h = fits_infile r p
 fits_client (state.Reply r) p h = tt
 fits_client (state.InfileReply r) p h = tt
@@ -264,69 +399,298 @@ fits_client (state.DefinitionsEnd b) p h = tt
 fits_client (state.Rows r) p h = tt
 fits_client state.Prepared p h = tt
 fits_client state.Fetch p h = tt
-fits_client state.Acknowledgement p h = tt
+fits_client (state.Acknowledgement may_end) p h = tt
 fits_client state.Text p h = tt
 fits_client state.Fields p h = tt
 fits_client state.Events p h = fits_cond (first_is 0xef p) _ _ (refl, refl) tt
 fits_client state.Refusal p h = tt
+fits_client state.CloneReply p h = absurd cc
+fits_client state.Clone p h = absurd cc
+fits_client state.Over p h = absurd cc
 
 fitting : (o : Option (Kind × State)) (k : Kind) (m : State) → Fits o → o ≡ Some (k, m) → Fits (Some (k, m))
 fitting o k m f e = subst (λ o. Fits o) e f
 
--- at rest there are commands, and errors that answer none
-begun_listens : (code : ℕ) (r : Option Answer) (k : Kind) (m : State) → begun code r ≡ Some (k, m) → Listening k m × (inside k ≡ false)
-begun_listens code None k m h = absurd cc
-begun_listens code (Some r) k m h = subst (λ (x : Kind × State). Listening x.0 x.1 × (inside x.0 ≡ false)) (some_is h) (answers_listens r, refl)
+-- ---- what a packet says of the state after it, where an exchange runs, and where none does
 
-command_listens : (p : List ℕ) (k : Kind) (m : State) → command_step p ≡ Some (k, m) → Listening k m × (inside k ≡ false)
-command_listens [] k m h = absurd cc
-command_listens (code ∷ bytes) k m h = begun_listens code (answering code (asks_cursor (code ∷ bytes))) k m h
+-- the client is asked after it just where its kind says so; it is inside of an exchange just where one runs; and no command comes after it
+-- just where its name says so
+abbrev Says : State → Kind → State → Type 0
+Says s k m = (listens m ≡ asks k) × (inside k ≡ not (rests s)) × (is_shut m ≡ is_in (name_of k) (shutting_names s))
 
--- an error, and what stands after it
-error_listens : (b : Bool) (k : Kind) (m : State) → ◌≡◌ {A = Option (Kind × State)} (Some (error_kind b, state.Rest)) (Some (k, m)) → Listening k m × (inside k ≡ not b)
-error_listens true k m h = subst (λ (x : Kind × State). Listening x.0 x.1 × (inside x.0 ≡ false)) (some_is h) (refl, refl)
-error_listens false k m h = subst (λ (x : Kind × State). Listening x.0 x.1 × (inside x.0 ≡ true)) (some_is h) (refl, refl)
+plain_shuts : (s : State) → is_plain s ≡ true → (rests s ≡ false) × (shutting_names s ≡ [])
+plain_shuts state.Rest h = absurd cc
+plain_shuts (state.Authentication true b) h = absurd cc
+plain_shuts state.CloneReply h = absurd cc
+plain_shuts state.Clone h = absurd cc
+plain_shuts state.Over h = absurd cc
+plain_shuts (state.Authentication false b) h = (refl, refl)
+plain_shuts (state.Infile r) h = (refl, refl)
+plain_shuts (state.Reply r) h = (refl, refl)
+plain_shuts (state.InfileReply r) h = (refl, refl)
+plain_shuts (state.Definitions n b) h = (refl, refl)
+plain_shuts (state.DefinitionsEnd b) h = (refl, refl)
+plain_shuts (state.Rows r) h = (refl, refl)
+plain_shuts state.Prepared h = (refl, refl)
+plain_shuts state.Fetch h = (refl, refl)
+plain_shuts (state.Acknowledgement may_end) h = (refl, refl)
+plain_shuts state.Text h = (refl, refl)
+plain_shuts state.Fields h = (refl, refl)
+plain_shuts state.Events h = (refl, refl)
+plain_shuts state.Refusal h = (refl, refl)
 
-client_listens : (s : State) (p : List ℕ) (k : Kind) (m : State) → (s ≡ state.Rest) ⊎ (rests s ≡ false) → client_step s p ≡ Some (k, m) → Listening k m × (inside k ≡ not (rests s))
-client_listens s p k m (inl e) h =
-    let c = command_listens p k m (subst (λ s. client_step s p ≡ Some (k, m)) e h) in
-    (c.0, c.1 ∙ ap not (sym (ap rests e)))
-client_listens s p k m (inr n) h =
-    let f = fitting (client_step s p) k m (fits_client s p n) h in
-    (f.0, f.1 ∙ ap not (sym n))
+plain_says : (s : State) (k : Kind) (m : State) → is_plain s ≡ true → Fits (Some (k, m)) → Says s k m
+plain_says s k m h f =
+    let n = plain_shuts s h in
+    (stance_listens m (asks k) f.0, f.1 ∙ ap not (sym n.0), stance_shut m (asks k) f.0 ∙ sym (ap (λ xs. is_in (name_of k) xs) n.1))
 
-served_listens : (a : Agreed) (s : State) (p : List ℕ) (k : Kind) (m : State) → serve a s p ≡ Some (k, m) → Listening k m × (inside k ≡ not (rests s))
-served_listens a s p k m h = elim (which_rests s) [
-  | inl e ↦ (let no : serve a state.Rest p ≡ Some (k, m) = subst (λ s. serve a s p ≡ Some (k, m)) e h in absurd cc)
-  | inr n ↦ (let f = fitting (serve a s p) k m (fits_serve a s p) h in (f.0, f.1 ∙ ap not (sym n)))
+login_says : (b : Bool) (o : Option (Kind × State)) (k : Kind) (m : State) → FitsLogin o → o ≡ Some (k, m) → Says (state.Authentication true b) k m
+login_says b o k m f e = let g : FitsLogin (Some (k, m)) = subst (λ o. FitsLogin o) e f in (g.0, g.1, g.2 ∙ sym g.3)
+
+of_one : (s : State) (j k : Kind) (n m : State) → ◌≡◌ {A = Option (Kind × State)} (Some (j, n)) (Some (k, m)) → Says s j n → Says s k m
+of_one s j k n m e = subst (λ (x : Kind × State). Says s x.0 x.1) (some_is e)
+
+clone_ok_says : (r : Option Reply) (k : Kind) (m : State) → last_ok state.Clone r ≡ Some (k, m) → Says state.CloneReply k m
+clone_ok_says (Some (reply.Ok false)) k m h = of_one state.CloneReply kind.Ok k state.Clone m h (refl, refl, refl)
+clone_ok_says (Some (reply.Ok true)) k m h = absurd cc
+clone_ok_says (Some reply.Infile) k m h = absurd cc
+clone_ok_says (Some (reply.Columns n follow)) k m h = absurd cc
+clone_ok_says None k m h = absurd cc
+
+-- which states are special, and which are plain
+abbrev pub Special : State → Type 0
+Special s = (s ≡ state.Rest) ⊎ (((b : Bool) × (s ≡ state.Authentication true b)) ⊎ ((s ≡ state.CloneReply) ⊎ ((s ≡ state.Clone) ⊎ ((s ≡ state.Over) ⊎ (is_plain s ≡ true)))))
+
+pub special : (s : State) → Special s
+special state.Rest = inl refl
+special (state.Authentication true b) = inr (inl (b, refl))
+special state.CloneReply = inr (inr (inl refl))
+special state.Clone = inr (inr (inr (inl refl)))
+special state.Over = inr (inr (inr (inr (inl refl))))
+special (state.Authentication false b) = inr (inr (inr (inr (inr refl))))
+special (state.Infile r) = inr (inr (inr (inr (inr refl))))
+special (state.Reply r) = inr (inr (inr (inr (inr refl))))
+special (state.InfileReply r) = inr (inr (inr (inr (inr refl))))
+special (state.Definitions n b) = inr (inr (inr (inr (inr refl))))
+special (state.DefinitionsEnd b) = inr (inr (inr (inr (inr refl))))
+special (state.Rows r) = inr (inr (inr (inr (inr refl))))
+special state.Prepared = inr (inr (inr (inr (inr refl))))
+special state.Fetch = inr (inr (inr (inr (inr refl))))
+special (state.Acknowledgement may_end) = inr (inr (inr (inr (inr refl))))
+special state.Text = inr (inr (inr (inr (inr refl))))
+special state.Fields = inr (inr (inr (inr (inr refl))))
+special state.Events = inr (inr (inr (inr (inr refl))))
+special state.Refusal = inr (inr (inr (inr (inr refl))))
+
+served_says : (a : Agreed) (s : State) (p : List ℕ) (k : Kind) (m : State) → Special s → serve a s p ≡ Some (k, m) → Says s k m
+served_says a s p k m (inl e) h = let no : serve a state.Rest p ≡ Some (k, m) = subst (λ s. serve a s p ≡ Some (k, m)) e h in absurd cc
+served_says a s p k m (inr (inl e)) h =
+    subst (λ s. Says s k m) (sym e.1) (login_says e.0 _ k m (fits_login a p (ok_status a p)) (subst (λ s. serve a s p ≡ Some (k, m)) e.1 h))
+served_says a s p k m (inr (inr (inl e))) h = subst (λ s. Says s k m) (sym e) (clone_ok_says (reply_of a p) k m (subst (λ s. serve a s p ≡ Some (k, m)) e h))
+served_says a s p k m (inr (inr (inr (inl e)))) h =
+    subst (λ s. Says s k m) (sym e) (of_one state.Clone kind.Clone k state.Clone m (subst (λ s. serve a s p ≡ Some (k, m)) e h) (refl, refl, refl))
+served_says a s p k m (inr (inr (inr (inr (inl e))))) h = let no : serve a state.Over p ≡ Some (k, m) = subst (λ s. serve a s p ≡ Some (k, m)) e h in absurd cc
+served_says a s p k m (inr (inr (inr (inr (inr e))))) h = plain_says s k m e (fitting (serve a s p) k m (fits_serve a s p e) h)
+
+-- where an exchange runs that is neither a login nor COM_CLONE, an error ends it
+pub plain_error : (s : State) → is_plain s ≡ true → error_step s ≡ Some (kind.Error, state.Rest)
+plain_error state.Rest h = absurd cc
+plain_error (state.Authentication true b) h = absurd cc
+plain_error state.CloneReply h = absurd cc
+plain_error state.Clone h = absurd cc
+plain_error state.Over h = absurd cc
+plain_error (state.Authentication false b) h = refl
+plain_error _ h = refl
+
+error_says : (s : State) (k : Kind) (m : State) → Special s → error_step s ≡ Some (k, m) → Says s k m
+error_says s k m (inl e) h = subst (λ s. Says s k m) (sym e) (of_one state.Rest kind.UnaskedError k state.Over m (subst (λ s. error_step s ≡ Some (k, m)) e h) (refl, refl, refl))
+error_says s k m (inr (inl e)) h =
+    subst (λ s. Says s k m) (sym e.1) (of_one (state.Authentication true e.0) kind.Error k state.Over m (subst (λ s. error_step s ≡ Some (k, m)) e.1 h) (refl, refl, refl))
+error_says s k m (inr (inr (inl e))) h = subst (λ s. Says s k m) (sym e) (of_one state.CloneReply kind.Error k state.Rest m (subst (λ s. error_step s ≡ Some (k, m)) e h) (refl, refl, refl))
+error_says s k m (inr (inr (inr (inl e)))) h = subst (λ s. Says s k m) (sym e) (of_one state.Clone kind.Clone k state.Clone m (subst (λ s. error_step s ≡ Some (k, m)) e h) (refl, refl, refl))
+error_says s k m (inr (inr (inr (inr (inl e))))) h = let no : error_step state.Over ≡ Some (k, m) = subst (λ s. error_step s ≡ Some (k, m)) e h in absurd cc
+error_says s k m (inr (inr (inr (inr (inr e))))) h = plain_says s k m e (fitting (error_step s) k m (subst (λ o. Fits o) (sym (plain_error s e)) (refl, refl)) h)
+
+pub failed_clone : (r : Bool) → failed r state.Clone ≡ Some (kind.Clone, state.Clone)
+failed_clone true = refl
+failed_clone false = refl
+
+-- what begins with ff is an error, or a packet of the clone plugin
+pub failed_is : (r : Bool) (s : State) (k : Kind) (m : State) → failed r s ≡ Some (k, m) → ((r ≡ false) × (error_step s ≡ Some (k, m))) ⊎ ((s ≡ state.Clone) × (kind.Clone ≡ k) × (state.Clone ≡ m))
+failed_is r state.Clone k m h = let e = some_is (sym (failed_clone r) ∙ h) in inr (refl, ap (λ (x : Kind × State). x.0) e, ap (λ (x : Kind × State). x.1) e)
+failed_is true _ k m h = absurd cc
+failed_is false _ k m h = inl (refl, h)
+
+pub failed_no_report : (s : State) → failed false s ≡ error_step s
+failed_no_report state.Clone = refl
+failed_no_report _ = refl
+
+failed_says : (r : Bool) (s : State) (k : Kind) (m : State) → failed r s ≡ Some (k, m) → Says s k m
+failed_says r s k m h = elim (failed_is r s k m h) [
+  | inl e ↦ error_says s k m (special s) e.1
+  | inr e ↦ subst (λ s. Says s k m) (sym e.0) (subst (λ k. Says state.Clone k m) e.1 (subst (λ m. Says state.Clone kind.Clone m) e.2 (refl, refl, refl)))
 ]
+
+step_says : (a : Agreed) (s : State) (p : List ℕ) (k : Kind) (m : State) → step a s Server p ≡ Some (k, m) → Says s k m
+step_says a s p k m h = elim (chosen (first_is 0xff p) _ _ _ h) [
+  | inl e ↦ failed_says (is_report a p) s k m e.1
+  | inr e ↦ served_says a s p k m (special s) e.1
+]
+
+due_shuts : (s : State) → is_due s ≡ true → (is_shut s ≡ false) × (is_in name.ProgressReport (shutting_names s) ≡ false)
+due_shuts state.Rest h = absurd cc
+due_shuts state.Clone h = absurd cc
+due_shuts state.Over h = absurd cc
+due_shuts (state.Authentication true b) h = (refl, refl)
+due_shuts (state.Authentication false b) h = (refl, refl)
+due_shuts _ h = (refl, refl)
+
+take_says : (a : Agreed) (s : State) (p : List ℕ) (k : Kind) (m : State) → take_step a s Server p ≡ Some (k, m) → Says s k m
+take_says a s p k m h = elim (chosen (is_report a p && is_due s) _ _ _ h) [
+  | inl r ↦ (let due = (and_parts (is_report a p) (is_due s) r.0).1 in let d = due_runs s due in let u = due_shuts s due in
+      subst (λ (x : Kind × State). Says s x.0 x.1) (some_is r.1) (d.1, ap not (sym d.0), u.0 ∙ sym u.1))
+  | inr r ↦ step_says a s p k m r.1
+]
+
+-- no command comes after a packet of the server just where its name says so
+pub take_shuts : (a : Agreed) (s : State) (p : List ℕ) (k : Kind) (m : State) → take_step a s Server p ≡ Some (k, m) → is_shut m ≡ is_in (name_of k) (shutting_names s)
+take_shuts a s p k m h = (take_says a s p k m h).2
+
+-- ---- of the client
+
+-- at rest there are commands
+begun_listens : (code : ℕ) (r : Option Answer) (k : Kind) (m : State) → begun code r ≡ Some (k, m) → (listens m ≡ asks k) × (inside k ≡ false)
+begun_listens code None k m h = absurd cc
+begun_listens code (Some r) k m h = subst (λ (x : Kind × State). (listens x.1 ≡ asks x.0) × (inside x.0 ≡ false)) (some_is h) (answers_quiet r, refl)
+
+login_client : (b : Bool) (k : Kind) (m : State) → answer_step true b ≡ Some (k, m) → (listens m ≡ asks k) × (inside k ≡ true)
+login_client true k m h = subst (λ (x : Kind × State). (listens x.1 ≡ asks x.0) × (inside x.0 ≡ true)) (some_is h) (refl, refl)
+login_client false k m h = absurd cc
+
+client_listens : (s : State) (p : List ℕ) (k : Kind) (m : State) → Special s → client_step s p ≡ Some (k, m) → (listens m ≡ asks k) × (inside k ≡ not (rests s))
+client_listens s p k m (inl e) h =
+    let c = begun_listens (code_of p) (answering (code_of p) (asks_cursor p)) k m (subst (λ s. client_step s p ≡ Some (k, m)) e h) in
+    (c.0, c.1 ∙ ap not (sym (ap rests e)))
+client_listens s p k m (inr (inl e)) h =
+    let c = login_client e.0 k m (subst (λ s. client_step s p ≡ Some (k, m)) e.1 h) in
+    (c.0, c.1 ∙ ap not (sym (ap rests e.1)))
+client_listens s p k m (inr (inr (inl e))) h = let no : client_step state.CloneReply p ≡ Some (k, m) = subst (λ s. client_step s p ≡ Some (k, m)) e h in absurd cc
+client_listens s p k m (inr (inr (inr (inl e)))) h =
+    let c : client_step state.Clone p ≡ Some (k, m) = subst (λ s. client_step s p ≡ Some (k, m)) e h in
+    let f = subst (λ (x : Kind × State). (listens x.1 ≡ asks x.0) × (inside x.0 ≡ false)) (some_is c) (refl, refl) in
+    (f.0, f.1 ∙ ap not (sym (ap rests e)))
+client_listens s p k m (inr (inr (inr (inr (inl e))))) h = let no : client_step state.Over p ≡ Some (k, m) = subst (λ s. client_step s p ≡ Some (k, m)) e h in absurd cc
+client_listens s p k m (inr (inr (inr (inr (inr e))))) h =
+    let f = fitting (client_step s p) k m (fits_client s p e) h in
+    (stance_listens m (asks k) f.0, f.1 ∙ ap not (sym (plain_shuts s e).0))
+
+-- ---- of both
 
 -- the client is asked after a packet just where its kind says so, and a packet is inside of an exchange just where one runs
 pub step_listens : (a : Agreed) (s : State) (side : Side) (p : List ℕ) (k : Kind) (m : State) → step a s side p ≡ Some (k, m) → (listens m ≡ asks k) × (inside k ≡ not (rests s))
-step_listens a s Client p k m h = client_listens s p k m (which_rests s) h
-step_listens a s Server p k m h = elim (chosen (first_is 0xff p) _ _ _ h) [
-  | inl e ↦ elim (chosen (is_report a p) _ _ _ e.1) [
-    | inl r ↦ absurd cc
-    | inr r ↦ error_listens (rests s) k m r.1
-  ]
-  | inr e ↦ served_listens a s p k m e.1
-]
+step_listens a s Client p k m h = client_listens s p k m (special s) h
+step_listens a s Server p k m h = let f = step_says a s p k m h in (f.0, f.1)
 
 pub take_listens : (a : Agreed) (s : State) (side : Side) (p : List ℕ) (k : Kind) (m : State) → take_step a s side p ≡ Some (k, m) → (listens m ≡ asks k) × (inside k ≡ not (rests s))
-take_listens a s Client p k m h = step_listens a s Client p k m h
-take_listens a s Server p k m h = elim (chosen (is_report a p && is_due s) _ _ _ h) [
-  | inl r ↦ (let d = due_runs s (and_parts (is_report a p) (is_due s) r.0).1 in
-      subst (λ (x : Kind × State). (listens x.1 ≡ asks x.0) × (inside x.0 ≡ not (rests s))) (some_is r.1) (d.1, ap not (sym d.0)))
-  | inr r ↦ step_listens a s Server p k m r.1
+take_listens a s Client p k m h = client_listens s p k m (special s) h
+take_listens a s Server p k m h = let f = take_says a s p k m h in (f.0, f.1)
+
+-- ---- no login begins in an exchange
+
+answers_login : (r : Answer) → is_login (answers r) ≡ false
+answers_login answer.Quit = refl
+answers_login r = elim (cases_Bool (is_quit r)) [
+  | inl q ↦ quit_login r q
+  | inr n ↦ stance_login (answers r) false (answers_listens r n)
 ]
+  where
+    quit_login : (r : Answer) → is_quit r ≡ true → is_login (answers r) ≡ false
+    quit_login answer.Quit h = refl
+    quit_login _ h = absurd cc
+
+abbrev NoLogin : Option (Kind × State) → Type 0
+NoLogin None = Unit {0}
+NoLogin (Some x) = is_login x.1 ≡ false
+
+no_login : (o : Option (Kind × State)) (k : Kind) (m : State) → NoLogin o → o ≡ Some (k, m) → is_login m ≡ false
+no_login o k m f e = subst (λ o. NoLogin o) e f
+
+fits_no_login : (o : Option (Kind × State)) → Fits o → NoLogin o
+fits_no_login None f = tt
+fits_no_login (Some x) f = stance_login x.1 (asks x.0) f.0
+
+begun_no_login : (code : ℕ) (r : Option Answer) → NoLogin (begun code r)
+begun_no_login code None = tt
+begun_no_login code (Some r) = answers_login r
+
+clone_no_login : (r : Option Reply) → NoLogin (last_ok state.Clone r)
+clone_no_login (Some (reply.Ok false)) = refl
+clone_no_login (Some (reply.Ok true)) = tt
+clone_no_login (Some reply.Infile) = tt
+clone_no_login (Some (reply.Columns n follow)) = tt
+clone_no_login None = tt
+
+client_no_login : (s : State) (p : List ℕ) → Special s → is_login s ≡ false → NoLogin (client_step s p)
+client_no_login s p (inl e) l = subst (λ s. NoLogin (client_step s p)) (sym e) (begun_no_login (code_of p) (answering (code_of p) (asks_cursor p)))
+client_no_login s p (inr (inl e)) l = let no : is_login s ≡ true = ap is_login e.1 in absurd cc
+client_no_login s p (inr (inr (inl e))) l = subst (λ s. NoLogin (client_step s p)) (sym e) tt
+client_no_login s p (inr (inr (inr (inl e)))) l = subst (λ s. NoLogin (client_step s p)) (sym e) refl
+client_no_login s p (inr (inr (inr (inr (inl e))))) l = subst (λ s. NoLogin (client_step s p)) (sym e) tt
+client_no_login s p (inr (inr (inr (inr (inr e))))) l = fits_no_login (client_step s p) (fits_client s p e)
+
+serve_no_login : (a : Agreed) (s : State) (p : List ℕ) → Special s → is_login s ≡ false → NoLogin (serve a s p)
+serve_no_login a s p (inl e) l = subst (λ s. NoLogin (serve a s p)) (sym e) tt
+serve_no_login a s p (inr (inl e)) l = let no : is_login s ≡ true = ap is_login e.1 in absurd cc
+serve_no_login a s p (inr (inr (inl e))) l = subst (λ s. NoLogin (serve a s p)) (sym e) (clone_no_login (reply_of a p))
+serve_no_login a s p (inr (inr (inr (inl e)))) l = subst (λ s. NoLogin (serve a s p)) (sym e) refl
+serve_no_login a s p (inr (inr (inr (inr (inl e))))) l = subst (λ s. NoLogin (serve a s p)) (sym e) tt
+serve_no_login a s p (inr (inr (inr (inr (inr e))))) l = fits_no_login (serve a s p) (fits_serve a s p e)
+
+error_no_login : (s : State) → NoLogin (error_step s)
+error_no_login state.Rest = refl
+error_no_login (state.Authentication true b) = refl
+error_no_login (state.Authentication false b) = refl
+error_no_login state.Over = tt
+error_no_login state.Clone = refl
+error_no_login _ = refl
+
+failed_no_login : (r : Bool) (s : State) (k : Kind) (m : State) → failed r s ≡ Some (k, m) → is_login m ≡ false
+failed_no_login r s k m h = elim (failed_is r s k m h) [
+  | inl e ↦ no_login (error_step s) k m (error_no_login s) e.1
+  | inr e ↦ ap is_login (sym e.2)
+]
+
+pub stays_no_login : (a : Agreed) (s : State) (side : Side) (p : List ℕ) (k : Kind) (m : State) → is_login s ≡ false → step a s side p ≡ Some (k, m) → is_login m ≡ false
+stays_no_login a s Client p k m l h = no_login (client_step s p) k m (client_no_login s p (special s) l) h
+stays_no_login a s Server p k m l h = elim (chosen (first_is 0xff p) _ _ _ h) [
+  | inl e ↦ failed_no_login (is_report a p) s k m e.1
+  | inr e ↦ no_login (serve a s p) k m (serve_no_login a s p (special s) l) e.1
+]
+
+-- an error in an exchange ends it, but of a login
+pub error_rests : (s : State) → rests s ≡ false → is_login s ≡ false → error_step s ≡ Some (kind.Error, state.Rest)
+error_rests s n l = elim (special s) [
+  | inl e ↦ (let no : rests s ≡ true = ap rests e in absurd cc)
+  | inr (inl e) ↦ (let no : is_login s ≡ true = ap is_login e.1 in absurd cc)
+  | inr (inr (inl e)) ↦ ap error_step e
+  | inr (inr (inr (inl e))) ↦ (let no : rests s ≡ true = ap rests e in absurd cc)
+  | inr (inr (inr (inr (inl e)))) ↦ (let no : rests s ≡ true = ap rests e in absurd cc)
+  | inr (inr (inr (inr (inr e)))) ↦ plain_error s e
+]
+
+-- an error in an exchange is one, and no exchange runs after it
+pub error_ends : (s : State) → rests s ≡ false → (m : State) × (error_step s ≡ Some (kind.Error, m)) × (rests m ≡ true)
+error_ends s n = elim (cases_Bool (is_login s)) [
+  | inl l ↦ (state.Over, login_error s l, refl)
+  | inr l ↦ (state.Rest, error_rests s n l, refl)
+]
+  where
+    login_error : (s : State) → is_login s ≡ true → error_step s ≡ Some (kind.Error, state.Over)
+    login_error (state.Authentication true b) h = refl
+    login_error (state.Authentication false b) h = absurd cc
+    login_error _ h = absurd cc
 
 -- no packet inside of an exchange is a command
 pub inside_command : (k : Kind) → inside k ≡ true → commands k ≡ false
 inside_command (kind.Command code) h = absurd cc
 inside_command _ h = refl
-
-pub rests_is : (s : State) → rests s ≡ true → s ≡ state.Rest
-rests_is s h = elim (which_rests s) [
-  | inl e ↦ e
-  | inr n ↦ absurd cc
-]

@@ -1,43 +1,48 @@
 -- Each list that the machine with commands that wait takes is the beginning of a pipelined conversation, and each beginning is taken.
 use Rattle.mysql_conversation.specs.Agreements.{Agreed}
-use Rattle.std.proofs.Common.{◌≡◌, ℕ, ◌+◌, List, [], ◌∷◌, ◌++◌, inl, inr, Some, None, refl, sym, ap, subst, ◌∙◌, Bool, false}
+use Rattle.std.proofs.Common.{◌≡◌, ℕ, ◌+◌, List, [], ◌∷◌, ◌++◌, ◌⊎◌, inl, inr, Some, None, refl, sym, ap, subst, ◌∙◌, Bool, true, false}
+use Rattle.std.proofs.lemmas.Bool.{cases_Bool}
 use Rattle.std.specs.Prelude.{◌≢◌, Option, Result, Ok, Err, IfOk, IfErr}
 use Rattle.mysql_conversation.specs.Conversation.{Packet, IsConversation, asks}
-use Rattle.mysql_conversation.specs.Machine.{take_step, rests, listens, entrance}
+use Rattle.mysql_conversation.specs.Machine.{take_step, rests, is_shut, is_due, entrance}
 use Rattle.mysql_conversation.specs.Pipelined.{Numbered, packets, counted, AreNumbered, Early, IsPipelined, IsPipelinedBeginning, numbered}
 use Rattle.mysql_conversation.specs.Standing.{Standing, standing, begin, waits, settle, pipe_step, step_of, Steps, PipeRun, start}
 use Rattle.mysql_conversation.proofs.Runs.{join, part, once}
 use Rattle.mysql_conversation.specs.Piped.{place}
-use Rattle.mysql_conversation.proofs.Begun.{conversation_takes, takes_is_conversation}
-use Rattle.mysql_conversation.proofs.Ends.{short_report}
-use Rattle.mysql_conversation.proofs.Classes.{some_is}
-use Rattle.mysql_conversation.proofs.States.{Turn, turn, which_rests, entrance_listens}
+use Rattle.mysql_conversation.proofs.Begun.{conversation_takes, takes_is_conversation, no_report}
+use Rattle.mysql_conversation.proofs.Ends.{short_report, ok_bytes, plain, ok_spelled}
+use Rattle.mysql_conversation.proofs.Classes.{some_is, ok_status_of}
+use Rattle.mysql_conversation.proofs.States.{which_rests, running_idle, due_runs, entrance_listens, is_login, error_rests, failed_no_report}
+use Rattle.mysql_conversation.proofs.Turns.{begin_due, begin_shut}
 use Rattle.mysql_conversation.proofs.Pipes.{early_runs, run_early, in_turn_plain, run_in_turn}
-use Rattle.mysql_conversation.proofs.PipeSteps.{Outcome, Over, server_next, settle_stays}
+use Rattle.mysql_conversation.proofs.PipeSteps.{Outcome, Over, OnlyLast, Sound, run_sound, server_next, settle_stays}
 use Rattle.mysql_conversation.specs.declared.kind.Kind.{Kind}
 use Rattle.mysql_conversation.specs.declared.kind.Kind.TheVariants as kind
 use Rattle.mysql_conversation.specs.declared.kind.Side.{Side}
 use Rattle.mysql_conversation.specs.declared.kind.Side.TheVariants.{Client, Server}
 use Rattle.mysql_conversation.specs.declared.state.State.{State}
 use Rattle.mysql_conversation.specs.declared.state.State.TheVariants as state
-use Rattle.mysql_conversation.specs.declared.state.Request.TheVariants.{Query}
 use Rattle.mysql_conversation.specs.declared.kind.Opening.{Opening}
 use Rattle.mysql_conversation.specs.declared.pipeline.Waiting.{Waiting}
 
 -- ---- pipelined conversations are what is taken
 
+start_sound : (o : Opening) → Sound (start o)
+start_sound o = ((λ h. refl), tt)
+
 pub pipelined_runs : (d : Agreed) (o : Opening) (items : List Numbered) → IsPipelined d o items → (t : Standing) × PipeRun d (start o) items t × Over t
 pipelined_runs d o items h =
-    let r = run_in_turn d (entrance o) 0 h.0 (conversation_takes d o (packets h.0) h.1) h.2 in
+    let g = conversation_takes d o (packets h.0) h.1 in
+    let r = run_in_turn d (entrance o) 0 h.0 g.0 g.1 g.2 h.2 in
     (r.0, early_runs d (start o) false items h.0 r.0 (entrance_listens o) h.3 r.1, r.2)
 
 pub run_is_pipelined : (d : Agreed) (o : Opening) (items : List Numbered) (t : Standing) → PipeRun d (start o) items t → Over t → IsPipelined d o items
 run_is_pipelined d o items t r over =
-    let h = run_early d (start o) items t r over in
-    let p = in_turn_plain d (entrance o) 0 h.0 t h.2 over in
-    (h.0, takes_is_conversation d o (packets h.0) p.0, p.1, subst (λ b. Early b items h.0) (entrance_listens o) h.1)
+    let h = run_early d (start o) items t (start_sound o) r over in
+    let p = in_turn_plain d (entrance o) 0 h.0 t h.2 in
+    (h.0, takes_is_conversation d o (packets h.0) (t.state, p.0, over.0), p.1, subst (λ b. Early b items h.0) (entrance_listens o) h.1)
 
--- ---- some packets bring the machine to rest
+-- ---- after some packets no exchange runs, and no command waits
 
 abbrev PipeEnds : Agreed → Standing → Type 0
 PipeEnds d w = (more : List Numbered) × (t : Standing) × PipeRun d w more t × Over t
@@ -49,41 +54,59 @@ then_ends d w x m e h = (x ∷ h.0, h.1, (m, e, h.2), h.3)
 abbrev Settles : Agreed → ℕ → ℕ → List Waiting → State → Type 0
 Settles d i l q s = PipeEnds d (settle s i l q)
 
-served_ends : (d : Agreed) (i l : ℕ) (q : List Waiting) (s : State) (p : List ℕ) (k : Kind) (m : State) → rests s ≡ false → take_step d s Server p ≡ Some (k, m) → listens m ≡ false → Settles d i l q m → Settles d i l q s
-served_ends d i l q s p k m rs e nl h =
-    subst (λ w. PipeEnds d w) (sym (settle_stays s i l q rs))
-    (then_ends d (standing s i l q) (place Server p k i) (settle m i l q) (server_next d (standing s i l q) (place Server p k i) m (settle m i l q) refl e (rw nl refl) refl refl) h)
+served_ends : (d : Agreed) (i l : ℕ) (q : List Waiting) (s : State) (p : List ℕ) (k : Kind) → rests s ≡ false → take_step d s Server p ≡ Some (k, state.Rest) → Settles d i l q state.Rest → Settles d i l q s
+served_ends d i l q s p k rs e h =
+    subst (λ w. PipeEnds d w) (sym (settle_stays s i l q (running_idle s rs)))
+    (then_ends d (standing s i l q) (place Server p k i) (settle state.Rest i l q) (server_next d (standing s i l q) (place Server p k i) state.Rest (settle state.Rest i l q) refl e refl refl refl) h)
 
-error_settles : (d : Agreed) (i l : ℕ) (q : List Waiting) (s : State) → rests s ≡ false → Settles d i l q state.Rest → Settles d i l q s
-error_settles d i l q s n h = served_ends d i l q s (0xff ∷ []) kind.Error state.Rest n (rw (short_report d, n) refl) refl h
+-- a login comes to its end by an OK packet, and another exchange by an error
+login_is : (s : State) → is_login s ≡ true → (b : Bool) × (s ≡ state.Authentication true b)
+login_is (state.Authentication true b) h = (b, refl)
+login_is (state.Authentication false b) h = absurd cc
+login_is _ h = absurd cc
 
-each_settles : (d : Agreed) (i l : ℕ) (q : List Waiting) (s : State) → Settles d i l q state.Rest → Settles d i l q s
-each_settles d i l q s h = elim (which_rests s) [
-  | inl e ↦ subst (λ s. Settles d i l q s) (sym e) h
-  | inr n ↦ error_settles d i l q s n h
+login_step : (d : Agreed) (b : Bool) → take_step d (state.Authentication true b) Server ok_bytes ≡ Some (kind.Ok, state.Rest)
+login_step d b = rw (no_report d ok_bytes refl, ok_status_of d plain ok_bytes (ok_spelled d)) refl
+
+each_settles : (d : Agreed) (i l : ℕ) (q : List Waiting) (s : State) → rests s ≡ false → Settles d i l q state.Rest → Settles d i l q s
+each_settles d i l q s n h = elim (cases_Bool (is_login s)) [
+  | inl e ↦ (let b = login_is s e in served_ends d i l q s ok_bytes kind.Ok n (subst (λ s. take_step d s Server ok_bytes ≡ Some (kind.Ok, state.Rest)) (sym b.1) (login_step d b.0)) h)
+  | inr e ↦ served_ends d i l q s (0xff ∷ []) kind.Error n (rw (short_report d) (failed_no_report s ∙ error_rests s n e)) h
 ]
 
--- the commands that wait come to their ends
-rest_settles : (d : Agreed) (i l : ℕ) (q : List Waiting) → Settles d i l q state.Rest
-rest_settles d i l [] = ([], standing state.Rest i l [], refl, (refl, refl))
-rest_settles d i l (n ∷ q) = each_settles d n.number l q (begin n.command) (rest_settles d n.number l q)
+-- the commands that wait come to their ends, and the last may be COM_QUIT
+rest_settles : (d : Agreed) (i l : ℕ) (q : List Waiting) → OnlyLast q → Settles d i l q state.Rest
+rest_settles d i l [] o = ([], standing state.Rest i l [], refl, (refl, refl))
+rest_settles d i l (n ∷ q) o = elim (begin_due n.command) [
+  | inl e ↦ subst (λ s. Settles d n.number l q s) (sym e) (rest_settles d n.number l q o.1)
+  | inr (inr e) ↦ each_settles d n.number l q (begin n.command) (due_runs (begin n.command) e).0 (rest_settles d n.number l q o.1)
+  | inr (inl e) ↦ (let none : q ≡ [] = o.0 e in let shut : is_shut (begin n.command) ≡ true = begin_shut n.command ∙ e in
+      subst (λ q. Settles d n.number l q (begin n.command)) (sym none) ([], standing (begin n.command) n.number l [], refl, (shut_rests (begin n.command) shut, refl)))
+]
+  where
+    shut_rests : (s : State) → is_shut s ≡ true → rests s ≡ true
+    shut_rests state.Clone h = refl
+    shut_rests state.Over h = refl
+    shut_rests _ h = absurd cc
 
-standing_ends_at : (d : Agreed) (s : State) (i l : ℕ) (q : List Waiting) → Turn s → PipeEnds d (standing s i l q)
-standing_ends_at d s i l q (inl e) =
-    subst (λ s. PipeEnds d (standing s i l q)) (sym e)
-    (then_ends d (standing state.Rest i l q) (place Client (0x03 ∷ []) (kind.Command 0x03) (l + 1)) (standing (state.Reply Query) (l + 1) (l + 1) q) refl
-    (subst (λ w. PipeEnds d w) (settle_stays (state.Reply Query) (l + 1) (l + 1) q refl) (each_settles d (l + 1) (l + 1) q (state.Reply Query) (rest_settles d (l + 1) (l + 1) q))))
-standing_ends_at d s i l q (inr (inl a)) = subst (λ w. PipeEnds d w) (settle_stays s i l q a.1) (each_settles d i l q s (rest_settles d i l q))
-standing_ends_at d s i l q (inr (inr a)) = subst (λ w. PipeEnds d w) (settle_stays s i l q a.1) (each_settles d i l q s (rest_settles d i l q))
+standing_ends_at : (d : Agreed) (s : State) (i l : ℕ) (q : List Waiting) → (rests s ≡ true) ⊎ (rests s ≡ false) → Sound (standing s i l q) → PipeEnds d (standing s i l q)
+standing_ends_at d s i l q (inl e) k = ([], standing s i l q, refl, (e, k.0 (rests_no_due s e)))
+  where
+    rests_no_due : (s : State) → rests s ≡ true → is_due s ≡ false
+    rests_no_due s e = elim (cases_Bool (is_due s)) [
+      | inl g ↦ (let no = (due_runs s g).0 in absurd cc)
+      | inr g ↦ g
+    ]
+standing_ends_at d s i l q (inr n) k = subst (λ w. PipeEnds d w) (settle_stays s i l q (running_idle s n)) (each_settles d i l q s n (rest_settles d i l q k.1))
 
-standing_ends : (d : Agreed) (w : Standing) → PipeEnds d w
-standing_ends d w = standing_ends_at d w.state w.number w.last w.waiting (turn w.state)
+standing_ends : (d : Agreed) (w : Standing) → Sound w → PipeEnds d w
+standing_ends d w k = standing_ends_at d w.state w.number w.last w.waiting (which_rests w.state) k
 
 -- ---- the beginning of a pipelined conversation
 
 pub run_is_beginning : (d : Agreed) (o : Opening) (items : List Numbered) (t : Standing) → PipeRun d (start o) items t → IsPipelinedBeginning d o items
 run_is_beginning d o items t r =
-    let h = standing_ends d t in
+    let h = standing_ends d t (run_sound d (start o) items t (start_sound o) r) in
     (h.0, run_is_pipelined d o (items ++ h.0) h.1 (join (Steps d) (start o) items t h.0 h.1 r h.2) h.3)
 
 pub beginning_runs : (d : Agreed) (o : Opening) (items : List Numbered) → IsPipelinedBeginning d o items → (t : Standing) × PipeRun d (start o) items t

@@ -64,7 +64,7 @@ authenticating a false = c.authentication a
 
 abbrev pub tail_of : Agreed → State → Part
 tail_of a state.Rest = nothing
-tail_of a (state.Authentication is_asked) = authenticating a is_asked
+tail_of a (state.Authentication login is_asked) = authenticating a is_asked
 tail_of a (state.Reply r) = c.results a r
 tail_of a (state.Infile r) = many c.infile_content followed_by c.infile_end followed_by infile_answer a r
 tail_of a (state.InfileReply r) = infile_answer a r
@@ -73,11 +73,14 @@ tail_of a (state.DefinitionsEnd b) = following_all a false b
 tail_of a (state.Rows r) = following a (after.Rows r)
 tail_of a state.Prepared = c.prepared a
 tail_of a state.Fetch = many (c.row a Binary) followed_by c.any_end a
-tail_of a state.Acknowledgement = c.any_ok a or c.any_end a
+tail_of a (state.Acknowledgement may_end) = c.acknowledged a may_end
 tail_of a state.Text = c.text
 tail_of a state.Fields = many (c.field a) followed_by c.any_end a
 tail_of a state.Events = c.events a
 tail_of a state.Refusal = c.error a
+tail_of a state.CloneReply = (c.ok a false followed_by many c.clone) or c.error a
+tail_of a state.Clone = many c.clone
+tail_of a state.Over = nothing
 
 -- ---- parts
 

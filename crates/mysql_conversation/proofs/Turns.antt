@@ -1,16 +1,17 @@
 -- What commands do, and what packets of the client that are none.
-use Rattle.std.proofs.Common.{◌≡◌, ℕ, List, [], ◌∷◌, Option, Some, None, refl, sym, ap, subst, ◌∙◌, Bool, true, false}
+use Rattle.std.proofs.Common.{◌≡◌, ℕ, List, [], ◌∷◌, ◌⊎◌, inl, inr, Option, Some, None, refl, sym, ap, subst, ◌∙◌, Bool, true, false}
 use Rattle.std.proofs.lemmas.Bool.{eqb-true}
 use Rattle.std.specs.Prelude.{◌==◌, not}
 use Rattle.mysql_conversation.specs.Payloads.{first_is, asks_cursor}
-use Rattle.mysql_conversation.specs.Conversation.{answering, commands}
-use Rattle.mysql_conversation.specs.Machine.{take_step, client_step, rests, listens, is_due, answers, begun, ack_step}
+use Rattle.mysql_conversation.specs.Conversation.{code_of, answering, commands}
+use Rattle.mysql_conversation.specs.Machine.{take_step, client_step, rests, is_shut, listens, is_due, answers, begun, ack_step}
 use Rattle.mysql_conversation.specs.Machine as machine
-use Rattle.mysql_conversation.specs.Standing.{kind_of, begin, command_of, known}
+use Rattle.mysql_conversation.specs.Standing.{kind_of, begin, command_of, known, is_quit}
 use Rattle.mysql_conversation.proofs.Classes.{some_is}
-use Rattle.mysql_conversation.proofs.States.{take_listens, answers_listens, inside_command}
+use Rattle.mysql_conversation.proofs.States.{take_listens, answers_quiet, answers_shut, inside_command}
 use Rattle.mysql_conversation.specs.Agreements.{Agreed}
 use Rattle.mysql_conversation.specs.declared.state.Answer.{Answer}
+use Rattle.mysql_conversation.specs.declared.state.Answer.TheVariants as answer
 use Rattle.mysql_conversation.specs.declared.state.Command.{Command}
 use Rattle.mysql_conversation.specs.declared.kind.Kind.{Kind}
 use Rattle.mysql_conversation.specs.declared.kind.Side.TheVariants.{Client}
@@ -27,8 +28,7 @@ known_begun code None = refl
 known_begun code (Some r) = refl
 
 pub rest_command : (p : List ℕ) → machine.command_step p ≡ command_step (command_of p)
-rest_command [] = refl
-rest_command (code ∷ bytes) = known_begun code (answering code (asks_cursor (code ∷ bytes)))
+rest_command p = known_begun (code_of p) (answering (code_of p) (asks_cursor p))
 
 pub rest_step_is : (d : Agreed) (p : List ℕ) → take_step d state.Rest Client p ≡ command_step (command_of p)
 rest_step_is d p = rest_command p
@@ -37,7 +37,29 @@ pub kind_is_command : (c : Command) → commands (kind_of c) ≡ true
 kind_is_command c = refl
 
 pub begin_listens : (c : Command) → listens (begin c) ≡ false
-begin_listens c = answers_listens c.answer
+begin_listens c = answers_quiet c.answer
+
+-- after COM_QUIT no command comes
+pub begin_shut : (c : Command) → is_shut (begin c) ≡ is_quit c.answer
+begin_shut c = answers_shut c.answer
+
+-- what answers a command is due, where it is answered
+pub begin_due : (c : Command) → (begin c ≡ state.Rest) ⊎ ((is_quit c.answer ≡ true) ⊎ (is_due (begin c) ≡ true))
+begin_due c = answers_due c.answer
+  where
+    answers_due : (r : Answer) → (answers r ≡ state.Rest) ⊎ ((is_quit r ≡ true) ⊎ (is_due (answers r) ≡ true))
+    answers_due (answer.Results r) = inr (inr refl)
+    answers_due answer.Prepared = inr (inr refl)
+    answers_due answer.Rows = inr (inr refl)
+    answers_due (answer.Acknowledgement may_end) = inr (inr refl)
+    answers_due answer.Text = inr (inr refl)
+    answers_due answer.Fields = inr (inr refl)
+    answers_due answer.Authentication = inr (inr refl)
+    answers_due answer.Events = inr (inr refl)
+    answers_due answer.Nothing = inl refl
+    answers_due answer.Quit = inr (inl refl)
+    answers_due answer.Clone = inr (inr refl)
+    answers_due answer.Refusal = inr (inr refl)
 
 -- what the client says while an exchange runs is no command
 pub running_kind : (d : Agreed) (s : State) (p : List ℕ) (k : Kind) (m : State) → rests s ≡ false → take_step d s Client p ≡ Some (k, m) → commands k ≡ false
@@ -45,7 +67,7 @@ running_kind d s p k m n h = inside_command k ((take_listens d s Client p k m h)
 
 -- no command begins as an acknowledgement does
 no_ack : (p : List ℕ) (c : Command) → command_of p ≡ Some c → first_is 0xef p ≡ false
-no_ack [] c h = absurd cc
+no_ack [] c h = refl
 no_ack (code ∷ bytes) c h = not_ef code (code == 0xef) refl h
   where
     none : (x : ℕ) → x ≡ 0xef → known x (answering x (asks_cursor (code ∷ bytes))) ≡ None
@@ -61,8 +83,8 @@ ack_refused p c h = rw (no_ack p c h) refl
 -- where the server is to speak, a command is no packet of the exchange
 pub no_aside : (d : Agreed) (s : State) (p : List ℕ) (c : Command) → is_due s ≡ true → command_of p ≡ Some c → take_step d s Client p ≡ None
 no_aside d state.Rest p c h e = absurd cc
-no_aside d (state.Authentication true) p c h e = absurd cc
-no_aside d (state.Authentication false) p c h e = refl
+no_aside d (state.Authentication login true) p c h e = absurd cc
+no_aside d (state.Authentication login false) p c h e = refl
 no_aside d (state.Reply r) p c h e = refl
 no_aside d (state.Infile r) p c h e = absurd cc
 no_aside d (state.InfileReply r) p c h e = refl
@@ -71,11 +93,14 @@ no_aside d (state.DefinitionsEnd b) p c h e = refl
 no_aside d (state.Rows r) p c h e = refl
 no_aside d state.Prepared p c h e = refl
 no_aside d state.Fetch p c h e = refl
-no_aside d state.Acknowledgement p c h e = refl
+no_aside d (state.Acknowledgement may_end) p c h e = refl
 no_aside d state.Text p c h e = refl
 no_aside d state.Fields p c h e = refl
 no_aside d state.Events p c h e = ack_refused p c e
 no_aside d state.Refusal p c h e = refl
+no_aside d state.CloneReply p c h e = refl
+no_aside d state.Clone p c h e = absurd cc
+no_aside d state.Over p c h e = absurd cc
 
 kind_at : (k : Kind) (m : State) (r : Option Command) → command_step r ≡ Some (k, m) → commands k ≡ true
 kind_at k m None h = absurd cc

@@ -79,6 +79,10 @@ field a = served kind.FieldListColumn (IsRow a Text)
 abbrev pub text : Part
 text = served kind.Statistics (λ p. Unit {0})
 
+-- a packet of either side, in the protocol of the clone plugin
+abbrev pub clone : Part
+clone = one (λ x. x.kind ≡ kind.Clone)
+
 -- ---- results
 
 -- how the rows that are asked for are spelled
@@ -151,11 +155,13 @@ statement a columns params follow = prepared_ok a columns params follow followed
 abbrev pub prepared : Agreed → Part
 prepared a = for_some (λ columns. for_some (λ params. statement a columns params true or statement a columns params false))
 
-abbrev pub any_ok : Agreed → Part
-any_ok a = ok a true or ok a false
-
 abbrev pub any_end : Agreed → Part
 any_end a = end a true or end a false
+
+-- an OK packet, or an end where the server may say so (`my_eof` in MySQL's `dispatch_command`)
+abbrev pub acknowledged : Agreed → Bool → Part
+acknowledged a true = ok a false or end a false
+acknowledged a false = ok a false
 
 -- ---- authentication
 
@@ -177,7 +183,7 @@ auth_data = sent kind.AuthData (λ p. Unit {0})
 
 -- the server speaks, and the client may answer, until an OK packet
 abbrev pub authentication : Agreed → Part
-authentication a = many (asked a followed_by (nothing or auth_data)) followed_by any_ok a
+authentication a = many (asked a followed_by (nothing or auth_data)) followed_by ok a false
 
 -- ---- a stream of events
 
@@ -207,43 +213,51 @@ answering code cursor =
     else (if code == 0x1c then Some answer.Rows  -- COM_STMT_FETCH
     else (if code == 0x19 then Some answer.Nothing  -- COM_STMT_CLOSE
     else (if code == 0x18 then Some answer.Nothing  -- COM_STMT_SEND_LONG_DATA
-    else (if code == 0x01 then Some answer.Nothing  -- COM_QUIT
-    else (if code == 0x0e then Some answer.Acknowledgement  -- COM_PING
-    else (if code == 0x02 then Some answer.Acknowledgement  -- COM_INIT_DB
-    else (if code == 0x1a then Some answer.Acknowledgement  -- COM_STMT_RESET
-    else (if code == 0x1b then Some answer.Acknowledgement  -- COM_SET_OPTION
-    else (if code == 0x1f then Some answer.Acknowledgement  -- COM_RESET_CONNECTION
+    else (if code == 0x01 then Some answer.Quit  -- COM_QUIT
+    else (if code == 0x0e then Some (answer.Acknowledgement false)  -- COM_PING
+    else (if code == 0x02 then Some (answer.Acknowledgement false)  -- COM_INIT_DB
+    else (if code == 0x1a then Some (answer.Acknowledgement false)  -- COM_STMT_RESET
+    else (if code == 0x1b then Some (answer.Acknowledgement true)  -- COM_SET_OPTION
+    else (if code == 0x1f then Some (answer.Acknowledgement false)  -- COM_RESET_CONNECTION
     else (if code == 0x09 then Some answer.Text  -- COM_STATISTICS
     else (if code == 0x0a then Some (answer.Results Query)  -- COM_PROCESS_INFO
     else (if code == 0xfa then Some (answer.Results Execution)  -- COM_STMT_BULK_EXECUTE
     else (if code == 0x04 then Some answer.Fields  -- COM_FIELD_LIST
-    else (if code == 0x05 then Some answer.Acknowledgement  -- COM_CREATE_DB
-    else (if code == 0x06 then Some answer.Acknowledgement  -- COM_DROP_DB
-    else (if code == 0x07 then Some answer.Acknowledgement  -- COM_REFRESH
-    else (if code == 0x08 then Some answer.Acknowledgement  -- COM_SHUTDOWN
-    else (if code == 0x0c then Some answer.Acknowledgement  -- COM_PROCESS_KILL
-    else (if code == 0x0d then Some answer.Acknowledgement  -- COM_DEBUG
-    else (if code == 0x15 then Some answer.Acknowledgement  -- COM_REGISTER_SLAVE
+    else (if code == 0x05 then Some (answer.Acknowledgement false)  -- COM_CREATE_DB
+    else (if code == 0x06 then Some (answer.Acknowledgement false)  -- COM_DROP_DB
+    else (if code == 0x07 then Some (answer.Acknowledgement false)  -- COM_REFRESH
+    else (if code == 0x08 then Some (answer.Acknowledgement true)  -- COM_SHUTDOWN
+    else (if code == 0x0c then Some (answer.Acknowledgement false)  -- COM_PROCESS_KILL
+    else (if code == 0x0d then Some (answer.Acknowledgement true)  -- COM_DEBUG
+    else (if code == 0x15 then Some (answer.Acknowledgement false)  -- COM_REGISTER_SLAVE
     else (if code == 0x11 then Some answer.Authentication  -- COM_CHANGE_USER
     else (if code == 0x12 then Some answer.Events  -- COM_BINLOG_DUMP
     else (if code == 0x1e then Some answer.Events  -- COM_BINLOG_DUMP_GTID
+    else (if code == 0x20 then Some answer.Clone  -- COM_CLONE
     else (if code == 0xef then None  -- an acknowledgement of an event
-    else Some answer.Refusal))))))))))))))))))))))))))
+    else Some answer.Refusal)))))))))))))))))))))))))))
+
+-- the first byte; a server takes an empty packet for COM_SLEEP (`Protocol_classic::get_command` in MySQL, `do_command` in MariaDB)
+abbrev pub code_of : List ℕ → ℕ
+code_of [] = 0
+code_of (code ∷ bytes) = code
 
 abbrev pub command : ℕ → Bool → Part
-command code cursor = sent (kind.Command code) (λ p. (first_is code p ≡ true) × (asks_cursor p ≡ cursor))
+command code cursor = sent (kind.Command code) (λ p. (code_of p ≡ code) × (asks_cursor p ≡ cursor))
 
 abbrev pub answered : Agreed → Option Answer → Part
 answered a None = never
 answered a (Some (answer.Results request)) = results a request
 answered a (Some answer.Prepared) = prepared a
 answered a (Some answer.Rows) = many (row a Binary) followed_by any_end a
-answered a (Some answer.Acknowledgement) = any_ok a or any_end a
+answered a (Some (answer.Acknowledgement may_end)) = acknowledged a may_end
 answered a (Some answer.Text) = text
 answered a (Some answer.Fields) = many (field a) followed_by any_end a
 answered a (Some answer.Authentication) = authentication a
 answered a (Some answer.Events) = events a
 answered a (Some answer.Nothing) = nothing
+answered a (Some answer.Quit) = never
+answered a (Some answer.Clone) = error a
 answered a (Some answer.Refusal) = error a
 
 -- a command and all that answers it
@@ -263,6 +277,7 @@ commands _ = false
 abbrev pub inside : Kind → Bool
 inside (kind.Command code) = false
 inside kind.UnaskedError = false
+inside kind.Clone = false
 inside _ = true
 
 abbrev pub IsInside : Packet → Type 0
@@ -277,14 +292,34 @@ abbrev pub unasked_error : Agreed → Part
 unasked_error a = one (λ x. (x.from ≡ Server) × (x.kind ≡ kind.UnaskedError) × IsError a x.payload)
 
 abbrev pub exchanges : Agreed → Part
-exchanges a = many (unless_broken a (exchange a) or unasked_error a)
+exchanges a = many (unless_broken a (exchange a))
 
-abbrev pub opening : Agreed → Opening → Part
-opening a opened_at.Login = unless_broken a (authentication a)
-opening a opened_at.Commands = nothing
+-- a command that is answered so
+abbrev pub commanding : Answer → Part
+commanding r = one (λ x. (x.from ≡ Client) × (x.kind ≡ kind.Command (code_of x.payload)) × (answering (code_of x.payload) (asks_cursor x.payload) ≡ Some r))
 
-abbrev pub conversation : Agreed → Opening → Part
-conversation a o = opening a o followed_by exchanges a
+-- COM_QUIT
+abbrev pub quit : Part
+quit = commanding answer.Quit
+
+-- COM_CLONE, and the clone plugin's own protocol up to the end of the connection
+abbrev pub cloned : Agreed → Part
+cloned a = commanding answer.Clone followed_by ok a false followed_by many clone
+
+-- what ends the connection, after which no packet comes
+abbrev pub last : Agreed → Part
+last a = nothing or quit or unasked_error a or cloned a
+
+abbrev pub commanded : Agreed → Part
+commanded a = exchanges a followed_by last a
+
+-- a login that is refused
+abbrev pub refused_login : Agreed → Part
+refused_login a = broken (authentication a) IsInside (error a)
+
+abbrev pub conversation : Agreed → Opening → List Packet → Type 0
+conversation a opened_at.Login items = ((authentication a followed_by commanded a) or refused_login a) items []
+conversation a opened_at.Commands items = commanded a items []
 
 -- ---- reports of progress
 
@@ -315,7 +350,7 @@ Reported a is_asked (x ∷ items) others =
     ⊎ ((more : List Packet) × (others ≡ x ∷ more) × Reported a (asks x.kind) items more)
 
 abbrev pub IsConversation : Agreed → Opening → List Packet → Type 0
-IsConversation a o items = (others : List Packet) × conversation a o others [] × Reported a false items others
+IsConversation a o items = (others : List Packet) × conversation a o others × Reported a false items others
 
 -- the beginning of a conversation
 abbrev pub IsBeginning : Agreed → Opening → List Packet → Type 0

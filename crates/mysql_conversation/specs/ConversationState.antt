@@ -29,13 +29,19 @@ at_definitions opening place n (after.Rows r) = record { opening = opening; plac
 at_definitions opening place n (after.Columns m) = record { opening = opening; place = place; request = 0; after = 2; definitions = n; columns = m }
 at_definitions opening place n after.End = record { opening = opening; place = place; request = 0; after = 3; definitions = n; columns = 0 }
 
-abbrev pub asked_number : Bool → ℕ
-asked_number false = 0
-asked_number true = 1
+abbrev pub number_if : Bool → ℕ
+number_if false = 0
+number_if true = 1
+
+-- of a change of user, or of a login
+abbrev pub asked_number : Bool → Bool → ℕ
+asked_number false is_asked = number_if is_asked
+asked_number true false = 2
+asked_number true true = 3
 
 abbrev pub numbers_of : Opening → State → ConversationState
 numbers_of o state.Rest = at o 0 0
-numbers_of o (state.Authentication is_asked) = at o 1 (asked_number is_asked)
+numbers_of o (state.Authentication login is_asked) = at o 1 (asked_number login is_asked)
 numbers_of o (state.Reply r) = at o 2 (number_of r)
 numbers_of o (state.Infile r) = at o 3 (number_of r)
 numbers_of o (state.InfileReply r) = at o 4 (number_of r)
@@ -44,17 +50,28 @@ numbers_of o (state.DefinitionsEnd b) = at_definitions o 6 0 b
 numbers_of o (state.Rows r) = at o 7 (number_of r)
 numbers_of o state.Prepared = at o 8 0
 numbers_of o state.Fetch = at o 9 0
-numbers_of o state.Acknowledgement = at o 10 0
+numbers_of o (state.Acknowledgement may_end) = at o 10 (number_if may_end)
 numbers_of o state.Text = at o 11 0
 numbers_of o state.Fields = at o 12 0
 numbers_of o state.Events = at o 13 0
 numbers_of o state.Refusal = at o 14 0
+numbers_of o state.CloneReply = at o 15 0
+numbers_of o state.Clone = at o 16 0
+numbers_of o state.Over = at o 17 0
 
 abbrev pub request_at : ℕ → Option Request
 request_at n = if n == 0 then Some Query else (if n == 1 then Some Execution else (if n == 2 then Some Cursor else None))
 
-abbrev pub is_asked_at : ℕ → Option Bool
-is_asked_at n = if n == 0 then Some false else (if n == 1 then Some true else None)
+abbrev pub truth_at : ℕ → Option Bool
+truth_at n = if n == 0 then Some false else (if n == 1 then Some true else None)
+
+abbrev pub authentication_at : ℕ → Option State
+authentication_at n =
+    if n == 0 then Some (state.Authentication false false)
+    else (if n == 1 then Some (state.Authentication false true)
+    else (if n == 2 then Some (state.Authentication true false)
+    else (if n == 3 then Some (state.Authentication true true)
+    else None)))
 
 -- what follows definitions
 abbrev pub after_at : ConversationState → Option After
@@ -69,7 +86,7 @@ after_at s =
 abbrev pub state_at : ConversationState → Option State
 state_at s =
     if s.place == 0 then Some state.Rest
-    else (if s.place == 1 then option_map state.Authentication (is_asked_at s.request)
+    else (if s.place == 1 then authentication_at s.request
     else (if s.place == 2 then option_map state.Reply (request_at s.request)
     else (if s.place == 3 then option_map state.Infile (request_at s.request)
     else (if s.place == 4 then option_map state.InfileReply (request_at s.request)
@@ -78,12 +95,15 @@ state_at s =
     else (if s.place == 7 then option_map state.Rows (request_at s.request)
     else (if s.place == 8 then Some state.Prepared
     else (if s.place == 9 then Some state.Fetch
-    else (if s.place == 10 then Some state.Acknowledgement
+    else (if s.place == 10 then option_map state.Acknowledgement (truth_at s.request)
     else (if s.place == 11 then Some state.Text
     else (if s.place == 12 then Some state.Fields
     else (if s.place == 13 then Some state.Events
     else (if s.place == 14 then Some state.Refusal
-    else None))))))))))))))
+    else (if s.place == 15 then Some state.CloneReply
+    else (if s.place == 16 then Some state.Clone
+    else (if s.place == 17 then Some state.Over
+    else None)))))))))))))))))
 
 -- the numbers are of a state
 abbrev pub IsState : ConversationState → Type 0

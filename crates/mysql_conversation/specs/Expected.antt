@@ -1,9 +1,9 @@
 -- Which kinds may come next.
-use Rattle.std.specs.Prelude.{List, [], ◌∷◌, Bool, true, false, ◌&&◌, ◌||◌, ◌==◌, not, if◌then◌else◌}
+use Rattle.std.specs.Prelude.{List, [], ◌∷◌, ◌++◌, Bool, true, false, ◌&&◌, ◌||◌, ◌==◌, not, if◌then◌else◌}
 use Rattle.mysql_conversation.specs.Agreements.{Agreed, deprecates_eof, asks_factors, reports_progress}
-use Rattle.mysql_conversation.specs.Machine.{rests, is_due}
+use Rattle.mysql_conversation.specs.Machine.{is_due}
 use Rattle.mysql_conversation.specs.KindName.{index, is_in}
-use Rattle.mysql_conversation.specs.Standing.{Standing, waits}
+use Rattle.mysql_conversation.specs.Standing.{Standing, waits, quits}
 use Rattle.mysql_conversation.specs.declared.kind.Side.{Side}
 use Rattle.mysql_conversation.specs.declared.kind.Side.TheVariants.{Client, Server}
 use Rattle.mysql_conversation.specs.declared.kind_name.KindName.{KindName}
@@ -16,8 +16,8 @@ use Rattle.mysql_conversation.specs.declared.state.State.TheVariants as state
 -- of the client
 abbrev pub sent_names : State → List KindName
 sent_names state.Rest = name.Command ∷ []
-sent_names (state.Authentication true) = name.AuthData ∷ []
-sent_names (state.Authentication false) = []
+sent_names (state.Authentication login true) = name.AuthData ∷ []
+sent_names (state.Authentication login false) = []
 sent_names (state.Reply r) = []
 sent_names (state.Infile r) = name.InfileContent ∷ name.InfileEnd ∷ []
 sent_names (state.InfileReply r) = []
@@ -26,11 +26,14 @@ sent_names (state.DefinitionsEnd b) = []
 sent_names (state.Rows r) = []
 sent_names state.Prepared = []
 sent_names state.Fetch = []
-sent_names state.Acknowledgement = []
+sent_names (state.Acknowledgement may_end) = []
 sent_names state.Text = []
 sent_names state.Fields = []
 sent_names state.Events = name.SemiSyncAck ∷ []
 sent_names state.Refusal = []
+sent_names state.CloneReply = []
+sent_names state.Clone = name.Clone ∷ []
+sent_names state.Over = []
 
 -- how an end is named
 abbrev pub end_name : Bool → KindName
@@ -50,7 +53,7 @@ asked_names false = name.AuthSwitch ∷ name.OldAuthSwitch ∷ name.AuthMoreData
 -- of the server, where it is neither an error nor a report of progress
 abbrev pub served_names : Agreed → State → List KindName
 served_names a state.Rest = []
-served_names a (state.Authentication is_asked) = name.Ok ∷ asked_names (asks_factors a)
+served_names a (state.Authentication login is_asked) = name.Ok ∷ asked_names (asks_factors a)
 served_names a (state.Reply r) = name.Ok ∷ name.LocalInfile ∷ name.ColumnCount ∷ []
 served_names a (state.Infile r) = []
 served_names a (state.InfileReply r) = name.Ok ∷ []
@@ -59,24 +62,31 @@ served_names a (state.DefinitionsEnd b) = name.Eof ∷ []
 served_names a (state.Rows r) = row_name r ∷ end_name (deprecates_eof a) ∷ []
 served_names a state.Prepared = name.PrepareOk ∷ []
 served_names a state.Fetch = name.BinaryRow ∷ end_name (deprecates_eof a) ∷ []
-served_names a state.Acknowledgement = name.Ok ∷ end_name (deprecates_eof a) ∷ []
+served_names a (state.Acknowledgement true) = name.Ok ∷ end_name (deprecates_eof a) ∷ []
+served_names a (state.Acknowledgement false) = name.Ok ∷ []
 served_names a state.Text = name.Statistics ∷ []
 served_names a state.Fields = name.FieldListColumn ∷ end_name (deprecates_eof a) ∷ []
 served_names a state.Events = name.BinlogEvent ∷ name.Eof ∷ []
 served_names a state.Refusal = []
+served_names a state.CloneReply = name.Ok ∷ []
+served_names a state.Clone = []
+served_names a state.Over = []
 
-abbrev pub error_name : Bool → KindName
-error_name true = name.UnaskedError
-error_name false = name.Error
+-- of what begins with ff, and is no report
+abbrev pub error_names : State → List KindName
+error_names state.Rest = name.UnaskedError ∷ []
+error_names state.Clone = name.Clone ∷ []
+error_names state.Over = []
+error_names _ = name.Error ∷ []
 
 abbrev pub reported : Bool → List KindName → List KindName
 reported true names = name.ProgressReport ∷ names
 reported false names = names
 
--- an error may come at any time, and a report of progress where the server is to speak
+-- an error may come at any time before the end, and a report of progress where the server is to speak
 abbrev pub names : Agreed → State → Side → List KindName
 names a s Client = sent_names s
-names a s Server = error_name (rests s) ∷ reported (reports_progress a && is_due s) (served_names a s)
+names a s Server = error_names s ++ reported (reports_progress a && is_due s) (served_names a s)
 
 abbrev pub expects : Agreed → State → Side → KindName → Bool
 expects a s side n = is_in n (names a s side)
@@ -85,13 +95,21 @@ expects a s side n = is_in n (names a s side)
 abbrev pub asking_names : List KindName
 asking_names = name.AuthSwitch ∷ name.OldAuthSwitch ∷ name.AuthMoreData ∷ name.AuthNextFactor ∷ name.AuthPluginData ∷ name.LocalInfile ∷ name.InfileContent ∷ []
 
--- Where commands may come early: a command where the server is to speak, and another packet of the client where no command waits. The
--- server asks the client for nothing where commands wait.
+-- after which no command comes any more
+abbrev pub shutting_names : State → List KindName
+shutting_names state.Rest = name.UnaskedError ∷ []
+shutting_names (state.Authentication true is_asked) = name.Error ∷ []
+shutting_names state.CloneReply = name.Ok ∷ []
+shutting_names state.Clone = name.Clone ∷ []
+shutting_names _ = []
+
+-- Where commands may come early: a command where the server is to speak and COM_QUIT doesn't wait, and another packet of the client where
+-- no command waits. Where commands wait, the server asks the client for nothing, and doesn't end the connection.
 abbrev pub pipe_expects : Agreed → Standing → Side → KindName → Bool
 pipe_expects a w Client n =
-    if is_due w.state then (expects a w.state Client n && not (waits w.waiting)) || index n == index name.Command
+    if is_due w.state then (expects a w.state Client n && not (waits w.waiting)) || (index n == index name.Command && not (quits w.waiting))
     else expects a w.state Client n
-pipe_expects a w Server n = expects a w.state Server n && not (waits w.waiting && is_in n asking_names)
+pipe_expects a w Server n = expects a w.state Server n && not (waits w.waiting && (is_in n asking_names || is_in n (shutting_names w.state)))
 
 -- what a session begins with, and what answers the greeting, in TLS or not
 abbrev pub greeting_names : Side → List KindName

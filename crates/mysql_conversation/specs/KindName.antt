@@ -36,6 +36,7 @@ name_of (kind.PrepareOk columns params follow) = name.PrepareOk
 name_of kind.Statistics = name.Statistics
 name_of kind.BinlogEvent = name.BinlogEvent
 name_of kind.SemiSyncAck = name.SemiSyncAck
+name_of kind.Clone = name.Clone
 
 -- how a name is written
 abbrev pub text_of : KindName → List ℕ
@@ -67,6 +68,7 @@ text_of name.PrepareOk = codes "prepare_ok"
 text_of name.Statistics = codes "statistics"
 text_of name.BinlogEvent = codes "binlog_event"
 text_of name.SemiSyncAck = codes "semi_sync_ack"
+text_of name.Clone = codes "clone"
 
 -- the names, numbered
 abbrev pub index : KindName → ℕ
@@ -98,6 +100,7 @@ index name.PrepareOk = 24
 index name.Statistics = 25
 index name.BinlogEvent = 26
 index name.SemiSyncAck = 27
+index name.Clone = 28
 
 -- it is one of these
 abbrev pub is_in : KindName → List KindName → Bool

@@ -12,7 +12,7 @@ use Rattle.mysql_prepared.specs.declared.stmt_with_metadata.StmtPacketWithMetada
 use Rattle.mysql_conversation.specs.Agreements.{Agreed, deprecates_eof}
 use Rattle.mysql_conversation.specs.Runs.{Runs}
 use Rattle.mysql_conversation.specs.Payloads.{has_more, opens_cursor, first_is, definitions_follow, ok_form, terminator_form, old_end_form, looks_like_end, is_report, asks_cursor}
-use Rattle.mysql_conversation.specs.Conversation.{Packet, answering, authentication_kind, ending, format_of}
+use Rattle.mysql_conversation.specs.Conversation.{Packet, code_of, answering, authentication_kind, ending, format_of}
 use Rattle.mysql_conversation.specs.declared.state.After.{After}
 use Rattle.mysql_conversation.specs.declared.state.After.TheVariants as after
 use Rattle.mysql_conversation.specs.declared.state.Answer.{Answer}
@@ -103,7 +103,7 @@ statement_at a p = statement_in ((stmt_with_metadata.form a.mysql).reads p)
 
 -- where a conversation begins
 abbrev pub entrance : Opening → State
-entrance opened_at.Login = state.Authentication false
+entrance opened_at.Login = state.Authentication true false
 entrance opened_at.Commands = state.Rest
 
 -- after definitions
@@ -139,12 +139,14 @@ abbrev pub answers : Answer → State
 answers (answer.Results r) = state.Reply r
 answers answer.Prepared = state.Prepared
 answers answer.Rows = state.Fetch
-answers answer.Acknowledgement = state.Acknowledgement
+answers (answer.Acknowledgement may_end) = state.Acknowledgement may_end
 answers answer.Text = state.Text
 answers answer.Fields = state.Fields
-answers answer.Authentication = state.Authentication false
+answers answer.Authentication = state.Authentication false false
 answers answer.Events = state.Events
 answers answer.Nothing = state.Rest
+answers answer.Quit = state.Over
+answers answer.Clone = state.CloneReply
 answers answer.Refusal = state.Refusal
 
 -- ---- the steps
@@ -154,23 +156,22 @@ begun code None = None
 begun code (Some a) = Some (kind.Command code, answers a)
 
 abbrev pub command_step : List ℕ → Option (Kind × State)
-command_step [] = None
-command_step (code ∷ bytes) = begun code (answering code (asks_cursor (code ∷ bytes)))
+command_step p = begun (code_of p) (answering (code_of p) (asks_cursor p))
 
 abbrev pub infile_step : Request → List ℕ → Option (Kind × State)
 infile_step r [] = Some (kind.InfileEnd, state.InfileReply r)
 infile_step r (b ∷ bytes) = Some (kind.InfileContent, state.Infile r)
 
-abbrev pub answer_step : Bool → Option (Kind × State)
-answer_step true = Some (kind.AuthData, state.Authentication false)
-answer_step false = None
+abbrev pub answer_step : Bool → Bool → Option (Kind × State)
+answer_step login true = Some (kind.AuthData, state.Authentication login false)
+answer_step login false = None
 
 abbrev pub ack_step : List ℕ → Option (Kind × State)
 ack_step p = if first_is 0xef p then Some (kind.SemiSyncAck, state.Events) else None
 
 abbrev pub client_step : State → List ℕ → Option (Kind × State)
 client_step state.Rest p = command_step p
-client_step (state.Authentication is_asked) p = answer_step is_asked
+client_step (state.Authentication login is_asked) p = answer_step login is_asked
 client_step (state.Infile r) p = infile_step r p
 client_step (state.Reply r) p = None
 client_step (state.InfileReply r) p = None
@@ -179,11 +180,14 @@ client_step (state.DefinitionsEnd b) p = None
 client_step (state.Rows r) p = None
 client_step state.Prepared p = None
 client_step state.Fetch p = None
-client_step state.Acknowledgement p = None
+client_step (state.Acknowledgement may_end) p = None
 client_step state.Text p = None
 client_step state.Fields p = None
 client_step state.Events p = ack_step p
 client_step state.Refusal p = None
+client_step state.CloneReply p = None
+client_step state.Clone p = Some (kind.Clone, state.Clone)
+client_step state.Over p = None
 
 -- an event, or the EOF packet after the last
 abbrev pub event_step : Bool → Option StatusFlags → Option (Kind × State)
@@ -198,12 +202,12 @@ counted deprecates n false b = defined deprecates b
 
 abbrev pub logged_in : Option StatusFlags → Option (Kind × State)
 logged_in None = None
-logged_in (Some status) = Some (kind.Ok, state.Rest)
+logged_in (Some status) = if has_more status then None else Some (kind.Ok, state.Rest)
 
-abbrev pub authentication_step : Agreed → List ℕ → Option StatusFlags → Option (Kind × State)
-authentication_step a p status =
+abbrev pub authentication_step : Agreed → Bool → List ℕ → Option StatusFlags → Option (Kind × State)
+authentication_step a login p status =
     if first_is 0 p then logged_in status
-    else Some (authentication_kind a p, state.Authentication true)
+    else Some (authentication_kind a p, state.Authentication login true)
 
 abbrev pub reply_step : Bool → Request → Option Reply → Option (Kind × State)
 reply_step deprecates r None = None
@@ -266,18 +270,29 @@ prepared_step deprecates (Some s) =
       prepared_by deprecates (definitions_follow s) (num_columns (packet_of s)) (num_params (packet_of s)),
     )
 
-abbrev pub acknowledgement_step : Bool → Option Line → Option Reply → Option (Kind × State)
-acknowledgement_step deprecates (Some (line.End more)) r = Some (ending deprecates, state.Rest)
-acknowledgement_step deprecates (Some line.Row) (Some (reply.Ok more)) = Some (kind.Ok, state.Rest)
-acknowledgement_step deprecates (Some line.Row) (Some reply.Infile) = None
-acknowledgement_step deprecates (Some line.Row) (Some (reply.Columns n follow)) = None
-acknowledgement_step deprecates (Some line.Row) None = None
-acknowledgement_step deprecates None r = None
+-- an OK packet, after which no more results come
+abbrev pub last_ok : State → Option Reply → Option (Kind × State)
+last_ok m (Some (reply.Ok false)) = Some (kind.Ok, m)
+last_ok m (Some (reply.Ok true)) = None
+last_ok m (Some reply.Infile) = None
+last_ok m (Some (reply.Columns n follow)) = None
+last_ok m None = None
+
+-- an end, where the server may say so
+abbrev pub last_end : Bool → Bool → Bool → Option (Kind × State)
+last_end deprecates true false = Some (ending deprecates, state.Rest)
+last_end deprecates true true = None
+last_end deprecates false more = None
+
+abbrev pub acknowledgement_step : Bool → Bool → Option Line → Option Reply → Option (Kind × State)
+acknowledgement_step deprecates may_end (Some (line.End more)) r = last_end deprecates may_end more
+acknowledgement_step deprecates may_end (Some line.Row) r = last_ok state.Rest r
+acknowledgement_step deprecates may_end None r = None
 
 -- a packet of the server that is no error
 abbrev pub serve : Agreed → State → List ℕ → Option (Kind × State)
 serve a state.Rest p = None
-serve a (state.Authentication is_asked) p = authentication_step a p (ok_status a p)
+serve a (state.Authentication login is_asked) p = authentication_step a login p (ok_status a p)
 serve a (state.Infile r) p = None
 serve a (state.Reply r) p = reply_step (deprecates_eof a) r (reply_of a p)
 serve a (state.InfileReply r) p = infile_reply_step r (reply_of a p)
@@ -286,42 +301,69 @@ serve a (state.DefinitionsEnd b) p = definitions_end_step b (old_end_of a p)
 serve a (state.Rows r) p = line_step (deprecates_eof a) r (line_of a (format_of r) p)
 serve a state.Prepared p = prepared_step (deprecates_eof a) (statement_at a p)
 serve a state.Fetch p = last_step (deprecates_eof a) (kind.Row Binary) state.Fetch (line_of a Binary p)
-serve a state.Acknowledgement p = acknowledgement_step (deprecates_eof a) (line_of a Text p) (reply_of a p)
+serve a (state.Acknowledgement may_end) p = acknowledgement_step (deprecates_eof a) may_end (line_of a Text p) (reply_of a p)
 serve a state.Text p = Some (kind.Statistics, state.Rest)
 serve a state.Fields p = last_step (deprecates_eof a) kind.FieldListColumn state.Fields (line_of a Text p)
 serve a state.Events p = event_step (first_is 0 p) (old_end_of a p)
 serve a state.Refusal p = None
+serve a state.CloneReply p = last_ok state.Clone (reply_of a p)
+serve a state.Clone p = Some (kind.Clone, state.Clone)
+serve a state.Over p = None
 
 -- ---- whose turn it is
+
+-- no exchange runs, and a command may come
+abbrev pub is_idle : State → Bool
+is_idle state.Rest = true
+is_idle _ = false
+
+-- no command comes any more
+abbrev pub is_shut : State → Bool
+is_shut state.Clone = true
+is_shut state.Over = true
+is_shut _ = false
 
 -- no exchange runs
 abbrev pub rests : State → Bool
 rests state.Rest = true
+rests state.Clone = true
+rests state.Over = true
 rests _ = false
 
 -- the client may answer by a packet that is no command
 abbrev pub listens : State → Bool
-listens (state.Authentication is_asked) = is_asked
+listens (state.Authentication login is_asked) = is_asked
 listens (state.Infile r) = true
 listens _ = false
 
 -- the server is to speak, and a packet of the client is not its answer
 abbrev pub is_due : State → Bool
 is_due state.Rest = false
-is_due (state.Authentication true) = false
-is_due (state.Authentication false) = true
+is_due (state.Authentication login true) = false
+is_due (state.Authentication login false) = true
 is_due (state.Infile r) = false
+is_due state.Clone = false
+is_due state.Over = false
 is_due _ = true
 
--- an error in an exchange, or in none
-abbrev pub error_kind : Bool → Kind
-error_kind true = kind.UnaskedError
-error_kind false = kind.Error
+-- an error: in an exchange, of a login, which ends the connection, or in none, which does too
+abbrev pub error_step : State → Option (Kind × State)
+error_step state.Rest = Some (kind.UnaskedError, state.Over)
+error_step (state.Authentication true is_asked) = Some (kind.Error, state.Over)
+error_step state.Over = None
+error_step state.Clone = Some (kind.Clone, state.Clone)
+error_step _ = Some (kind.Error, state.Rest)
+
+-- what begins with ff: a report of progress comes in an exchange alone, and the clone plugin's protocol is its own
+abbrev pub failed : Bool → State → Option (Kind × State)
+failed is_report state.Clone = Some (kind.Clone, state.Clone)
+failed true s = None
+failed false s = error_step s
 
 -- which packet it is, if it is no report of progress, and the state after it
 abbrev pub step : Agreed → State → Side → List ℕ → Option (Kind × State)
 step a s Client p = client_step s p
-step a s Server p = if first_is 0xff p then (if is_report a p then None else Some (error_kind (rests s), state.Rest)) else serve a s p
+step a s Server p = if first_is 0xff p then failed (is_report a p) s else serve a s p
 
 -- from a state the machine takes these packets, answers their kinds, and is in this state then
 abbrev pub StepsTo : Agreed → State → Packet → State → Type 0

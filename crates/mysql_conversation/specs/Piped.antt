@@ -1,12 +1,12 @@
 -- What a pipelined conversation has taken.
-use Rattle.std.specs.Prelude.{◌≡◌, ◌⊎◌, ◌≤◌, ◌-◌, ◌^◌, ◌++◌, ◌∷◌, [], ℕ, List, length, true, Some}
+use Rattle.std.specs.Prelude.{◌≡◌, ◌⊎◌, ◌≤◌, ◌-◌, ◌^◌, ◌++◌, ◌∷◌, [], ℕ, List, length, true, false, Some}
 use Rattle.std.specs.VecDeque.{deque_capacity, deque_len}
 use Rattle.mysql_conversation.specs.Agreements.{Agreed}
 use Rattle.mysql_conversation.specs.KindName.{name_of}
-use Rattle.mysql_conversation.specs.Machine.{is_due, rests}
+use Rattle.mysql_conversation.specs.Machine.{is_due, is_idle}
 use Rattle.mysql_conversation.specs.Taken.{packet}
 use Rattle.mysql_conversation.specs.Pipelined.{Numbered, IsPipelinedBeginning}
-use Rattle.mysql_conversation.specs.Standing.{Standing, standing, start, command_of, PipeRun}
+use Rattle.mysql_conversation.specs.Standing.{Standing, standing, start, quits, command_of, PipeRun}
 use Rattle.mysql_conversation.specs.declared.kind.Kind.{Kind}
 use Rattle.mysql_conversation.specs.declared.kind.Opening.{Opening}
 use Rattle.mysql_conversation.specs.declared.kind.Side.{Side}
@@ -38,9 +38,9 @@ limit c = c.limit
 abbrev pub waiting : Pipeline → ℕ
 waiting c = length c.waiting.items
 
--- the server is to speak, so that a command that comes has to wait
+-- the server is to speak, so that a command that comes has to wait; after COM_QUIT none comes
 abbrev pub MustWait : Pipeline → Type 0
-MustWait c = is_due c.state ≡ true
+MustWait c = (is_due c.state ≡ true) × (quits c.waiting.items ≡ false)
 
 -- as many commands came as a number of eight bytes counts
 abbrev pub CountsNoMore : Pipeline → Type 0
@@ -48,7 +48,7 @@ CountsNoMore c = c.last ≡ 2 ^ 64 - 1
 
 -- no exchange runs, so that a command that comes is answered next
 abbrev pub IsIdle : Pipeline → Type 0
-IsIdle c = rests c.state ≡ true
+IsIdle c = is_idle c.state ≡ true
 
 -- the payload is a command of the client
 abbrev pub IsCommand : Side → List ℕ → Type 0

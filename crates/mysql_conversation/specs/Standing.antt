@@ -1,9 +1,9 @@
 -- The machine with commands that wait.
 use Rattle.mysql_conversation.specs.Runs.{Runs}
 use Rattle.mysql_conversation.specs.Agreements.{Agreed}
-use Rattle.std.specs.Prelude.{◌≡◌, ◌⊎◌, ◌≤◌, ℕ, ◌+◌, ◌-◌, ◌^◌, List, [], ◌∷◌, ◌++◌, length, Bool, true, false, Option, Some, None, ◌&&◌, if◌then◌else◌}
-use Rattle.mysql_conversation.specs.Conversation.{answering}
-use Rattle.mysql_conversation.specs.Machine.{take_step, answers, rests, listens, is_due, entrance}
+use Rattle.std.specs.Prelude.{◌≡◌, ◌⊎◌, ◌≤◌, ℕ, ◌+◌, ◌-◌, ◌^◌, List, [], ◌∷◌, ◌++◌, length, Bool, true, false, Option, Some, None, ◌&&◌, ◌||◌, if◌then◌else◌}
+use Rattle.mysql_conversation.specs.Conversation.{code_of, answering}
+use Rattle.mysql_conversation.specs.Machine.{take_step, answers, is_idle, is_shut, listens, is_due, entrance}
 use Rattle.mysql_conversation.specs.Payloads.{asks_cursor}
 use Rattle.mysql_conversation.specs.declared.kind.Opening.{Opening}
 use Rattle.mysql_conversation.specs.Pipelined.{Numbered}
@@ -14,6 +14,7 @@ use Rattle.mysql_conversation.specs.declared.kind.Side.TheVariants.{Client, Serv
 use Rattle.mysql_conversation.specs.declared.state.State.{State}
 use Rattle.mysql_conversation.specs.declared.state.Command.{Command}
 use Rattle.mysql_conversation.specs.declared.state.Answer.{Answer}
+use Rattle.mysql_conversation.specs.declared.state.Answer.TheVariants as answer
 use Rattle.mysql_conversation.specs.declared.pipeline.Waiting.{Waiting}
 
 -- the state of the exchange that runs, its number, that of the last command, and the commands that wait
@@ -34,8 +35,7 @@ known code (Some answer) = Some (record { code = code; answer = answer })
 
 -- the command that a payload is, if it is one
 abbrev pub command_of : List ℕ → Option Command
-command_of [] = None
-command_of (code ∷ bytes) = known code (answering code (asks_cursor (code ∷ bytes)))
+command_of p = known (code_of p) (answering (code_of p) (asks_cursor p))
 
 abbrev pub kind_of : Command → Kind
 kind_of c = kind.Command c.code
@@ -50,10 +50,21 @@ abbrev pub waits : List Waiting → Bool
 waits [] = false
 waits (n ∷ q) = true
 
+-- it is COM_QUIT, after which the client says no more
+abbrev pub is_quit : Answer → Bool
+is_quit answer.Quit = true
+is_quit _ = false
+
+-- the last that waits is
+abbrev pub quits : List Waiting → Bool
+quits [] = false
+quits (n ∷ []) = is_quit n.command.answer
+quits (n ∷ m ∷ q) = quits (m ∷ q)
+
 -- where an exchange is over, the next begins that waits
 abbrev pub settle : State → ℕ → ℕ → List Waiting → Standing
 settle s i l [] = standing s i l []
-settle s i l (n ∷ q) = if rests s then settle (begin n.command) n.number l q else standing s i l (n ∷ q)
+settle s i l (n ∷ q) = if is_idle s then settle (begin n.command) n.number l q else standing s i l (n ∷ q)
 
 -- ---- the steps
 
@@ -62,11 +73,11 @@ push w c = standing w.state w.number (w.last + 1) (w.waiting ++ wait c (w.last +
 
 abbrev pub early : Standing → Option Command → Option (Kind × ℕ × Standing)
 early w None = None
-early w (Some c) = Some (kind_of c, w.last + 1, push w c)
+early w (Some c) = if quits w.waiting then None else Some (kind_of c, w.last + 1, push w c)
 
--- there is a command, for which there is no place
+-- there is a command that may come, for which there is no place
 abbrev pub IsFullOf : (limit : ℕ) (last : ℕ) → List Waiting → Option Command → Type 0
-IsFullOf limit last q c = (command : Command) × (c ≡ Some command) × ((limit ≤ length q) ⊎ (last ≡ 2 ^ 64 - 1))
+IsFullOf limit last q c = (command : Command) × (c ≡ Some command) × (quits q ≡ false) × ((limit ≤ length q) ⊎ (last ≡ 2 ^ 64 - 1))
 
 -- a packet that is no command stands after all commands that came
 abbrev pub aside : Standing → Option (Kind × State) → Option Command → Option (Kind × ℕ × Standing)
@@ -76,13 +87,13 @@ aside w (Some (k, m)) c = if waits w.waiting then None else Some (k, w.number, s
 abbrev pub in_turn : Standing → Option (Kind × State) → Option (Kind × ℕ × Standing)
 in_turn w None = None
 in_turn w (Some (k, m)) =
-    if rests w.state then Some (k, w.last + 1, standing m (w.last + 1) (w.last + 1) w.waiting)
+    if is_idle w.state then Some (k, w.last + 1, standing m (w.last + 1) (w.last + 1) w.waiting)
     else Some (k, w.number, standing m w.number w.last w.waiting)
 
--- nothing is asked of the client where its next packets are commands that came
+-- nothing is asked of the client where its next packets are commands that came, and the connection doesn't end before they are answered
 abbrev pub served : Standing → Option (Kind × State) → Option (Kind × ℕ × Standing)
 served w None = None
-served w (Some (k, m)) = if listens m && waits w.waiting then None else Some (k, w.number, settle m w.number w.last w.waiting)
+served w (Some (k, m)) = if (listens m || is_shut m) && waits w.waiting then None else Some (k, w.number, settle m w.number w.last w.waiting)
 
 -- which packet it is, the number of its exchange, and how it stands after it
 abbrev pub pipe_step : Agreed → Standing → Side → List ℕ → Option (Kind × ℕ × Standing)

@@ -77,6 +77,18 @@ fn at_definitions(opening: Opening, place: u8, definitions: u64, after: After) -
     state
 }
 
+/// Of a change of user, or of a login.
+fn asked_number(is_login: bool, is_asked: bool) -> u8
+    ensures value { result ≡ spec.asked_number is_login is_asked }
+{
+    match (is_login, is_asked) {
+        (false, false) => 0,
+        (false, true) => 1,
+        (true, false) => 2,
+        (true, true) => 3,
+    }
+}
+
 /// The numbers of a state.
 pub(crate) fn numbers_of(opening: Opening, state: State) -> ConversationState
     ensures opening { result.opening ≡ opening }
@@ -85,7 +97,9 @@ pub(crate) fn numbers_of(opening: Opening, state: State) -> ConversationState
 {
     match state {
         State::Rest => at(opening, 0, 0),
-        State::Authentication(is_asked) => at(opening, 1, u8::from(is_asked)),
+        State::Authentication(is_login, is_asked) => {
+            at(opening, 1, asked_number(is_login, is_asked))
+        }
         State::Reply(request) => at(opening, 2, number_of(request)),
         State::Infile(request) => at(opening, 3, number_of(request)),
         State::InfileReply(request) => at(opening, 4, number_of(request)),
@@ -94,11 +108,14 @@ pub(crate) fn numbers_of(opening: Opening, state: State) -> ConversationState
         State::Rows(request) => at(opening, 7, number_of(request)),
         State::Prepared => at(opening, 8, 0),
         State::Fetch => at(opening, 9, 0),
-        State::Acknowledgement => at(opening, 10, 0),
+        State::Acknowledgement(may_end) => at(opening, 10, u8::from(may_end)),
         State::Text => at(opening, 11, 0),
         State::Fields => at(opening, 12, 0),
         State::Events => at(opening, 13, 0),
         State::Refusal => at(opening, 14, 0),
+        State::CloneReply => at(opening, 15, 0),
+        State::Clone => at(opening, 16, 0),
+        State::Over => at(opening, 17, 0),
     }
 }
 
@@ -113,13 +130,24 @@ fn request_at(number: u8) -> Option<Request>
     }
 }
 
-/// Whether something was asked for.
-fn is_asked_at(number: u8) -> Option<bool>
-    ensures { result ≡ spec.is_asked_at number }
+fn truth_at(number: u8) -> Option<bool>
+    ensures { result ≡ spec.truth_at number }
 {
     match number {
         0 => Some(false),
         1 => Some(true),
+        _ => None,
+    }
+}
+
+fn authentication_at(number: u8) -> Option<State>
+    ensures { result ≡ spec.authentication_at number }
+{
+    match number {
+        0 => Some(State::Authentication(false, false)),
+        1 => Some(State::Authentication(false, true)),
+        2 => Some(State::Authentication(true, false)),
+        3 => Some(State::Authentication(true, true)),
         _ => None,
     }
 }
@@ -142,7 +170,7 @@ pub(crate) fn state_at(numbers: &ConversationState) -> Option<State>
 {
     match numbers.place {
         0 => Some(State::Rest),
-        1 => is_asked_at(numbers.request).map(State::Authentication),
+        1 => authentication_at(numbers.request),
         2 => request_at(numbers.request).map(State::Reply),
         3 => request_at(numbers.request).map(State::Infile),
         4 => request_at(numbers.request).map(State::InfileReply),
@@ -154,11 +182,14 @@ pub(crate) fn state_at(numbers: &ConversationState) -> Option<State>
         7 => request_at(numbers.request).map(State::Rows),
         8 => Some(State::Prepared),
         9 => Some(State::Fetch),
-        10 => Some(State::Acknowledgement),
+        10 => truth_at(numbers.request).map(State::Acknowledgement),
         11 => Some(State::Text),
         12 => Some(State::Fields),
         13 => Some(State::Events),
         14 => Some(State::Refusal),
+        15 => Some(State::CloneReply),
+        16 => Some(State::Clone),
+        17 => Some(State::Over),
         _ => None,
     }
 }

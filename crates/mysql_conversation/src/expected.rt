@@ -8,7 +8,7 @@ use crate::agreed::{asks_factors, deprecates_eof, reports_progress};
 use crate::kind::Side;
 use crate::kind_name::KindName;
 use crate::state::{Request, State};
-use crate::step::{is_due, rests};
+use crate::step::is_due;
 use mysql_replies::SessionCapabilities;
 
 /// Of the client.
@@ -17,9 +17,10 @@ fn is_sent(state: &State, name: KindName) -> bool
 {
     match *state {
         State::Rest => matches!(name, KindName::Command),
-        State::Authentication(true) => matches!(name, KindName::AuthData),
+        State::Authentication(_, true) => matches!(name, KindName::AuthData),
         State::Infile(_) => matches!(name, KindName::InfileContent | KindName::InfileEnd),
         State::Events => matches!(name, KindName::SemiSyncAck),
+        State::Clone => matches!(name, KindName::Clone),
         _ => false,
     }
 }
@@ -65,8 +66,8 @@ fn is_served(agreed: SessionCapabilities, state: &State, name: KindName) -> bool
 {
     let ends = is_end(deprecates_eof(agreed), name);
     match *state {
-        State::Rest | State::Infile(_) | State::Refusal => false,
-        State::Authentication(_) => {
+        State::Rest | State::Infile(_) | State::Refusal | State::Clone | State::Over => false,
+        State::Authentication(_, _) => {
             matches!(name, KindName::Ok) || is_asked(asks_factors(agreed), name)
         }
         State::Reply(_) => matches!(
@@ -79,21 +80,36 @@ fn is_served(agreed: SessionCapabilities, state: &State, name: KindName) -> bool
         State::Rows(request) => is_row(request, name) || ends,
         State::Prepared => matches!(name, KindName::PrepareOk),
         State::Fetch => matches!(name, KindName::BinaryRow) || ends,
-        State::Acknowledgement => matches!(name, KindName::Ok) || ends,
+        State::Acknowledgement(may_end) => matches!(name, KindName::Ok) || (may_end && ends),
+        State::CloneReply => matches!(name, KindName::Ok),
         State::Text => matches!(name, KindName::Statistics),
         State::Fields => matches!(name, KindName::FieldListColumn) || ends,
         State::Events => matches!(name, KindName::BinlogEvent | KindName::Eof),
     }
 }
 
-/// Whether an error is so named, between two exchanges or in one.
-fn is_error(rests: bool, name: KindName) -> bool
-    ensures { result ≡ index name == index (spec.error_name rests) }
+/// What begins with `ff`, and is no report of progress.
+fn is_error(state: &State, name: KindName) -> bool
+    ensures { result ≡ is_in name (spec.error_names state.now) }
 {
-    if rests {
-        matches!(name, KindName::UnaskedError)
-    } else {
-        matches!(name, KindName::Error)
+    match *state {
+        State::Rest => matches!(name, KindName::UnaskedError),
+        State::Clone => matches!(name, KindName::Clone),
+        State::Over => false,
+        _ => matches!(name, KindName::Error),
+    }
+}
+
+/// Whether no command comes any more after such a packet of the server.
+pub(crate) fn shuts(state: &State, name: KindName) -> bool
+    ensures { result ≡ is_in name (spec.shutting_names state.now) }
+{
+    match *state {
+        State::Rest => matches!(name, KindName::UnaskedError),
+        State::Authentication(true, _) => matches!(name, KindName::Error),
+        State::CloneReply => matches!(name, KindName::Ok),
+        State::Clone => matches!(name, KindName::Clone),
+        _ => false,
     }
 }
 
@@ -111,7 +127,7 @@ pub(crate) fn expects(
         Side::Client => is_sent(state, name),
         Side::Server => {
             let reports = reports_progress(agreed) && is_due(state);
-            is_error(rests(state), name)
+            is_error(state, name)
                 || (reports && matches!(name, KindName::ProgressReport))
                 || is_served(agreed, state, name)
         }

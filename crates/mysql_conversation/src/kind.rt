@@ -75,6 +75,8 @@ pub enum Kind {
     BinlogEvent,
     /// A replica's acknowledgement of an event.
     SemiSyncAck,
+    /// After `COM_CLONE`, a packet of the clone plugin's own protocol, of either side.
+    Clone,
 }
 
 /// A packet that doesn't come here.

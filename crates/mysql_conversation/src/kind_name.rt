@@ -37,6 +37,8 @@ pub enum KindName {
     Statistics,
     BinlogEvent,
     SemiSyncAck,
+    /// After `COM_CLONE`, a packet of the clone plugin's own protocol.
+    Clone,
 }
 
 impl KindName {
@@ -70,6 +72,7 @@ impl KindName {
         KindName::Statistics,
         KindName::BinlogEvent,
         KindName::SemiSyncAck,
+        KindName::Clone,
     ];
 
     /// Its place among all of them, from 0 on.
@@ -113,6 +116,7 @@ impl KindName {
             KindName::Statistics => "statistics",
             KindName::BinlogEvent => "binlog_event",
             KindName::SemiSyncAck => "semi_sync_ack",
+            KindName::Clone => "clone",
         }
     }
 }
@@ -151,6 +155,7 @@ impl Kind {
             Kind::Statistics => KindName::Statistics,
             Kind::BinlogEvent => KindName::BinlogEvent,
             Kind::SemiSyncAck => KindName::SemiSyncAck,
+            Kind::Clone => KindName::Clone,
         }
     }
 }

@@ -281,16 +281,31 @@ fn answering(code: u8, cursor: bool) -> Option<Answer>
         0xfa => Some(Answer::Results(Request::Execution)),
         0x16 => Some(Answer::Prepared),
         0x1c => Some(Answer::Rows),
-        0x19 | 0x18 | 0x01 => Some(Answer::Nothing),
-        0x0e | 0x02 | 0x1a | 0x1b | 0x1f | 0x05 | 0x06 | 0x07 | 0x08 | 0x0c | 0x0d | 0x15 => {
-            Some(Answer::Acknowledgement)
+        0x19 | 0x18 => Some(Answer::Nothing),
+        0x01 => Some(Answer::Quit),
+        0x0e | 0x02 | 0x1a | 0x1f | 0x05 | 0x06 | 0x07 | 0x0c | 0x15 => {
+            Some(Answer::Acknowledgement(false))
         }
+        // (`my_eof` in MySQL's `dispatch_command`)
+        0x1b | 0x08 | 0x0d => Some(Answer::Acknowledgement(true)),
         0x09 => Some(Answer::Text),
         0x04 => Some(Answer::Fields),
         0x11 => Some(Answer::Authentication),
         0x12 | 0x1e => Some(Answer::Events),
+        0x20 => Some(Answer::Clone),
         0xef => None,
         _ => Some(Answer::Refusal),
+    }
+}
+
+/// The first byte of a command: a server takes an empty packet for `COM_SLEEP`.
+#[inline(always)]
+fn code_of(payload: &[u8]) -> u8
+    ensures { result ≡ grammar.code_of payload.now }
+{
+    match payload.first() {
+        Some(code) => *code,
+        None => 0,
     }
 }
 
@@ -299,7 +314,7 @@ fn answering(code: u8, cursor: bool) -> Option<Answer>
 pub(crate) fn command_of(payload: &[u8]) -> Option<Command>
     ensures { result ≡ standing.command_of payload.now }
 {
-    let code = *payload.first()?;
+    let code = code_of(payload);
     let answer = answering(code, asks_cursor(payload))?;
     Some(Command { code, answer })
 }

@@ -7,12 +7,14 @@ ghost use Rattle.mysql_conversation.specs.Standing as spec;
 ghost use Rattle.mysql_conversation.specs.Expected.{pipe_expects};
 ghost use Rattle.mysql_conversation.specs.Piped.{stands};
 
-use crate::expected::{asks, expects};
+use crate::expected::{asks, expects, shuts};
 use crate::kind::{Kind, Opening, Side};
 use crate::kind_name::KindName;
 use crate::payload::command_of;
-use crate::state::{Command, State};
-use crate::step::{answers, entrance, is_due, listens, rests, take_sent, take_step};
+use crate::state::{Answer, Command, State};
+use crate::step::{
+    answers, entrance, is_due, is_idle, is_shut, listens, rests, take_sent, take_step,
+};
 use mysql_replies::SessionCapabilities;
 use std::alloc::Global;
 use std::collections::VecDeque;
@@ -46,6 +48,17 @@ fn waits(waiting: &VecDeque<Waiting>) -> bool
 {
     match waiting.front() {
         Some(_) => true,
+        None => false,
+    }
+}
+
+/// Whether the last command that waits is `COM_QUIT`.
+#[inline(always)]
+fn quits(waiting: &VecDeque<Waiting>) -> bool
+    ensures { result ≡ spec.quits waiting.now.items }
+{
+    match waiting.back() {
+        Some(last) => matches!(last.command.answer, Answer::Quit),
         None => false,
     }
 }
@@ -127,10 +140,13 @@ impl Pipeline {
     {
         let comes = expects(self.agreed, &self.state, from, name);
         match from {
-            Side::Server => comes && !(waits(&self.waiting) && asks(name)),
+            Side::Server => {
+                comes && !(waits(&self.waiting) && (asks(name) || shuts(&self.state, name)))
+            }
             Side::Client => {
                 if is_due(&self.state) {
-                    (comes && !waits(&self.waiting)) || matches!(name, KindName::Command)
+                    (comes && !waits(&self.waiting))
+                        || (matches!(name, KindName::Command) && !quits(&self.waiting))
                 } else {
                     comes
                 }
@@ -146,7 +162,7 @@ impl Pipeline {
         ensures opening { self.new.opening ≡ self.old.opening }
         ensures limit { self.new.limit ≡ self.old.limit }
     {
-        while rests(&self.state) {
+        while is_idle(&self.state) {
             match self.waiting.pop_front() {
                 Some(next) => {
                     self.state = answers(next.command.answer);
@@ -194,7 +210,7 @@ impl Pipeline {
         ensures full { (result ≡ Err refusal.Full) ↔ piped.IsFull self.old side.Client payload.now }
         ensures asked { IfErr result (λ why. why ≡ refusal.Memory → piped.IsCommand side.Client payload.now) }
         ensures capacity { self.old.limit ≤ length self.old.waiting.items → piped.capacity self.new ≡ piped.capacity self.old }
-        ensures memory { IfErr result (λ why. why ≡ refusal.Memory → (machine.is_due self.old.state ≡ true) × (length self.old.waiting.items < self.old.limit) × (deque_capacity self.old.waiting ≤ deque_len self.old.waiting)) }
+        ensures memory { IfErr result (λ why. why ≡ refusal.Memory → piped.MustWait self.old × (length self.old.waiting.items < self.old.limit) × (deque_capacity self.old.waiting ≤ deque_len self.old.waiting)) }
         ensures comes { IfErr result (λ why. why ≢ refusal.Unexpected → spec.pipe_step self.old.agreed (stands self.old) side.Client payload.now ≢ None) }
         ensures ours { IfErr result (λ why. (why ≢ refusal.Encrypted) × (why ≢ refusal.Compressed)) }
         ensures err { OnErr result (stands self.new ≡ stands self.old) }
@@ -213,7 +229,7 @@ impl Pipeline {
         let Ok(kind) = taken else {
             return Err(Refusal::Unexpected);
         };
-        if rests(&self.state) {
+        if is_idle(&self.state) {
             let Some(number) = self.last.checked_add(1) else {
                 return Err(Refusal::Full);
             };
@@ -248,7 +264,7 @@ impl Pipeline {
         ensures full { (result ≡ Err refusal.Full) ↔ spec.IsFullOf self.old.limit self.old.last self.old.waiting.items (spec.command_of payload.now) }
         ensures asked { IfErr result (λ why. why ≡ refusal.Memory → piped.IsCommand side.Client payload.now) }
         ensures capacity { self.old.limit ≤ length self.old.waiting.items → piped.capacity self.new ≡ piped.capacity self.old }
-        ensures memory { IfErr result (λ why. why ≡ refusal.Memory → (length self.old.waiting.items < self.old.limit) × (deque_capacity self.old.waiting ≤ deque_len self.old.waiting)) }
+        ensures memory { IfErr result (λ why. why ≡ refusal.Memory → (spec.quits self.old.waiting.items ≡ false) × (length self.old.waiting.items < self.old.limit) × (deque_capacity self.old.waiting ≤ deque_len self.old.waiting)) }
         ensures comes { IfErr result (λ why. why ≢ refusal.Unexpected → spec.early (stands self.old) (spec.command_of payload.now) ≢ None) }
         ensures ours { IfErr result (λ why. (why ≢ refusal.Encrypted) × (why ≢ refusal.Compressed)) }
         ensures err { OnErr result (stands self.new ≡ stands self.old) }
@@ -259,6 +275,9 @@ impl Pipeline {
         let Some(command) = command_of(payload) else {
             return Err(Refusal::Unexpected);
         };
+        if quits(&self.waiting) {
+            return Err(Refusal::Unexpected);
+        }
         if self.waiting.len() >= self.limit {
             return Err(Refusal::Full);
         }
@@ -287,7 +306,7 @@ impl Pipeline {
         let Ok(kind) = taken else {
             return Err(Refusal::Unexpected);
         };
-        if listens(&state) && waits(&self.waiting) {
+        if (listens(&state) || is_shut(&state)) && waits(&self.waiting) {
             return Err(Refusal::Unexpected);
         }
         let number = self.number;

@@ -299,24 +299,39 @@ pub(crate) fn prepared_step(
     Some(Kind::PrepareOk(columns, params, follow))
 }
 
-/// An OK packet, or an end.
+/// An OK packet, after which no more results come.
+#[inline(always)]
+pub(crate) fn last_ok(state: &mut State, next: State, reply: Option<Reply>) -> Option<Kind>
+    ensures some { IfSome result (λ kind. spec.last_ok next reply ≡ Some (kind, state.new)) }
+    ensures none { IfNone result ((spec.last_ok next reply ≡ None) × (state.new ≡ state.old)) }
+{
+    match reply? {
+        Reply::Ok(false) => {
+            *state = next;
+            Some(Kind::Ok)
+        }
+        _ => None,
+    }
+}
+
+/// An OK packet; or an end, where the server may say so.
 #[inline(always)]
 pub(crate) fn acknowledgement_step(
     state: &mut State,
     deprecates: bool,
+    may_end: bool,
     line: Option<Line>,
     reply: Option<Reply>,
 ) -> Option<Kind>
-    ensures some { IfSome result (λ kind. spec.acknowledgement_step deprecates line reply ≡ Some (kind, state.new)) }
-    ensures none { IfNone result ((spec.acknowledgement_step deprecates line reply ≡ None) × (state.new ≡ state.old)) }
+    ensures some { IfSome result (λ kind. spec.acknowledgement_step deprecates may_end line reply ≡ Some (kind, state.new)) }
+    ensures none { IfNone result ((spec.acknowledgement_step deprecates may_end line reply ≡ None) × (state.new ≡ state.old)) }
 {
-    let kind = match line? {
-        Line::End(_) => ending(deprecates),
-        Line::Row => match reply? {
-            Reply::Ok(_) => Kind::Ok,
-            _ => return None,
-        },
-    };
-    *state = State::Rest;
-    Some(kind)
+    match line? {
+        Line::Row => last_ok(state, State::Rest, reply),
+        Line::End(false) if may_end => {
+            *state = State::Rest;
+            Some(ending(deprecates))
+        }
+        Line::End(_) => None,
+    }
 }

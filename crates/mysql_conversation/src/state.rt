@@ -25,8 +25,8 @@ pub(crate) enum Answer {
     Prepared,
     /// Rows of a cursor.
     Rows,
-    /// An OK packet or an end.
-    Acknowledgement,
+    /// An OK packet; or an end, where the server may say so.
+    Acknowledgement(bool),
     /// A text.
     Text,
     /// Definitions of fields, and an end.
@@ -37,6 +37,10 @@ pub(crate) enum Answer {
     Events,
     /// Nothing.
     Nothing,
+    /// Nothing, and no packet comes any more.
+    Quit,
+    /// An OK packet, and then the clone plugin's own protocol.
+    Clone,
     /// An error: no server knows the command.
     Refusal,
 }
@@ -66,8 +70,8 @@ pub(crate) enum After {
 pub(crate) enum State {
     /// A command.
     Rest,
-    /// A packet of authentication: of the server, and if it asked for something, of the client too.
-    Authentication(bool),
+    /// A packet of authentication, of a login or of a change of user: of the server, and if it asked for something, of the client too.
+    Authentication(bool, bool),
     /// The first packet of a result.
     Reply(Request),
     /// A part of a file, or its end.
@@ -84,8 +88,8 @@ pub(crate) enum State {
     Prepared,
     /// A row of a cursor, or the end.
     Fetch,
-    /// An OK packet or an end.
-    Acknowledgement,
+    /// An OK packet; or an end, where the server may say so.
+    Acknowledgement(bool),
     /// A text.
     Text,
     /// The definition of a field, or the end.
@@ -94,6 +98,12 @@ pub(crate) enum State {
     Events,
     /// An error.
     Refusal,
+    /// The OK packet that answers `COM_CLONE`.
+    CloneReply,
+    /// A packet of the clone plugin's own protocol, of either side.
+    Clone,
+    /// Nothing: the connection is over.
+    Over,
 }
 
 /// What the first packet of a result is, if it is no error.

@@ -8,12 +8,12 @@ ghost use Rattle.mysql_conversation.specs.declared.kind.Side.TheVariants.{Client
 use crate::agreed::deprecates_eof;
 use crate::kind::{Format, Kind, Opening, Side, Unexpected};
 use crate::payload::{
-    authentication_kind, command_of, first_is, is_report, is_row_by_first, line_of, ok_status,
-    old_end_of, reply_of,
+    authentication_kind, command_of, first_is, has_more, is_report, is_row_by_first, line_of,
+    ok_status, old_end_of, reply_of,
 };
 use crate::results::{
-    acknowledgement_step, definitions_end_step, event_step, infile_reply_step, last_step, less,
-    line_step, prepared_step, reply_step,
+    acknowledgement_step, definitions_end_step, event_step, infile_reply_step, last_ok, last_step,
+    less, line_step, prepared_step, reply_step,
 };
 use crate::state::{Answer, Request, State, format_of};
 use mysql_replies::SessionCapabilities;
@@ -25,7 +25,7 @@ pub(crate) fn entrance(opening: Opening) -> State
     ensures { result ≡ spec.entrance opening }
 {
     match opening {
-        Opening::Login => State::Authentication(false),
+        Opening::Login => State::Authentication(true, false),
         Opening::Commands => State::Rest,
     }
 }
@@ -39,12 +39,14 @@ pub(crate) fn answers(answer: Answer) -> State
         Answer::Results(request) => State::Reply(request),
         Answer::Prepared => State::Prepared,
         Answer::Rows => State::Fetch,
-        Answer::Acknowledgement => State::Acknowledgement,
+        Answer::Acknowledgement(may_end) => State::Acknowledgement(may_end),
         Answer::Text => State::Text,
         Answer::Fields => State::Fields,
-        Answer::Authentication => State::Authentication(false),
+        Answer::Authentication => State::Authentication(false, false),
         Answer::Events => State::Events,
         Answer::Nothing => State::Rest,
+        Answer::Quit => State::Over,
+        Answer::Clone => State::CloneReply,
         Answer::Refusal => State::Refusal,
     }
 }
@@ -78,12 +80,12 @@ fn infile_step(state: &mut State, request: Request, payload: &[u8]) -> Option<Ki
 
 /// What the client answers while it logs in.
 #[inline(always)]
-fn answer_step(state: &mut State, asked: bool) -> Option<Kind>
-    ensures some { IfSome result (λ kind. spec.answer_step asked ≡ Some (kind, state.new)) }
-    ensures none { IfNone result ((spec.answer_step asked ≡ None) × (state.new ≡ state.old)) }
+fn answer_step(state: &mut State, is_login: bool, asked: bool) -> Option<Kind>
+    ensures some { IfSome result (λ kind. spec.answer_step is_login asked ≡ Some (kind, state.new)) }
+    ensures none { IfNone result ((spec.answer_step is_login asked ≡ None) × (state.new ≡ state.old)) }
 {
     if asked {
-        *state = State::Authentication(false);
+        *state = State::Authentication(is_login, false);
         Some(Kind::AuthData)
     } else {
         None
@@ -112,9 +114,10 @@ fn client_step(state: &mut State, payload: &[u8]) -> Option<Kind>
 {
     match *state {
         State::Rest => command_step(state, payload),
-        State::Authentication(asked) => answer_step(state, asked),
+        State::Authentication(is_login, asked) => answer_step(state, is_login, asked),
         State::Infile(request) => infile_step(state, request, payload),
         State::Events => ack_step(state, payload),
+        State::Clone => Some(Kind::Clone),
         _ => None,
     }
 }
@@ -125,21 +128,20 @@ fn authentication_step(
     alloc: Global,
     agreed: SessionCapabilities,
     state: &mut State,
+    is_login: bool,
     payload: &[u8],
 ) -> Option<Kind>
-    ensures some { IfSome result (λ kind. spec.authentication_step agreed payload.now (spec.ok_status agreed payload.now) ≡ Some (kind, state.new)) }
-    ensures none { IfNone result ((spec.authentication_step agreed payload.now (spec.ok_status agreed payload.now) ≡ None) × (state.new ≡ state.old)) }
+    ensures some { IfSome result (λ kind. spec.authentication_step agreed is_login payload.now (spec.ok_status agreed payload.now) ≡ Some (kind, state.new)) }
+    ensures none { IfNone result ((spec.authentication_step agreed is_login payload.now (spec.ok_status agreed payload.now) ≡ None) × (state.new ≡ state.old)) }
 {
     if first_is(0, payload) {
-        return match ok_status(alloc, agreed, payload) {
-            Some(_) => {
-                *state = State::Rest;
-                Some(Kind::Ok)
-            }
-            None => None,
-        };
+        if has_more(ok_status(alloc, agreed, payload)?) {
+            return None;
+        }
+        *state = State::Rest;
+        return Some(Kind::Ok);
     }
-    *state = State::Authentication(true);
+    *state = State::Authentication(is_login, true);
     Some(authentication_kind(agreed, payload))
 }
 
@@ -156,8 +158,10 @@ fn serve(
 {
     let deprecates = deprecates_eof(agreed);
     match *state {
-        State::Rest | State::Infile(_) | State::Refusal => None,
-        State::Authentication(_) => authentication_step(alloc, agreed, state, payload),
+        State::Rest | State::Infile(_) | State::Refusal | State::Over => None,
+        State::Authentication(is_login, _) => {
+            authentication_step(alloc, agreed, state, is_login, payload)
+        }
         State::Reply(request) => {
             reply_step(state, deprecates, request, reply_of(alloc, agreed, payload))
         }
@@ -184,9 +188,10 @@ fn serve(
             Kind::Row(Format::Binary),
             line_of(alloc, agreed, Format::Binary, payload),
         ),
-        State::Acknowledgement => acknowledgement_step(
+        State::Acknowledgement(may_end) => acknowledgement_step(
             state,
             deprecates,
+            may_end,
             line_of(alloc, agreed, Format::Text, payload),
             reply_of(alloc, agreed, payload),
         ),
@@ -201,7 +206,25 @@ fn serve(
             line_of(alloc, agreed, Format::Text, payload),
         ),
         State::Events => event_step(alloc, agreed, state, payload),
+        State::CloneReply => last_ok(state, State::Clone, reply_of(alloc, agreed, payload)),
+        State::Clone => Some(Kind::Clone),
     }
+}
+
+/// Whether no exchange runs, and a command may come.
+#[inline(always)]
+pub(crate) fn is_idle(state: &State) -> bool
+    ensures { result ≡ spec.is_idle state.now }
+{
+    matches!(state, State::Rest)
+}
+
+/// Whether no command comes any more.
+#[inline(always)]
+pub(crate) fn is_shut(state: &State) -> bool
+    ensures { result ≡ spec.is_shut state.now }
+{
+    matches!(state, State::Clone | State::Over)
 }
 
 /// Whether no exchange runs.
@@ -209,7 +232,7 @@ fn serve(
 pub(crate) fn rests(state: &State) -> bool
     ensures { result ≡ spec.rests state.now }
 {
-    matches!(state, State::Rest)
+    matches!(state, State::Rest | State::Clone | State::Over)
 }
 
 /// Whether the client may answer by a packet that is no command.
@@ -218,7 +241,7 @@ pub(crate) fn listens(state: &State) -> bool
     ensures { result ≡ spec.listens state.now }
 {
     match state {
-        State::Authentication(asked) => *asked,
+        State::Authentication(_, asked) => *asked,
         State::Infile(_) => true,
         _ => false,
     }
@@ -230,21 +253,33 @@ pub(crate) fn is_due(state: &State) -> bool
     ensures { result ≡ spec.is_due state.now }
 {
     match state {
-        State::Authentication(asked) => !*asked,
-        State::Rest | State::Infile(_) => false,
+        State::Authentication(_, asked) => !*asked,
+        State::Rest | State::Infile(_) | State::Clone | State::Over => false,
         _ => true,
     }
 }
 
-/// An error in an exchange, or in none.
+/// An error: in an exchange, of a login, which ends the connection, or in none, which does too.
 #[inline(always)]
-fn error_kind(rests: bool) -> Kind
-    ensures { result ≡ spec.error_kind rests }
+fn error_step(state: &mut State) -> Option<Kind>
+    ensures some { IfSome result (λ kind. spec.error_step state.old ≡ Some (kind, state.new)) }
+    ensures none { IfNone result ((spec.error_step state.old ≡ None) × (state.new ≡ state.old)) }
 {
-    if rests {
-        Kind::UnaskedError
-    } else {
-        Kind::Error
+    match *state {
+        State::Over => None,
+        State::Clone => Some(Kind::Clone),
+        State::Rest => {
+            *state = State::Over;
+            Some(Kind::UnaskedError)
+        }
+        State::Authentication(true, _) => {
+            *state = State::Over;
+            Some(Kind::Error)
+        }
+        _ => {
+            *state = State::Rest;
+            Some(Kind::Error)
+        }
     }
 }
 
@@ -262,15 +297,13 @@ fn server_step(
 {
     if first_is(0xff, payload) {
         if is_report(agreed, payload) {
-            return if is_due(state) {
-                Some(Kind::ProgressReport)
-            } else {
-                None
+            return match state {
+                State::Clone => Some(Kind::Clone),
+                _ if is_due(state) => Some(Kind::ProgressReport),
+                _ => None,
             };
         }
-        let kind = error_kind(rests(state));
-        *state = State::Rest;
-        return Some(kind);
+        return error_step(state);
     }
     serve(alloc, agreed, state, payload)
 }
