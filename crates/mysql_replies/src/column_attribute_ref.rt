@@ -1,7 +1,7 @@
 //! An attribute of a column, where it lies.
 #![tactic(auto, using(mysql_wire::proofs::Packets::packets), unfolding(crate::specs::ColumnAttribute::column_attribute))]
 
-ghost use Rattle.std.specs.Prelude.{◌≡◌, None, refl};
+ghost use Rattle.std.specs.Prelude.{◌≡◌, None, refl, ⊤};
 ghost use Rattle.mysql_replies.specs.ColumnAttribute as spec;
 ghost use Rattle.mysql_replies.specs.declared.column_attribute.ColumnAttribute.{ColumnAttribute};
 ghost use Rattle.mysql_replies.specs.ColumnAttribute.{attribute_of};
@@ -57,6 +57,8 @@ impl<'a> ColumnAttributeRef<'a> {
 
 impl Clone for ColumnAttributeRef<'_> {
     ghost is_clone = { λ a copy. copy ≡ a };
+
+    ghost is_infallible = { λ _. ⊤ };
 
     fn clone(&self) -> Result<Self, AllocError> {
         Ok(ColumnAttributeRef {

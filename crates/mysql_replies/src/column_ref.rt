@@ -1,7 +1,7 @@
 //! A column of a result that stays in its packet.
 #![tactic(auto, using(mysql_wire::proofs::Packets::packets), unfolding(crate::specs::Column::column, crate::specs::ColumnNames::column_meta))]
 
-ghost use Rattle.std.specs.Prelude.{◌≡◌, None, refl, IfOk, IfErr, IsTrue};
+ghost use Rattle.std.specs.Prelude.{◌≡◌, None, refl, IfOk, IfErr, IsTrue, ⊤};
 ghost use Rattle.mysql_replies.specs.Column as spec;
 ghost use Rattle.mysql_replies.specs.ColumnNames.{has_a_name};
 ghost use Rattle.mysql_replies.specs.declared.column.Column.{Column};
@@ -144,6 +144,8 @@ impl<'a> ColumnRef<'a> {
 
 impl Clone for ColumnRef<'_> {
     ghost is_clone = { λ c copy. copy ≡ c };
+
+    ghost is_infallible = { λ _. ⊤ };
 
     fn clone(&self) -> Result<Self, AllocError> {
         Ok(ColumnRef {

@@ -1,7 +1,7 @@
 //! A column of a result with extended metadata that stays in its packet.
 #![tactic(auto, using(mysql_wire::proofs::Packets::packets), unfolding(crate::specs::ExtendedColumn::extended_column))]
 
-ghost use Rattle.std.specs.Prelude.{◌≡◌, None, refl, IfOk, OnErr, IsTrue, option_map};
+ghost use Rattle.std.specs.Prelude.{◌≡◌, None, refl, IfOk, OnErr, IsTrue, option_map, ⊤};
 ghost use Rattle.mysql_replies.specs.ExtendedColumn as spec;
 ghost use Rattle.mysql_replies.specs.declared.extended_column.ExtendedColumn.{ExtendedColumn};
 ghost use Rattle.mysql_replies.specs.ExtendedColumn.{extended};
@@ -88,6 +88,8 @@ impl<'a> ExtendedColumnRef<'a> {
 
 impl Clone for ExtendedColumnRef<'_> {
     ghost is_clone = { λ c copy. copy ≡ c };
+
+    ghost is_infallible = { λ _. ⊤ };
 
     fn clone(&self) -> Result<Self, AllocError> {
         Ok(ExtendedColumnRef {

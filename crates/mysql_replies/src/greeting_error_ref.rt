@@ -1,7 +1,7 @@
 //! An error in place of the greeting that stays in its packet.
 #![tactic(auto, using(mysql_wire::proofs::Packets::packets), unfolding(crate::specs::GreetingError::greeting_error))]
 
-ghost use Rattle.std.specs.Prelude.{◌≡◌, None, refl};
+ghost use Rattle.std.specs.Prelude.{◌≡◌, None, refl, ⊤};
 ghost use Rattle.mysql_replies.specs.GreetingError as spec;
 ghost use Rattle.mysql_replies.specs.declared.greeting_error.GreetingError.{GreetingError};
 ghost use Rattle.mysql_replies.specs.GreetingError.{greeting_error_of};
@@ -54,6 +54,8 @@ fn begins_with_state(buf: &ParseBuf<'_>) -> bool
 
 impl Clone for GreetingErrorRef<'_> {
     ghost is_clone = { λ x copy. copy ≡ x };
+
+    ghost is_infallible = { λ _. ⊤ };
 
     fn clone(&self) -> Result<Self, AllocError> {
         Ok(GreetingErrorRef(self.0.clone()?))

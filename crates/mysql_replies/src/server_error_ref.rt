@@ -1,7 +1,7 @@
 //! An error that a server reports and that stays in its packet.
 #![tactic(auto, using(mysql_wire::proofs::Packets::packets), unfolding(crate::specs::ServerError::server_error))]
 
-ghost use Rattle.std.specs.Prelude.{◌≡◌, None, refl, option_map};
+ghost use Rattle.std.specs.Prelude.{◌≡◌, None, refl, option_map, ⊤};
 ghost use Rattle.mysql_replies.specs.ServerError as spec;
 ghost use Rattle.mysql_replies.specs.SqlState.{state_bytes};
 ghost use Rattle.mysql_replies.specs.declared.server_error.ServerError.{ServerError};
@@ -74,6 +74,8 @@ impl<'a> ServerErrorRef<'a> {
 
 impl Clone for ServerErrorRef<'_> {
     ghost is_clone = { λ x copy. copy ≡ x };
+
+    ghost is_infallible = { λ _. ⊤ };
 
     fn clone(&self) -> Result<Self, AllocError> {
         Ok(ServerErrorRef {

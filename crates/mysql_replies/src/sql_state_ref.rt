@@ -1,7 +1,7 @@
 //! The SQL state of an error that stays in its packet.
 #![tactic(auto, using(mysql_wire::proofs::Packets::packets, crate::proofs::BytesExact::exact_bytes), unfolding(crate::specs::SqlState::sql_state))]
 
-ghost use Rattle.std.specs.Prelude.{◌≡◌, Some};
+ghost use Rattle.std.specs.Prelude.{◌≡◌, Some, ⊤};
 ghost use Rattle.mysql_wire.specs.Form.{size-block};
 ghost use Rattle.mysql_replies.specs.SqlState as spec;
 ghost use Rattle.mysql_replies.specs.declared.sql_state.SqlState.{SqlState};
@@ -49,6 +49,8 @@ impl<'a> SqlStateRef<'a> {
 
 impl Clone for SqlStateRef<'_> {
     ghost is_clone = { λ s copy. copy ≡ s };
+
+    ghost is_infallible = { λ _. ⊤ };
 
     fn clone(&self) -> Result<Self, AllocError> {
         Ok(SqlStateRef { state: self.state })

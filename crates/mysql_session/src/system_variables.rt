@@ -69,7 +69,13 @@ impl<'a> SystemVariables<'a> {
 impl Clone for SystemVariables<'_> {
     ghost is_clone = { λ v copy. copy ≡ v };
 
+    ghost is_infallible = { λ v. v ≡ [] };
+
     fn clone(&self) -> Result<Self, AllocError> {
+        // (a list's clone may be refused, by its contract)
+        if self.0.is_empty() {
+            return Ok(SystemVariables(Vec::new(*self.0.allocator())));
+        }
         Ok(SystemVariables(self.0.clone()?))
     }
 }
