@@ -4,19 +4,19 @@ use Rattle.std.specs.Prelude.{◌&&◌, ◌||◌, ◌==◌, not}
 use Rattle.std.proofs.lemmas.Bool.{eqb-true, and_parts, or_cases, or_right, not-true}
 use Rattle.mysql_conversation.specs.Agreements.{Agreed}
 use Rattle.mysql_conversation.specs.Conversation.{Packet, IsBeginning, asks}
-use Rattle.mysql_conversation.specs.Machine.{entrance, Takes, TakesOne, take_step, rests, listens, is_due}
+use Rattle.mysql_conversation.specs.Machine.{entrance, Takes, TakesOne, take_step, is_idle, is_shut, listens, is_due}
 use Rattle.mysql_conversation.proofs.Runs.{part, once}
 use Rattle.mysql_conversation.specs.Taken.{packet}
 use Rattle.mysql_conversation.specs.KindName.{name_of, index, is_in}
-use Rattle.mysql_conversation.specs.Expected.{expects, asking_names, pipe_expects}
+use Rattle.mysql_conversation.specs.Expected.{expects, asking_names, shutting_names, pipe_expects}
 use Rattle.mysql_conversation.specs.Piped.{place}
 use Rattle.mysql_conversation.specs.Pipelined.{Numbered, IsPipelinedBeginning}
-use Rattle.mysql_conversation.specs.Standing.{Standing, standing, start, Steps, PipeRun, pipe_step, command_of, waits, push, settle, early, aside, in_turn, served}
+use Rattle.mysql_conversation.specs.Standing.{Standing, standing, start, Steps, PipeRun, pipe_step, command_of, waits, quits, push, settle, early, aside, in_turn, served}
 use Rattle.mysql_conversation.proofs.Begun.{beginning_takes, takes_is_beginning, one_state, one_more}
 use Rattle.mysql_conversation.proofs.Classes.{some_is}
 use Rattle.mysql_conversation.proofs.Named.{same, what_comes_is_named}
 use Rattle.mysql_conversation.proofs.Witnesses.{what_is_named_comes}
-use Rattle.mysql_conversation.proofs.States.{take_listens}
+use Rattle.mysql_conversation.proofs.States.{take_listens, take_shuts}
 use Rattle.mysql_conversation.proofs.Stood.{beginning_runs, run_is_beginning, one_standing, pipe_one_more}
 use Rattle.mysql_conversation.proofs.Turns.{no_aside}
 use Rattle.mysql_conversation.specs.declared.kind.Format.TheVariants.{Text, Binary}
@@ -90,6 +90,7 @@ asks_by_name (kind.PrepareOk columns params follow) = refl
 asks_by_name kind.Statistics = refl
 asks_by_name kind.BinlogEvent = refl
 asks_by_name kind.SemiSyncAck = refl
+asks_by_name kind.Clone = refl
 
 -- ---- the steps of a pipeline
 
@@ -99,13 +100,15 @@ Outcome = Kind × ℕ × Standing
 kind_same : {k j : Kind} {i l : ℕ} {m t : Standing} → ◌≡◌ {A = Option Outcome} (Some (j, l, t)) (Some (k, i, m)) → j ≡ k
 kind_same h = ap (λ (x : Outcome). x.0) (some_is h)
 
-early_named : (w : Standing) (c : Option Command) (k : Kind) (i : ℕ) (m : Standing) → early w c ≡ Some (k, i, m) → (index (name_of k) == index name.Command) ≡ true
-early_named w None k i m h = absurd cc
-early_named w (Some c) k i m h = subst (λ k. (index (name_of k) == index name.Command) ≡ true) (kind_same h) refl
-
 not_taken : (b : Bool) (x : Outcome) (y : Outcome) → cond b None (Some x) ≡ Some y → (b ≡ false) × (Some x ≡ Some y)
 not_taken true x y h = absurd cc
 not_taken false x y h = (refl, h)
+
+early_named : (w : Standing) (c : Option Command) (k : Kind) (i : ℕ) (m : Standing) → early w c ≡ Some (k, i, m) → (index (name_of k) == index name.Command && not (quits w.waiting)) ≡ true
+early_named w None k i m h = absurd cc
+early_named w (Some c) k i m h =
+    let q = not_taken (quits w.waiting) _ (k, i, m) h in
+    subst (λ k. (index (name_of k) == index name.Command && not (quits w.waiting)) ≡ true) (kind_same q.1) (rw q.0 refl)
 
 turned : (b : Bool) (k j : Kind) (i l u : ℕ) (m t v : Standing) → ◌≡◌ {A = Option Outcome} (cond b (Some (j, l, t)) (Some (j, u, v))) (Some (k, i, m)) → j ≡ k
 turned true k j i l u m t v h = kind_same h
@@ -118,7 +121,7 @@ swapped false true = refl
 swapped false false = refl
 
 client_named : (a : Agreed) (w : Standing) (p : List ℕ) (k : Kind) (i : ℕ) (m : Standing) (b : Bool) (o : Option (Kind × State)) → is_due w.state ≡ b → take_step a w.state Client p ≡ o
-    → cond b (aside w o (command_of p)) (in_turn w o) ≡ Some (k, i, m) → cond b ((expects a w.state Client (name_of k) && not (waits w.waiting)) || index (name_of k) == index name.Command) (expects a w.state Client (name_of k)) ≡ true
+    → cond b (aside w o (command_of p)) (in_turn w o) ≡ Some (k, i, m) → cond b ((expects a w.state Client (name_of k) && not (waits w.waiting)) || (index (name_of k) == index name.Command && not (quits w.waiting))) (expects a w.state Client (name_of k)) ≡ true
 client_named a w p k i m true None d e h = or_right (expects a w.state Client (name_of k) && not (waits w.waiting)) _ (early_named w (command_of p) k i m h)
 client_named a w p k i m true (Some x) d e h =
     let q = not_taken (waits w.waiting) _ (k, i, m) h in
@@ -126,18 +129,26 @@ client_named a w p k i m true (Some x) d e h =
     rw (n, q.0) refl
 client_named a w p k i m false None d e h = absurd cc
 client_named a w p k i m false (Some x) d e h =
-    subst (λ k. expects a w.state Client (name_of k) ≡ true) (turned (rests w.state) k x.0 i _ _ m _ _ h) (what_comes_is_named a w.state Client p x.0 x.1 e)
+    subst (λ k. expects a w.state Client (name_of k) ≡ true) (turned (is_idle w.state) k x.0 i _ _ m _ _ h) (what_comes_is_named a w.state Client p x.0 x.1 e)
+
+-- where commands wait, the server neither asks the client nor ends the connection
+abbrev Stops : Standing → KindName → Bool
+Stops w n = is_in n asking_names || is_in n (shutting_names w.state)
+
+stops_named : (a : Agreed) (w : Standing) (p : List ℕ) (k : Kind) (m : State) → take_step a w.state Server p ≡ Some (k, m) → (listens m || is_shut m) ≡ Stops w (name_of k)
+stops_named a w p k m e =
+    ap (λ b. b || is_shut m) ((take_listens a w.state Server p k m e).0 ∙ sym (asks_by_name k)) ∙ ap (λ b. is_in (name_of k) asking_names || b) (take_shuts a w.state p k m e)
 
 server_named : (a : Agreed) (w : Standing) (p : List ℕ) (k : Kind) (i : ℕ) (m : Standing) (o : Option (Kind × State)) → take_step a w.state Server p ≡ o
-    → served w o ≡ Some (k, i, m) → (expects a w.state Server (name_of k) && not (waits w.waiting && is_in (name_of k) asking_names)) ≡ true
+    → served w o ≡ Some (k, i, m) → (expects a w.state Server (name_of k) && not (waits w.waiting && Stops w (name_of k))) ≡ true
 server_named a w p k i m None e h = absurd cc
 server_named a w p k i m (Some x) e h =
-    let q = not_taken (listens x.1 && waits w.waiting) _ (k, i, m) h in
-    let asked : is_in (name_of x.0) asking_names ≡ listens x.1 = asks_by_name x.0 ∙ sym (take_listens a w.state Server p x.0 x.1 e).0 in
-    let quiet : (waits w.waiting && is_in (name_of x.0) asking_names) ≡ false = ap (λ b. waits w.waiting && b) asked ∙ swapped (waits w.waiting) (listens x.1) ∙ q.0 in
+    let q = not_taken ((listens x.1 || is_shut x.1) && waits w.waiting) _ (k, i, m) h in
+    let stops = stops_named a w p x.0 x.1 e in
+    let quiet : (waits w.waiting && Stops w (name_of x.0)) ≡ false = ap (λ b. waits w.waiting && b) (sym stops) ∙ swapped (waits w.waiting) (listens x.1 || is_shut x.1) ∙ q.0 in
     let n = what_comes_is_named a w.state Server p x.0 x.1 e in
-    let here : (expects a w.state Server (name_of x.0) && not (waits w.waiting && is_in (name_of x.0) asking_names)) ≡ true = rw (n, quiet) refl in
-    subst (λ k. (expects a w.state Server (name_of k) && not (waits w.waiting && is_in (name_of k) asking_names)) ≡ true) (kind_same q.1) here
+    let here : (expects a w.state Server (name_of x.0) && not (waits w.waiting && Stops w (name_of x.0))) ≡ true = rw (n, quiet) refl in
+    subst (λ k. (expects a w.state Server (name_of k) && not (waits w.waiting && Stops w (name_of k))) ≡ true) (kind_same q.1) here
 
 pipe_named : (a : Agreed) (w : Standing) (side : Side) (p : List ℕ) (k : Kind) (i : ℕ) (m : Standing) → pipe_step a w side p ≡ Some (k, i, m) → pipe_expects a w side (name_of k) ≡ true
 pipe_named a w Client p k i m h = client_named a w p k i m (is_due w.state) (take_step a w.state Client p) refl refl h
@@ -147,7 +158,7 @@ pipe_named a w Server p k i m h = server_named a w p k i m (take_step a w.state 
 abbrev Stepping : Agreed → Standing → Side → KindName → Type 0
 Stepping a w side n = (p : List ℕ) × (k : Kind) × (i : ℕ) × (m : Standing) × (name_of k ≡ n) × (pipe_step a w side p ≡ Some (k, i, m))
 
-in_turn_taken : (w : Standing) (x : Kind × State) (b : Bool) → rests w.state ≡ b → (i : ℕ) × (m : Standing) × (in_turn w (Some x) ≡ Some (x.0, i, m))
+in_turn_taken : (w : Standing) (x : Kind × State) (b : Bool) → is_idle w.state ≡ b → (i : ℕ) × (m : Standing) × (in_turn w (Some x) ≡ Some (x.0, i, m))
 in_turn_taken w x true e = (w.last + 1, standing x.1 (w.last + 1) (w.last + 1) w.waiting, rw e refl)
 in_turn_taken w x false e = (w.number, standing x.1 w.number w.last w.waiting, rw e refl)
 
@@ -160,32 +171,33 @@ turn_step a w p d = rw d refl
 aside_taken : (w : Standing) (x : Kind × State) (c : Option Command) → waits w.waiting ≡ false → aside w (Some x) c ≡ Some (x.0, w.number, standing x.1 w.number w.last w.waiting)
 aside_taken w x c e = rw e refl
 
--- a ping, whatever waits
-early_comes : (a : Agreed) (w : Standing) (n : KindName) → is_due w.state ≡ true → n ≡ name.Command → Stepping a w Client n
-early_comes a w n d e =
-    let c : Command = record { code = 0x0e; answer = answer.Acknowledgement } in
+-- a ping, whatever waits but COM_QUIT
+early_comes : (a : Agreed) (w : Standing) (n : KindName) → is_due w.state ≡ true → quits w.waiting ≡ false → n ≡ name.Command → Stepping a w Client n
+early_comes a w n d q e =
+    let c : Command = record { code = 0x0e; answer = answer.Acknowledgement false } in
     let none = no_aside a w.state (0x0e ∷ []) c d refl in
-    (0x0e ∷ [], kind.Command 0x0e, w.last + 1, push w c, sym e, due_step a w (0x0e ∷ []) d ∙ ap (λ o. aside w o (Some c)) none)
+    let taken : early w (Some c) ≡ Some (kind.Command 0x0e, w.last + 1, push w c) = rw q refl in
+    (0x0e ∷ [], kind.Command 0x0e, w.last + 1, push w c, sym e, due_step a w (0x0e ∷ []) d ∙ ap (λ o. aside w o (Some c)) none ∙ taken)
 
 client_comes : (a : Agreed) (w : Standing) (n : KindName) (b : Bool) → is_due w.state ≡ b
-    → cond b ((expects a w.state Client n && not (waits w.waiting)) || index n == index name.Command) (expects a w.state Client n) ≡ true → Stepping a w Client n
+    → cond b ((expects a w.state Client n && not (waits w.waiting)) || (index n == index name.Command && not (quits w.waiting))) (expects a w.state Client n) ≡ true → Stepping a w Client n
 client_comes a w n true d h = elim (or_cases (expects a w.state Client n && not (waits w.waiting)) _ h) [
   | inl g ↦ (let q = and_parts (expects a w.state Client n) _ g in
       let c = what_is_named_comes a w.state Client n q.0 in
       (c.0, c.1, w.number, standing c.2 w.number w.last w.waiting, c.3, due_step a w c.0 d ∙ ap (λ o. aside w o (command_of c.0)) c.4 ∙ aside_taken w (c.1, c.2) (command_of c.0) (not-true (waits w.waiting) q.1)))
-  | inr g ↦ early_comes a w n d (same n name.Command (eqb-true (index n) (index name.Command) g))
+  | inr g ↦ (let q = and_parts (index n == index name.Command) _ g in early_comes a w n d (not-true (quits w.waiting) q.1) (same n name.Command (eqb-true (index n) (index name.Command) q.0)))
 ]
 client_comes a w n false d h =
     let c = what_is_named_comes a w.state Client n h in
-    let t = in_turn_taken w (c.1, c.2) (rests w.state) refl in
+    let t = in_turn_taken w (c.1, c.2) (is_idle w.state) refl in
     (c.0, c.1, t.0, t.1, c.3, turn_step a w c.0 d ∙ ap (in_turn w) c.4 ∙ t.2)
 
-server_comes : (a : Agreed) (w : Standing) (n : KindName) → (expects a w.state Server n && not (waits w.waiting && is_in n asking_names)) ≡ true → Stepping a w Server n
+server_comes : (a : Agreed) (w : Standing) (n : KindName) → (expects a w.state Server n && not (waits w.waiting && Stops w n)) ≡ true → Stepping a w Server n
 server_comes a w n h =
     let q = and_parts (expects a w.state Server n) _ h in
     let c = what_is_named_comes a w.state Server n q.0 in
-    let asked : listens c.2 ≡ is_in n asking_names = (take_listens a w.state Server c.0 c.1 c.2 c.4).0 ∙ sym (asks_by_name c.1) ∙ ap (λ n. is_in n asking_names) c.3 in
-    let quiet : (listens c.2 && waits w.waiting) ≡ false = ap (λ b. b && waits w.waiting) asked ∙ swapped (is_in n asking_names) (waits w.waiting) ∙ not-true _ q.1 in
+    let stops : (listens c.2 || is_shut c.2) ≡ Stops w n = stops_named a w c.0 c.1 c.2 c.4 ∙ ap (λ n. Stops w n) c.3 in
+    let quiet : ((listens c.2 || is_shut c.2) && waits w.waiting) ≡ false = ap (λ b. b && waits w.waiting) stops ∙ swapped (Stops w n) (waits w.waiting) ∙ not-true _ q.1 in
     (c.0, c.1, w.number, settle c.2 w.number w.last w.waiting, c.3, rw (c.4, quiet) refl)
 
 pipe_comes : (a : Agreed) (w : Standing) (side : Side) (n : KindName) → pipe_expects a w side n ≡ true → Stepping a w side n

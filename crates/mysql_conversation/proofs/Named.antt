@@ -1,17 +1,17 @@
 -- Which kinds may come next: each that comes is named, and each that is named comes.
-use Rattle.std.proofs.Common.{◌≡◌, ℕ, zero, suc, List, [], ◌∷◌, inl, inr, Option, Some, None, refl, sym, ap, subst, ◌∙◌, Bool, true, false, cond}
+use Rattle.std.proofs.Common.{◌≡◌, ℕ, zero, suc, List, [], ◌∷◌, ◌++◌, inl, inr, Option, Some, None, refl, sym, ap, subst, ◌∙◌, Bool, true, false, cond}
 use Rattle.std.proofs.lemmas.Bool.{eqb-true, and_parts, or_cases, or_right}
 use Rattle.std.specs.Prelude.{◌==◌, ◌||◌, ◌&&◌}
 use Rattle.mysql_wire.specs.Form.{bytes}
 use Rattle.mysql_wire.specs.Flags.{StatusFlags}
 use Rattle.mysql_prepared.specs.declared.stmt_with_metadata.StmtPacketWithMetadata.{StmtPacketWithMetadata}
-use Rattle.mysql_conversation.proofs.States.{by_cond}
+use Rattle.mysql_conversation.proofs.States.{by_cond, failed_clone, failed_no_report}
 use Rattle.mysql_conversation.specs.Agreements.{Agreed, deprecates_eof, asks_factors, reports_progress}
-use Rattle.mysql_conversation.specs.Payloads.{first_is, is_report, begins_with_ff, is_one_byte, asks_cursor, opens_cursor}
-use Rattle.mysql_conversation.specs.Conversation.{answering, ending, format_of}
-use Rattle.mysql_conversation.specs.Machine.{step, take_step, client_step, serve, rests, is_due, error_kind, begun, command_step, infile_step, logged_in, authentication_step, reply_step, infile_reply_step, columns_step, definitions_end_step, event_step, line_step, last_step, prepared_step, acknowledgement_step, reply_of, line_of, old_end_of, statement_at, ok_status}
+use Rattle.mysql_conversation.specs.Payloads.{first_is, is_report, begins_with_ff, is_one_byte, asks_cursor, opens_cursor, has_more}
+use Rattle.mysql_conversation.specs.Conversation.{code_of, answering, ending, format_of}
+use Rattle.mysql_conversation.specs.Machine.{step, take_step, client_step, serve, is_due, error_step, failed, begun, command_step, infile_step, logged_in, authentication_step, reply_step, infile_reply_step, columns_step, definitions_end_step, event_step, line_step, last_step, prepared_step, last_ok, last_end, acknowledgement_step, reply_of, line_of, old_end_of, statement_at, ok_status}
 use Rattle.mysql_conversation.specs.KindName.{name_of, index, is_in}
-use Rattle.mysql_conversation.specs.Expected.{sent_names, end_name, row_name, asked_names, served_names, error_name, reported, names, expects}
+use Rattle.mysql_conversation.specs.Expected.{sent_names, end_name, row_name, asked_names, served_names, error_names, reported, names, expects}
 use Rattle.mysql_conversation.proofs.Classes.{chosen, some_is}
 use Rattle.mysql_conversation.specs.declared.kind.Format.TheVariants.{Text, Binary}
 use Rattle.mysql_conversation.specs.declared.kind.Kind.{Kind}
@@ -38,10 +38,18 @@ pub reported_is : (n : KindName) (b : Bool) (xs : List KindName) → is_in n (re
 reported_is n true xs = refl
 reported_is n false xs = refl
 
+or_both : (x y z : Bool) → (x || (y || z)) ≡ ((x || y) || z)
+or_both true y z = refl
+or_both false y z = refl
+
+pub both_in : (n : KindName) (xs ys : List KindName) → is_in n (xs ++ ys) ≡ (is_in n xs || is_in n ys)
+both_in n [] ys = refl
+both_in n (x ∷ xs) ys = ap (λ b. index n == index x || b) (both_in n xs ys) ∙ or_both (index n == index x) (is_in n xs) (is_in n ys)
+
 -- ---- a name is known by its number
 
 all_names : List KindName
-all_names = name.Handshake ∷ name.SslRequest ∷ name.Login ∷ name.AuthSwitch ∷ name.OldAuthSwitch ∷ name.AuthMoreData ∷ name.AuthNextFactor ∷ name.AuthPluginData ∷ name.AuthData ∷ name.Command ∷ name.Ok ∷ name.Error ∷ name.UnaskedError ∷ name.ProgressReport ∷ name.LocalInfile ∷ name.InfileContent ∷ name.InfileEnd ∷ name.ColumnCount ∷ name.Column ∷ name.FieldListColumn ∷ name.Eof ∷ name.OkTerminator ∷ name.TextRow ∷ name.BinaryRow ∷ name.PrepareOk ∷ name.Statistics ∷ name.BinlogEvent ∷ name.SemiSyncAck ∷ []
+all_names = name.Handshake ∷ name.SslRequest ∷ name.Login ∷ name.AuthSwitch ∷ name.OldAuthSwitch ∷ name.AuthMoreData ∷ name.AuthNextFactor ∷ name.AuthPluginData ∷ name.AuthData ∷ name.Command ∷ name.Ok ∷ name.Error ∷ name.UnaskedError ∷ name.ProgressReport ∷ name.LocalInfile ∷ name.InfileContent ∷ name.InfileEnd ∷ name.ColumnCount ∷ name.Column ∷ name.FieldListColumn ∷ name.Eof ∷ name.OkTerminator ∷ name.TextRow ∷ name.BinaryRow ∷ name.PrepareOk ∷ name.Statistics ∷ name.BinlogEvent ∷ name.SemiSyncAck ∷ name.Clone ∷ []
 
 at : List KindName → ℕ → Option KindName
 at [] n = None
@@ -78,6 +86,7 @@ known name.PrepareOk = refl
 known name.Statistics = refl
 known name.BinlogEvent = refl
 known name.SemiSyncAck = refl
+known name.Clone = refl
 
 pub same : (n x : KindName) → index n ≡ index x → n ≡ x
 same n x e = some_is (sym (known n) ∙ ap (at all_names) e ∙ known x)
@@ -87,6 +96,10 @@ module _ (P : KindName → Type 0) where
   abbrev pub All : List KindName → Type 0
   All [] = Unit {0}
   All (x ∷ xs) = P x × All xs
+
+  pub all_both : (xs ys : List KindName) → All xs → All ys → All (xs ++ ys)
+  all_both [] ys f g = g
+  all_both (x ∷ xs) ys f g = (f.0, all_both xs ys f.1 g)
 
   pub pick : (n : KindName) (xs : List KindName) → All xs → is_in n xs ≡ true → P n
   pick n [] h e = absurd cc
@@ -108,6 +121,10 @@ named_cond xs false x y f g = g
 named_more : (n : KindName) (xs : List KindName) (o : Option (Kind × State)) → Named xs o → Named (n ∷ xs) o
 named_more n xs None h = tt
 named_more n xs (Some x) h = or_right (index (name_of x.0) == index n) (is_in (name_of x.0) xs) h
+
+named_after : (xs ys : List KindName) (o : Option (Kind × State)) → Named ys o → Named (xs ++ ys) o
+named_after [] ys o h = h
+named_after (x ∷ xs) ys o h = named_more x (xs ++ ys) o (named_after xs ys o h)
 
 named_reported : (b : Bool) (xs : List KindName) (o : Option (Kind × State)) → Named xs o → Named (reported b xs) o
 named_reported true xs o h = named_more name.ProgressReport xs o h
@@ -142,11 +159,11 @@ asked_named false p = by_cond (λ k. is_in (name_of k) (name.Ok ∷ asked_names 
 
 named_status : (xs : List KindName) (status : Option StatusFlags) → Named (name.Ok ∷ xs) (logged_in status)
 named_status xs None = tt
-named_status xs (Some status) = refl
+named_status xs (Some status) = named_cond (name.Ok ∷ xs) (has_more status) _ _ tt refl
 
-named_authentication : (a : Agreed) (p : List ℕ) (status : Option StatusFlags) → Named (name.Ok ∷ asked_names (asks_factors a)) (authentication_step a p status)
+named_authentication : (a : Agreed) (login : Bool) (p : List ℕ) (status : Option StatusFlags) → Named (name.Ok ∷ asked_names (asks_factors a)) (authentication_step a login p status)
 unfolding kind_by
-named_authentication a p status = named_cond (name.Ok ∷ asked_names (asks_factors a)) (first_is 0 p) _ _ (named_status (asked_names (asks_factors a)) status) (asked_named (asks_factors a) p)
+named_authentication a login p status = named_cond (name.Ok ∷ asked_names (asks_factors a)) (first_is 0 p) _ _ (named_status (asked_names (asks_factors a)) status) (asked_named (asks_factors a) p)
 
 named_reply : (d : Bool) (r : Request) (x : Option Reply) → Named (name.Ok ∷ name.LocalInfile ∷ name.ColumnCount ∷ []) (reply_step d r x)
 named_reply d r None = tt
@@ -194,17 +211,28 @@ named_prepared : (d : Bool) (s : Option StmtPacketWithMetadata) → Named (name.
 named_prepared d None = tt
 named_prepared d (Some s) = refl
 
-named_acknowledgement : (d : Bool) (l : Option Line) (r : Option Reply) → Named (name.Ok ∷ end_name d ∷ []) (acknowledgement_step d l r)
-named_acknowledgement d (Some (line.End more)) r = end_named name.Ok d
-named_acknowledgement d (Some line.Row) (Some (reply.Ok more)) = refl
-named_acknowledgement d (Some line.Row) (Some reply.Infile) = tt
-named_acknowledgement d (Some line.Row) (Some (reply.Columns n follow)) = tt
-named_acknowledgement d (Some line.Row) None = tt
-named_acknowledgement d None r = tt
+named_last_ok : (m : State) (xs : List KindName) (r : Option Reply) → Named (name.Ok ∷ xs) (last_ok m r)
+named_last_ok m xs (Some (reply.Ok false)) = refl
+named_last_ok m xs (Some (reply.Ok true)) = tt
+named_last_ok m xs (Some reply.Infile) = tt
+named_last_ok m xs (Some (reply.Columns n follow)) = tt
+named_last_ok m xs None = tt
+
+named_last_end : (d more : Bool) → Named (name.Ok ∷ end_name d ∷ []) (last_end d true more)
+named_last_end d false = end_named name.Ok d
+named_last_end d true = tt
+
+named_acknowledgement : (a : Agreed) (may_end : Bool) (l : Option Line) (r : Option Reply) → Named (served_names a (state.Acknowledgement may_end)) (acknowledgement_step (deprecates_eof a) may_end l r)
+named_acknowledgement a true (Some (line.End more)) r = named_last_end (deprecates_eof a) more
+named_acknowledgement a false (Some (line.End more)) r = tt
+named_acknowledgement a true (Some line.Row) r = named_last_ok state.Rest (end_name (deprecates_eof a) ∷ []) r
+named_acknowledgement a false (Some line.Row) r = named_last_ok state.Rest [] r
+named_acknowledgement a true None r = tt
+named_acknowledgement a false None r = tt
 
 named_serve : (a : Agreed) (s : State) (p : List ℕ) → Named (served_names a s) (serve a s p)
 named_serve a state.Rest p = tt
-named_serve a (state.Authentication b) p = named_authentication a p (ok_status a p)
+named_serve a (state.Authentication login b) p = named_authentication a login p (ok_status a p)
 named_serve a (state.Infile r) p = tt
 named_serve a (state.Reply r) p = named_reply (deprecates_eof a) r (reply_of a p)
 named_serve a (state.InfileReply r) p = named_infile_reply r (reply_of a p)
@@ -213,19 +241,21 @@ named_serve a (state.DefinitionsEnd b) p = named_definitions_end b (old_end_of a
 named_serve a (state.Rows r) p = named_line (deprecates_eof a) r (line_of a (format_of r) p)
 named_serve a state.Prepared p = named_prepared (deprecates_eof a) (statement_at a p)
 named_serve a state.Fetch p = named_last (deprecates_eof a) name.BinaryRow (kind.Row Binary) state.Fetch (line_of a Binary p) refl
-named_serve a state.Acknowledgement p = named_acknowledgement (deprecates_eof a) (line_of a Text p) (reply_of a p)
+named_serve a (state.Acknowledgement may_end) p = named_acknowledgement a may_end (line_of a Text p) (reply_of a p)
 named_serve a state.Text p = refl
 named_serve a state.Fields p = named_last (deprecates_eof a) name.FieldListColumn kind.FieldListColumn state.Fields (line_of a Text p) refl
 named_serve a state.Events p = named_event (first_is 0 p) (old_end_of a p)
 named_serve a state.Refusal p = tt
+named_serve a state.CloneReply p = named_last_ok state.Clone [] (reply_of a p)
+named_serve a state.Clone p = refl
+named_serve a state.Over p = tt
 
 named_begun : (code : ℕ) (r : Option Answer) → Named (name.Command ∷ []) (begun code r)
 named_begun code None = tt
 named_begun code (Some r) = refl
 
 named_command : (p : List ℕ) → Named (name.Command ∷ []) (command_step p)
-named_command [] = tt
-named_command (code ∷ bytes) = named_begun code (answering code (asks_cursor (code ∷ bytes)))
+named_command p = named_begun (code_of p) (answering (code_of p) (asks_cursor p))
 
 named_infile : (r : Request) (p : List ℕ) → Named (name.InfileContent ∷ name.InfileEnd ∷ []) (infile_step r p)
 named_infile r [] = refl
@@ -233,8 +263,8 @@ named_infile r (b ∷ p) = refl
 
 named_client : (s : State) (p : List ℕ) → Named (sent_names s) (client_step s p)
 named_client state.Rest p = named_command p
-named_client (state.Authentication true) p = refl
-named_client (state.Authentication false) p = tt
+named_client (state.Authentication login true) p = refl
+named_client (state.Authentication login false) p = tt
 named_client (state.Reply r) p = tt
 named_client (state.Infile r) p = named_infile r p
 named_client (state.InfileReply r) p = tt
@@ -243,15 +273,27 @@ named_client (state.DefinitionsEnd b) p = tt
 named_client (state.Rows r) p = tt
 named_client state.Prepared p = tt
 named_client state.Fetch p = tt
-named_client state.Acknowledgement p = tt
+named_client (state.Acknowledgement may_end) p = tt
 named_client state.Text p = tt
 named_client state.Fields p = tt
 named_client state.Events p = named_cond (name.SemiSyncAck ∷ []) (first_is 0xef p) _ _ refl tt
 named_client state.Refusal p = tt
+named_client state.CloneReply p = tt
+named_client state.Clone p = refl
+named_client state.Over p = tt
 
-error_named : (b : Bool) (xs : List KindName) → is_in (name_of (error_kind b)) (error_name b ∷ xs) ≡ true
-error_named true xs = refl
-error_named false xs = refl
+error_named : (s : State) (xs : List KindName) → Named (error_names s ++ xs) (error_step s)
+error_named state.Rest xs = refl
+error_named (state.Authentication true b) xs = refl
+error_named (state.Authentication false b) xs = refl
+error_named state.Over xs = tt
+error_named state.Clone xs = refl
+error_named _ xs = refl
+
+failed_named : (r : Bool) (s : State) (xs : List KindName) → Named (error_names s ++ xs) (failed r s)
+failed_named r state.Clone xs = subst (λ o. Named (error_names state.Clone ++ xs) o) (sym (failed_clone r)) refl
+failed_named true _ xs = tt
+failed_named false s xs = subst (λ o. Named (error_names s ++ xs) o) (sym (failed_no_report s)) (error_named s xs)
 
 -- a report comes where reports are agreed on, and where the server is to speak
 report_named : (a : Agreed) (s : State) (p : List ℕ) → (is_report a p && is_due s) ≡ true → (reports_progress a && is_due s) ≡ true
@@ -260,21 +302,22 @@ report_named a s p h =
     let b = and_parts (is_report a p) (is_due s) h in
     rw ((and_parts (reports_progress a) (begins_with_ff 3 p) b.0).0, b.1) refl
 
-named_report : (b : Bool) (x : KindName) (xs : List KindName) → b ≡ true → is_in name.ProgressReport (x ∷ reported b xs) ≡ true
-named_report true x xs h = or_right (index name.ProgressReport == index x) true refl
-named_report false x xs h = absurd cc
+named_report : (b : Bool) (xs ys : List KindName) → b ≡ true → is_in name.ProgressReport (xs ++ reported b ys) ≡ true
+named_report true [] ys h = refl
+named_report true (x ∷ xs) ys h = or_right (index name.ProgressReport == index x) _ (named_report true xs ys refl)
+named_report false xs ys h = absurd cc
 
 named_served : (a : Agreed) (s : State) (p : List ℕ) → Named (names a s Server) (step a s Server p)
 named_served a s p =
-    let xs = names a s Server in
     let b = reports_progress a && is_due s in
-    named_cond xs (first_is 0xff p) _ _ (named_cond xs (is_report a p) _ _ tt (error_named (rests s) (reported b (served_names a s))))
-    (named_more (error_name (rests s)) (reported b (served_names a s)) (serve a s p) (named_reported b (served_names a s) (serve a s p) (named_serve a s p)))
+    let ys = reported b (served_names a s) in
+    named_cond (error_names s ++ ys) (first_is 0xff p) _ _ (failed_named (is_report a p) s ys)
+    (named_after (error_names s) ys (serve a s p) (named_reported b (served_names a s) (serve a s p) (named_serve a s p)))
 
 named_take : (a : Agreed) (s : State) (side : Side) (p : List ℕ) (k : Kind) (m : State) → take_step a s side p ≡ Some (k, m) → Named (names a s side) (Some (k, m))
 named_take a s Client p k m e = subst (λ o. Named (sent_names s) o) e (named_client s p)
 named_take a s Server p k m e = elim (chosen (is_report a p && is_due s) _ _ _ e) [
-  | inl h ↦ subst (λ o. Named (names a s Server) o) h.1 (named_report (reports_progress a && is_due s) (error_name (rests s)) (served_names a s) (report_named a s p h.0))
+  | inl h ↦ subst (λ o. Named (names a s Server) o) h.1 (named_report (reports_progress a && is_due s) (error_names s) (served_names a s) (report_named a s p h.0))
   | inr h ↦ subst (λ o. Named (names a s Server) o) h.1 (named_served a s p)
 ]
 

@@ -11,13 +11,14 @@ use Rattle.mysql_prepared.specs.StmtWithMetadata.{sends_metadata}
 use Rattle.mysql_conversation.specs.Agreements.{Agreed, deprecates_eof, asks_factors, reports_progress}
 use Rattle.mysql_conversation.specs.Payloads.{first_is, is_report, IsOk, IsCount}
 use Rattle.mysql_conversation.specs.Conversation.{ending, format_of}
-use Rattle.mysql_conversation.specs.Machine.{take_step, serve, rests, is_due, error_kind, reply_step, infile_reply_step, definitions_end_step, event_step, line_step, last_step, prepared_step, acknowledgement_step, ended, counted, reply_of, line_of, old_end_of, ok_status}
+use Rattle.mysql_conversation.specs.Machine.{take_step, serve, is_due, error_step, reply_step, infile_reply_step, definitions_end_step, event_step, line_step, last_step, prepared_step, last_ok, acknowledgement_step, ended, counted, reply_of, line_of, old_end_of, ok_status}
 use Rattle.mysql_conversation.specs.KindName.{name_of}
-use Rattle.mysql_conversation.specs.Expected.{sent_names, end_name, row_name, asked_names, served_names, error_name, reported, names, expects}
+use Rattle.mysql_conversation.specs.Expected.{sent_names, end_name, row_name, asked_names, served_names, error_names, reported, names, expects}
 use Rattle.mysql_conversation.proofs.Begun.{no_report}
 use Rattle.mysql_conversation.proofs.Classes.{ok_status_of, statement_at_of, old_end_of_is, line_row, line_end, reply_ok, reply_infile, reply_count}
 use Rattle.mysql_conversation.proofs.Ends.{tracks_nothing, short_report, ok_bytes, old_end_bytes, statement_bytes, plain, ok_spelled, old_end_spelled, end_bytes, statement_is}
-use Rattle.mysql_conversation.proofs.Named.{All, pick}
+use Rattle.mysql_conversation.proofs.Named.{All, pick, all_both}
+use Rattle.mysql_conversation.proofs.States.{failed_no_report}
 use Rattle.mysql_conversation.specs.declared.kind.Format.{Format}
 use Rattle.mysql_conversation.specs.declared.kind.Format.TheVariants.{Text, Binary}
 use Rattle.mysql_conversation.specs.declared.kind.Kind.{Kind}
@@ -129,18 +130,18 @@ definitions_end after.Rest = (state.Rest, refl)
 also : {A B : Type 0} → A → B → A × B
 also x y = (x, y)
 
-comes_asked : (a : Agreed) (b factors : Bool) → asks_factors a ≡ factors → All (Comes a (state.Authentication b) Server) (asked_names factors)
-comes_asked a b true e =
-    also (comes_served a (state.Authentication b) name.AuthSwitch (0xfe ∷ 0 ∷ []) kind.AuthSwitch (state.Authentication true) refl refl refl)
-    (also (comes_served a (state.Authentication b) name.OldAuthSwitch (0xfe ∷ []) kind.OldAuthSwitch (state.Authentication true) refl refl refl)
-    (also (comes_served a (state.Authentication b) name.AuthMoreData (1 ∷ []) kind.AuthMoreData (state.Authentication true) refl refl refl)
-    (also (comes_served a (state.Authentication b) name.AuthNextFactor (2 ∷ []) kind.AuthNextFactor (state.Authentication true) refl refl (rw e refl))
-    (also (comes_served a (state.Authentication b) name.AuthPluginData (3 ∷ []) kind.AuthPluginData (state.Authentication true) refl refl refl) tt))))
-comes_asked a b false e =
-    also (comes_served a (state.Authentication b) name.AuthSwitch (0xfe ∷ 0 ∷ []) kind.AuthSwitch (state.Authentication true) refl refl refl)
-    (also (comes_served a (state.Authentication b) name.OldAuthSwitch (0xfe ∷ []) kind.OldAuthSwitch (state.Authentication true) refl refl refl)
-    (also (comes_served a (state.Authentication b) name.AuthMoreData (1 ∷ []) kind.AuthMoreData (state.Authentication true) refl refl refl)
-    (also (comes_served a (state.Authentication b) name.AuthPluginData (3 ∷ []) kind.AuthPluginData (state.Authentication true) refl refl refl) tt)))
+comes_asked : (a : Agreed) (login b factors : Bool) → asks_factors a ≡ factors → All (Comes a (state.Authentication login b) Server) (asked_names factors)
+comes_asked a login b true e =
+    also (comes_served a (state.Authentication login b) name.AuthSwitch (0xfe ∷ 0 ∷ []) kind.AuthSwitch (state.Authentication login true) refl refl refl)
+    (also (comes_served a (state.Authentication login b) name.OldAuthSwitch (0xfe ∷ []) kind.OldAuthSwitch (state.Authentication login true) refl refl refl)
+    (also (comes_served a (state.Authentication login b) name.AuthMoreData (1 ∷ []) kind.AuthMoreData (state.Authentication login true) refl refl refl)
+    (also (comes_served a (state.Authentication login b) name.AuthNextFactor (2 ∷ []) kind.AuthNextFactor (state.Authentication login true) refl refl (rw e refl))
+    (also (comes_served a (state.Authentication login b) name.AuthPluginData (3 ∷ []) kind.AuthPluginData (state.Authentication login true) refl refl refl) tt))))
+comes_asked a login b false e =
+    also (comes_served a (state.Authentication login b) name.AuthSwitch (0xfe ∷ 0 ∷ []) kind.AuthSwitch (state.Authentication login true) refl refl refl)
+    (also (comes_served a (state.Authentication login b) name.OldAuthSwitch (0xfe ∷ []) kind.OldAuthSwitch (state.Authentication login true) refl refl refl)
+    (also (comes_served a (state.Authentication login b) name.AuthMoreData (1 ∷ []) kind.AuthMoreData (state.Authentication login true) refl refl refl)
+    (also (comes_served a (state.Authentication login b) name.AuthPluginData (3 ∷ []) kind.AuthPluginData (state.Authentication login true) refl refl refl) tt)))
 
 comes_prepared : (a : Agreed) → Comes a state.Prepared Server name.PrepareOk
 comes_prepared a =
@@ -150,9 +151,9 @@ comes_prepared a =
 each_served : (a : Agreed) (s : State) → All (Comes a s Server) (served_names a s)
 unfolding row_bytes
 each_served a state.Rest = tt
-each_served a (state.Authentication b) =
-    also (comes_served a (state.Authentication b) name.Ok ok_bytes kind.Ok state.Rest refl refl (rw (ok_read a) refl))
-    (comes_asked a b (asks_factors a) refl)
+each_served a (state.Authentication login b) =
+    also (comes_served a (state.Authentication login b) name.Ok ok_bytes kind.Ok state.Rest refl refl (rw (ok_read a) refl))
+    (comes_asked a login b (asks_factors a) refl)
 each_served a (state.Reply r) =
     also (comes_served a (state.Reply r) name.Ok ok_bytes kind.Ok (ended r false) refl refl (ap (reply_step (deprecates_eof a) r) (ok_reply a)))
     (also (comes_served a (state.Reply r) name.LocalInfile (0xfb ∷ []) kind.LocalInfile (state.Infile r) refl refl (ap (reply_step (deprecates_eof a) r) (reply_infile a (0xfb ∷ []) refl)))
@@ -178,10 +179,11 @@ each_served a state.Fetch =
     also (comes_served a state.Fetch name.BinaryRow row_bytes (kind.Row Binary) state.Fetch refl refl (ap (last_step (deprecates_eof a) (kind.Row Binary) state.Fetch) (is_row a Binary)))
     (also (comes_end a state.Fetch state.Rest (λ p t b. ap (last_step (deprecates_eof a) (kind.Row Binary) state.Fetch) b))
     tt)
-each_served a state.Acknowledgement =
-    also (comes_served a state.Acknowledgement name.Ok ok_bytes kind.Ok state.Rest refl refl (rw (line_row a Text ok_bytes refl, ok_reply a) refl))
-    (also (comes_end a state.Acknowledgement state.Rest (λ p t b. ap (λ l. acknowledgement_step (deprecates_eof a) l (reply_of a p)) t))
+each_served a (state.Acknowledgement true) =
+    also (comes_served a (state.Acknowledgement true) name.Ok ok_bytes kind.Ok state.Rest refl refl (rw (line_row a Text ok_bytes refl, ok_reply a) refl))
+    (also (comes_end a (state.Acknowledgement true) state.Rest (λ p t b. ap (λ l. acknowledgement_step (deprecates_eof a) true l (reply_of a p)) t))
     tt)
+each_served a (state.Acknowledgement false) = (comes_served a (state.Acknowledgement false) name.Ok ok_bytes kind.Ok state.Rest refl refl (rw (line_row a Text ok_bytes refl, ok_reply a) refl), tt)
 each_served a state.Text = (comes_served a state.Text name.Statistics [] kind.Statistics state.Rest refl refl refl, tt)
 each_served a state.Fields =
     also (comes_served a state.Fields name.FieldListColumn row_bytes kind.FieldListColumn state.Fields refl refl (ap (last_step (deprecates_eof a) kind.FieldListColumn state.Fields) (is_row a Text)))
@@ -192,13 +194,20 @@ each_served a state.Events =
     (also (comes_served a state.Events name.Eof old_end_bytes kind.Eof state.Rest refl refl (ap (event_step false) (old_end_at a)))
     tt)
 each_served a state.Refusal = tt
+each_served a state.CloneReply = (comes_served a state.CloneReply name.Ok ok_bytes kind.Ok state.Clone refl refl (ap (last_ok state.Clone) (ok_reply a)), tt)
+each_served a state.Clone = (comes_served a state.Clone name.Clone [] kind.Clone state.Clone refl refl refl, tt)
+each_served a state.Over = tt
 
-error_is : (b : Bool) → name_of (error_kind b) ≡ error_name b
-error_is true = refl
-error_is false = refl
+comes_error_at : (a : Agreed) (s : State) (n : KindName) (k : Kind) (m : State) → name_of k ≡ n → error_step s ≡ Some (k, m) → Comes a s Server n
+comes_error_at a s n k m e h = (0xff ∷ [], k, m, e, rw (short_report a) (failed_no_report s ∙ h))
 
-comes_error : (a : Agreed) (s : State) → Comes a s Server (error_name (rests s))
-comes_error a s = (0xff ∷ [], error_kind (rests s), state.Rest, error_is (rests s), rw (short_report a) refl)
+each_error : (a : Agreed) (s : State) → All (Comes a s Server) (error_names s)
+each_error a state.Rest = (comes_error_at a state.Rest name.UnaskedError kind.UnaskedError state.Over refl refl, tt)
+each_error a state.Clone = (comes_error_at a state.Clone name.Clone kind.Clone state.Clone refl refl, tt)
+each_error a state.Over = tt
+each_error a (state.Authentication true b) = (comes_error_at a (state.Authentication true b) name.Error kind.Error state.Over refl refl, tt)
+each_error a (state.Authentication false b) = (comes_error_at a (state.Authentication false b) name.Error kind.Error state.Rest refl refl, tt)
+each_error a s = (comes_error_at a s name.Error kind.Error state.Rest refl refl, tt)
 
 comes_report : (a : Agreed) (s : State) → (reports_progress a && is_due s) ≡ true → Comes a s Server name.ProgressReport
 unfolding is_report
@@ -213,9 +222,9 @@ with_report a s false h = each_served a s
 -- ---- of the client
 
 each_sent : (a : Agreed) (s : State) → All (Comes a s Client) (sent_names s)
-each_sent a state.Rest = ((0x0e ∷ [], kind.Command 0x0e, state.Acknowledgement, refl, refl), tt)
-each_sent a (state.Authentication true) = (([], kind.AuthData, state.Authentication false, refl, refl), tt)
-each_sent a (state.Authentication false) = tt
+each_sent a state.Rest = ((0x0e ∷ [], kind.Command 0x0e, state.Acknowledgement false, refl, refl), tt)
+each_sent a (state.Authentication login true) = (([], kind.AuthData, state.Authentication login false, refl, refl), tt)
+each_sent a (state.Authentication login false) = tt
 each_sent a (state.Reply r) = tt
 each_sent a (state.Infile r) = ((0 ∷ [], kind.InfileContent, state.Infile r, refl, refl), (([], kind.InfileEnd, state.InfileReply r, refl, refl), tt))
 each_sent a (state.InfileReply r) = tt
@@ -224,17 +233,20 @@ each_sent a (state.DefinitionsEnd b) = tt
 each_sent a (state.Rows r) = tt
 each_sent a state.Prepared = tt
 each_sent a state.Fetch = tt
-each_sent a state.Acknowledgement = tt
+each_sent a (state.Acknowledgement may_end) = tt
 each_sent a state.Text = tt
 each_sent a state.Fields = tt
 each_sent a state.Events = ((0xef ∷ [], kind.SemiSyncAck, state.Events, refl, refl), tt)
 each_sent a state.Refusal = tt
+each_sent a state.CloneReply = tt
+each_sent a state.Clone = (([], kind.Clone, state.Clone, refl, refl), tt)
+each_sent a state.Over = tt
 
 -- ---- of both
 
 each : (a : Agreed) (s : State) (side : Side) → All (Comes a s side) (names a s side)
 each a s Client = each_sent a s
-each a s Server = (comes_error a s, with_report a s (reports_progress a && is_due s) refl)
+each a s Server = all_both (Comes a s Server) (error_names s) _ (each_error a s) (with_report a s (reports_progress a && is_due s) refl)
 
 pub what_is_named_comes : (a : Agreed) (s : State) (side : Side) (n : KindName) → expects a s side n ≡ true → Comes a s side n
 what_is_named_comes a s side n h = pick (Comes a s side) n (names a s side) (each a s side) h

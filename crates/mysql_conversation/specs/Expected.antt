@@ -69,7 +69,7 @@ served_names a state.Fields = name.FieldListColumn ∷ end_name (deprecates_eof 
 served_names a state.Events = name.BinlogEvent ∷ name.Eof ∷ []
 served_names a state.Refusal = []
 served_names a state.CloneReply = name.Ok ∷ []
-served_names a state.Clone = []
+served_names a state.Clone = name.Clone ∷ []
 served_names a state.Over = []
 
 -- of what begins with ff, and is no report

@@ -66,7 +66,7 @@ fn is_served(agreed: SessionCapabilities, state: &State, name: KindName) -> bool
 {
     let ends = is_end(deprecates_eof(agreed), name);
     match *state {
-        State::Rest | State::Infile(_) | State::Refusal | State::Clone | State::Over => false,
+        State::Rest | State::Infile(_) | State::Refusal | State::Over => false,
         State::Authentication(_, _) => {
             matches!(name, KindName::Ok) || is_asked(asks_factors(agreed), name)
         }
@@ -82,6 +82,7 @@ fn is_served(agreed: SessionCapabilities, state: &State, name: KindName) -> bool
         State::Fetch => matches!(name, KindName::BinaryRow) || ends,
         State::Acknowledgement(may_end) => matches!(name, KindName::Ok) || (may_end && ends),
         State::CloneReply => matches!(name, KindName::Ok),
+        State::Clone => matches!(name, KindName::Clone),
         State::Text => matches!(name, KindName::Statistics),
         State::Fields => matches!(name, KindName::FieldListColumn) || ends,
         State::Events => matches!(name, KindName::BinlogEvent | KindName::Eof),
@@ -114,7 +115,7 @@ pub(crate) fn shuts(state: &State, name: KindName) -> bool
 }
 
 /// Whether a packet of this kind may come from this side.
-#[tactic(auto, using(crate::proofs::Named::reported_is))]
+#[tactic(auto, using(crate::proofs::Named::reported_is, crate::proofs::Named::both_in))]
 pub(crate) fn expects(
     agreed: SessionCapabilities,
     state: &State,
