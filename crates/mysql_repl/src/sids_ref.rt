@@ -1,7 +1,7 @@
 //! The sids of a dump, where they lie.
 #![tactic(auto, using(mysql_wire::proofs::Packets::packets))]
 
-ghost use Rattle.std.specs.Prelude.{false, [], ◌≡◌, length, option_map, IfOk, IsOk};
+ghost use Rattle.std.specs.Prelude.{false, [], ◌≡◌, length, option_map, IfOk, IsOk, ⊤};
 ghost use Rattle.std.specs.Cmp.Lexicographic.{pointwise};
 ghost use Rattle.mysql_wire.specs.Reading.{Answers};
 ghost use Rattle.mysql_wire.specs.Seq.{counted};
@@ -180,6 +180,8 @@ fn give_the_same(one: &SidsRef<'_>, other: &SidsRef<'_>) -> bool
 
 impl Clone for SidsRef<'_> {
     ghost is_clone = { λ p copy. copy ≡ p };
+
+    ghost is_infallible = { λ _. ⊤ };
 
     fn clone(&self) -> Result<Self, AllocError> {
         Ok(self.iter())

@@ -1,7 +1,7 @@
 //! A tag as the text of a GTID set has it.
 
 ghost use Rattle.std.specs.Char.{to_ascii_lowercase};
-ghost use Rattle.std.specs.Prelude.{◌≡◌, Some, None, IfOk, IfErr, map};
+ghost use Rattle.std.specs.Prelude.{◌≡◌, Some, None, IfOk, IfErr, map, ⊤};
 ghost use Rattle.mysql_repl.specs.Tag.{IsTag, tag_fault};
 
 use crate::tag::{InvalidTag, Tag, fault_in_lower_case};
@@ -55,6 +55,8 @@ impl<'a> TagText<'a> {
 
 impl Clone for TagText<'_> {
     ghost is_clone = { λ t copy. copy ≡ t };
+
+    ghost is_infallible = { λ _. ⊤ };
 
     fn clone(&self) -> Result<Self, AllocError> {
         Ok(TagText { text: self.text })
