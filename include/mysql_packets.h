@@ -171,7 +171,8 @@ enum myp_packet_kind {
     MYP_PACKET_PREPARE_OK, /* a prepared statement: `columns` and `params` */
     MYP_PACKET_STATISTICS, /* the text that answers COM_STATISTICS */
     MYP_PACKET_BINLOG_EVENT,
-    MYP_PACKET_SEMI_SYNC_ACK /* a replica's acknowledgement of an event */
+    MYP_PACKET_SEMI_SYNC_ACK, /* a replica's acknowledgement of an event */
+    MYP_PACKET_CLONE /* after COM_CLONE, a packet of the clone plugin's own protocol, of either side */
 };
 
 /* A conversation of a client and a server, from the client's login on: what both sides agreed on, and what comes next. Its numbers are of this

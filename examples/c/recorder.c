@@ -35,7 +35,7 @@ static const char *const kinds[] = {
     "handshake", "ssl_request", "login", "auth_switch", "old_auth_switch", "auth_more_data", "auth_next_factor", "auth_plugin_data",
     "auth_data", "command", "ok", "error", "unasked_error", "progress_report", "local_infile", "infile_content", "infile_end",
     "column_count", "column", "field_list_column", "eof", "ok_terminator", "text_row", "binary_row", "prepare_ok", "statistics",
-    "binlog_event", "semi_sync_ack" };
+    "binlog_event", "semi_sync_ack", "clone" };
 
 static enum phase phase;
 static uint32_t capabilities, mariadb_capabilities; /* the server's, and after the login what both sides can do */

@@ -29,7 +29,7 @@ LONGEST = 20_000
 # by the pages, payloads that come somewhere: one of each kind at least, for each of its layouts
 GREETING = b"\x0a8.0.36\0" + bytes(8) + b"seedseed"[:4] + bytes(1) + bytes(2) + bytes(18) + bytes(13)
 SOME = {
-    CLIENT: [b"\x0e", bytes(32), b"\0\x08" + bytes(30), b"", b"x", b"\xef"],
+    CLIENT: [b"\x0e", bytes(33), b"\0\x08" + bytes(30), b"", b"x", b"\xef"],
     SERVER: [
         GREETING,
         b"\xff\x15\x04#28000no",

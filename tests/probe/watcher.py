@@ -20,6 +20,7 @@ KINDS = [
     "handshake", "ssl_request", "login", "auth_switch", "old_auth_switch", "auth_more_data", "auth_next_factor", "auth_plugin_data", "auth_data",
     "command", "ok", "error", "unasked_error", "progress_report", "local_infile", "infile_content", "infile_end", "column_count", "column", "field_list_column", "eof",
     "ok_terminator", "text_row", "binary_row", "prepare_ok", "statistics", "binlog_event", "semi_sync_ack",
+    "clone",
 ]
 COMMANDS = {
     0x01: "COM_QUIT", 0x02: "COM_INIT_DB", 0x03: "COM_QUERY", 0x04: "COM_FIELD_LIST", 0x05: "COM_CREATE_DB", 0x06: "COM_DROP_DB",

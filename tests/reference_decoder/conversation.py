@@ -9,9 +9,11 @@ COMPRESS, SSL, LONG_PASSWORD, DEPRECATE_EOF, ZSTD = 1 << 5, 1 << 11, 1, 1 << 24,
 MARIADB_PROGRESS = 1
 MORE_RESULTS, CURSOR_EXISTS = 8, 64
 
-# the commands that an OK packet or an end answers, and those that nothing answers
-ACKNOWLEDGED = {0x02, 0x05, 0x06, 0x07, 0x08, 0x0C, 0x0D, 0x0E, 0x15, 0x1A, 0x1B, 0x1F}
-UNANSWERED = {0x01, 0x18, 0x19}
+# the commands that an OK packet answers, those that an OK packet or an end answers (my_eof in dispatch_command), and those that nothing answers
+ACKNOWLEDGED = {0x02, 0x05, 0x06, 0x07, 0x0C, 0x0E, 0x15, 0x1A, 0x1F}
+ENDED = {0x08, 0x0D, 0x1B}
+UNANSWERED = {0x18, 0x19}
+QUIT, CLONE = 0x01, 0x20
 
 
 class Refused(Exception):
@@ -28,10 +30,11 @@ def read(reader, payload, *context):
 
 class Place:
     """What may come: of the server, and of the client, if that is no command. A place without a client is one where commands may come
-    early, but where the client is asked for something."""
+    early, but where the client is asked for something. Where it is shut, no command comes any more; an error in a login shuts it too."""
 
-    def __init__(self, server=None, client=None, is_asked=False, is_rest=False):
+    def __init__(self, server=None, client=None, is_asked=False, is_rest=False, is_shut=False, is_login=False, is_quit=False):
         self.server, self.client, self.is_asked, self.is_rest = server, client, is_asked, is_rest
+        self.is_shut, self.is_login, self.is_quit = is_shut, is_login, is_quit
 
 
 class Session:
@@ -49,8 +52,7 @@ class Session:
         if side != SERVER:
             raise Refused
         if payload[:1] == b"\xff":
-            self.before, self.is_over = self.nothing, True
-            return "unasked_error"
+            return self.over("unasked_error")
         packet = read(authentication.handshake, payload)
         self.server = packet[5], packet[8]
         self.before = lambda *it: self.login(False, *it)
@@ -59,21 +61,43 @@ class Session:
     def nothing(self, _side, _payload):
         raise Refused
 
+    def over(self, kind):
+        self.before, self.is_over = self.nothing, True
+        return kind
+
     def login(self, is_deciphered, side, payload):
         if side != CLIENT:
-            raise Refused
-        (flags, _, _), own = read(authentication.ssl_request, payload)
+            # (the server waits for the login as long as connect_timeout says)
+            if payload[:1] != b"\xff":
+                raise Refused
+            return self.over("unasked_error")
+        try:
+            (flags, _, _), own = read(authentication.ssl_request, payload)
+        except Refused:
+            self.before = self.no_login
+            return "login"
         if flags & SSL and not is_deciphered:
             self.before = self.encrypted
             return "ssl_request"
+        if 0 not in payload[32:]:
+            self.before = self.no_login
+            return "login"
         self.flags = flags & self.server[0]
         self.own = 0 if flags & LONG_PASSWORD else own & self.server[1]
         if self.flags & (COMPRESS | ZSTD):
             raise Refused("Compressed")
-        self.before, self.place = None, self.authenticating(False)
+        self.before, self.place = None, self.authenticating(False, True)
         return "login"
 
-    def encrypted(self, _side, _payload):
+    def no_login(self, side, payload):
+        if side != SERVER or payload[:1] != b"\xff":
+            raise Refused
+        return self.over("error")
+
+    def encrypted(self, side, payload):
+        # (a server without TLS answers the request by an error with its state)
+        if side == SERVER and payload[:1] == b"\xff" and payload[3:4] == b"#":
+            return self.over("unasked_error")
         raise Refused("Encrypted")
 
     def decipher(self):
@@ -113,20 +137,33 @@ class Session:
     def rest(self):
         return Place(is_rest=True)
 
-    def authenticating(self, is_asked):
+    def ended(self):
+        return Place(is_shut=True)
+
+    def quit(self):
+        """Nothing, or an error: a server may refuse COM_QUIT, out of order, say."""
+        return Place(is_shut=True, is_quit=True)
+
+    def authenticating(self, is_asked, is_login=False):
         def server(payload):
             if self.begins_ok(payload):
-                self.ok_status(payload)
-                return "ok", self.rest()
+                return self.last_ok(payload, self.rest())
             if payload[:1] == b"\0":
                 raise Refused
             first = payload[0] if payload else None
             kind = {0xFE: "auth_switch" if len(payload) > 1 else "old_auth_switch", 1: "auth_more_data"}.get(first, "auth_plugin_data")
             if first == 2 and self.flags & MULTI_FACTOR_AUTHENTICATION:
                 kind = "auth_next_factor"
-            return kind, self.authenticating(True)
+            return kind, self.authenticating(True, is_login)
 
-        return Place(server, (lambda _: ("auth_data", self.authenticating(False))) if is_asked else None, is_asked)
+        client = lambda _: ("auth_data", self.authenticating(False, is_login))
+        return Place(server, client if is_asked else None, is_asked, is_login=is_login)
+
+    def last_ok(self, payload, following):
+        """An OK packet, following which no more results come."""
+        if not self.begins_ok(payload) or self.ok_status(payload) & MORE_RESULTS:
+            raise Refused
+        return "ok", following
 
     def result(self, is_binary, has_cursor=False):
         after = lambda more: self.result(is_binary, has_cursor) if more else self.rest()
@@ -205,16 +242,22 @@ class Session:
 
         return Place(server)
 
-    def acknowledged(self):
+    def acknowledged(self, may_end=False):
         def server(payload):
             if self.is_end(payload):
-                return self.end(payload)[0], self.rest()
-            if not self.begins_ok(payload):
-                raise Refused
-            self.ok_status(payload)
-            return "ok", self.rest()
+                kind, more = self.end(payload)
+                if more or not may_end:
+                    raise Refused
+                return kind, self.rest()
+            return self.last_ok(payload, self.rest())
 
         return Place(server)
+
+    def cloning(self):
+        """An OK packet, and then the clone plugin's own protocol."""
+        any_packet = lambda _: ("clone", place)
+        place = Place(any_packet, any_packet, is_shut=True)
+        return Place(lambda payload: self.last_ok(payload, place))
 
     def stream(self):
         """Events, and acknowledgements. The end is an EOF packet, also where it is deprecated."""
@@ -240,9 +283,10 @@ class Session:
 
     def answer(self, payload):
         """The place following a command, or None where it is none."""
-        if not payload or payload[0] == 0xEF:
+        # (a server takes an empty packet for COM_SLEEP)
+        code = payload[0] if payload else 0
+        if code == 0xEF:
             return None
-        code = payload[0]
         if code in (0x03, 0x0A):
             return self.result(False)
         if code in (0x17, 0xFA):
@@ -261,6 +305,12 @@ class Session:
             return self.stream()
         if code in UNANSWERED:
             return self.rest()
+        if code == QUIT:
+            return self.quit()
+        if code == CLONE:
+            return self.cloning()
+        if code in ENDED:
+            return self.acknowledged(True)
         return self.acknowledged() if code in ACKNOWLEDGED else self.refusal()
 
     # ---- packets
@@ -273,6 +323,8 @@ class Session:
 
     def of_client(self, payload):
         place = self.place
+        if place.is_shut and not place.client:
+            raise Refused
         if place.client and not self.waiting:
             try:
                 kind, self.place = place.client(payload)
@@ -283,10 +335,10 @@ class Session:
         if place.is_asked:
             raise Refused
         following = self.answer(payload)
-        if following is None:
+        if following is None or (self.waiting and self.waiting[-1][1][:1] == bytes([QUIT])):
             raise Refused
         self.last += 1
-        kind = f"command:{payload[0]}"
+        kind = f"command:{payload[0] if payload else 0}"
         if place.is_rest:
             self.number, self.place = self.last, following
         elif len(self.waiting) >= self.limit:
@@ -297,24 +349,26 @@ class Session:
 
     def of_server(self, payload):
         place, number = self.place, self.number
-        if payload[:1] == b"\xff":
+        if payload[:1] == b"\xff" and not (place.is_shut and place.server):
+            if place.is_shut and not place.is_quit:
+                raise Refused
             if self.is_report(payload):
-                if place.is_rest or place.is_asked:
+                if place.is_rest or place.is_quit or place.is_asked:
                     raise Refused
                 return "progress_report", number
-            self.place = self.rest()
-            kind = "unasked_error" if place.is_rest else "error"
+            is_unasked = place.is_rest or place.is_quit
+            kind, following = "unasked_error" if is_unasked else "error", self.ended() if is_unasked or place.is_login else self.rest()
         else:
             if place.server is None:
                 raise Refused
             kind, following = place.server(payload)
-            if following.is_asked and self.waiting:
-                raise Refused
-            self.place = following
+        if (following.is_asked or following.is_shut) and self.waiting:
+            raise Refused
+        self.place = following
         while self.place.is_rest and self.waiting:
             self.number, early = self.waiting.pop(0)
             self.place = self.answer(early)
         return kind, number
 
     def is_at_rest(self):
-        return self.is_over if self.before else self.place.is_rest and not self.waiting
+        return self.is_over if self.before else (self.place.is_rest or self.place.is_shut) and not self.waiting

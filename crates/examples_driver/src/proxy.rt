@@ -288,7 +288,7 @@ fn write_client(
 ) -> Result<bool, AllocError> {
     match packet {
         ClientPacket::Login(packet) => as_read(&packet.to_response(alloc)?, payload, written),
-        ClientPacket::AuthData(data) => as_read(data, payload, written),
+        ClientPacket::AuthData(data) | ClientPacket::Clone(data) => as_read(data, payload, written),
         ClientPacket::Command(command) => as_read(command, payload, written),
         ClientPacket::SemiSyncAck(packet) => as_read(packet, payload, written),
         ClientPacket::SslRequest(_) | ClientPacket::InfileContent(_) | ClientPacket::InfileEnd => {
@@ -325,7 +325,9 @@ fn write_server(
         ServerPacket::Column(column) => as_read(column, payload, written),
         ServerPacket::FieldListColumn(column) => as_read(column, payload, written),
         ServerPacket::PrepareOk(statement) => as_read(statement, payload, written),
-        ServerPacket::Statistics(text) => as_read(text, payload, written),
+        ServerPacket::Statistics(text) | ServerPacket::Clone(text) => {
+            as_read(text, payload, written)
+        }
         ServerPacket::BinlogEvent(event) => as_read(event, payload, written),
         ServerPacket::ProgressReport(_) | ServerPacket::TextRow(_) | ServerPacket::BinaryRow(_) =>
             Ok(false),

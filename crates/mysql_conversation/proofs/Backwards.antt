@@ -287,6 +287,7 @@ back_serve a state.Refusal p k m items rest e h t = absurd cc
 back_serve a state.CloneReply p k m items rest e h t = back_last_ok a state.CloneReply state.Clone p (reply_of a p) k m items rest e refl h
     (λ o t. inl (items, serving kind.Ok (IsOk a false) p items items refl e o, t)) t
 back_serve a state.Clone p k m items rest e h t = back a state.Clone Server p _ k _ m items rest h (λ t. one_clone Server p items rest t) t
+back_serve a state.Quit p k m items rest e h t = absurd cc
 back_serve a state.Over p k m items rest e h t = absurd cc
 
 -- where an answer begins, all of it comes, but for a command that may end the connection

@@ -4,7 +4,7 @@ use Rattle.std.proofs.Common.{◌≡◌, ℕ, zero, suc, List, [], ◌∷◌, �
 use Rattle.std.proofs.lemmas.Bool.{and_parts}
 use Rattle.mysql_conversation.specs.Agreements.{Agreed, reports_progress}
 use Rattle.mysql_conversation.specs.Payloads.{has_more, first_is, IsOk, IsError, is_report, begins_with_ff, asks_cursor}
-use Rattle.mysql_conversation.specs.Parts.{◌followed_by◌, ◌or◌, many, broken}
+use Rattle.mysql_conversation.specs.Parts.{nothing, ◌followed_by◌, ◌or◌, many, broken}
 use Rattle.mysql_wire.specs.Flags.{StatusFlags}
 use Rattle.mysql_conversation.specs.Conversation as c
 use Rattle.mysql_conversation.specs.Conversation.{Packet, IsConversation, IsBeginning, code_of, answering, asks, inside}
@@ -38,6 +38,7 @@ Open a s items = (mid : List Packet) × c.unless_broken a (tail_of a s) items mi
 abbrev pub Ahead : Agreed → State → List Packet → Type 0
 Ahead a state.Rest items = c.commanded a items []
 Ahead a state.Over items = items ≡ []
+Ahead a state.Quit items = (nothing or c.unasked_error a) items []
 Ahead a state.Clone items = many c.clone items []
 Ahead a state.CloneReply items = ((c.ok a false followed_by many c.clone) or (c.error a followed_by c.commanded a)) items []
 Ahead a (state.Authentication true b) items = ((authenticating a b followed_by c.commanded a) or broken (authenticating a b) c.IsInside (c.error a)) items []
@@ -46,10 +47,15 @@ Ahead a s items = Open a s items
 no_more : (a : Agreed) → c.commanded a [] []
 no_more a = ([], many_none _ [], inl refl)
 
+last_comes : (a : Agreed) (items : List Packet) → c.last a items [] → c.commanded a items []
+last_comes a items h = (items, many_none _ items, h)
+
 -- in each state what comes is the rest of an exchange, or breaks it off
 opened : (a : Agreed) (s : State) (items : List Packet) → Ahead a s items → Open a s items
 opened a state.Rest items h = (items, inl refl, h)
 opened a state.Over items h = ([], inl h, no_more a)
+opened a state.Quit items (inl h) = ([], inl h, no_more a)
+opened a state.Quit items (inr h) = (items, inl refl, last_comes a items (inr (inr (inl h))))
 opened a state.Clone items h = ([], inl h, no_more a)
 opened a state.CloneReply items (inl h) = ([], inl (inl h), no_more a)
 opened a state.CloneReply items (inr h) = (h.0, inl (inr h.1), h.2)
@@ -95,9 +101,6 @@ open_before a s x m items f t = let o = opened a m items t in (o.0, before a s x
 more_exchange : (a : Agreed) (items mid : List Packet) → c.unless_broken a (c.exchange a) items mid → c.commanded a mid [] → c.commanded a items []
 more_exchange a items mid h t = (t.0, many_more _ items mid t.0 h t.1, t.2)
 
-last_comes : (a : Agreed) (items : List Packet) → c.last a items [] → c.commanded a items []
-last_comes a items h = (items, many_none _ items, h)
-
 -- a whole exchange, or one that is broken off, and others after it
 one_exchange : (a : Agreed) (p : List ℕ) (r : Answer) (items : List Packet) → may_shut r ≡ false → answering (code_of p) (asks_cursor p) ≡ Some r → Open a (answers r) items
     → c.commanded a (packet Client p (kind.Command (code_of p)) ∷ items) []
@@ -109,8 +112,8 @@ commanding_is : (p : List ℕ) (r : Answer) (items : List Packet) → answering 
 commanding_is p r items e = (packet Client p (kind.Command (code_of p)), (refl, refl, e), refl)
 
 -- a command that may end the connection
-ahead_quit : (a : Agreed) (p : List ℕ) (items : List Packet) → answering (code_of p) (asks_cursor p) ≡ Some answer.Quit → Ahead a state.Over items → c.commanded a (packet Client p (kind.Command (code_of p)) ∷ items) []
-ahead_quit a p items e t = last_comes a _ (inr (inl (subst (λ xs. c.quit (packet Client p (kind.Command (code_of p)) ∷ items) xs) t (commanding_is p answer.Quit items e))))
+ahead_quit : (a : Agreed) (p : List ℕ) (items : List Packet) → answering (code_of p) (asks_cursor p) ≡ Some answer.Quit → Ahead a state.Quit items → c.commanded a (packet Client p (kind.Command (code_of p)) ∷ items) []
+ahead_quit a p items e t = last_comes a _ (inr (inl (items, commanding_is p answer.Quit items e, t)))
 
 ahead_clone : (a : Agreed) (p : List ℕ) (items : List Packet) → answering (code_of p) (asks_cursor p) ≡ Some answer.Clone → Ahead a state.CloneReply items → c.commanded a (packet Client p (kind.Command (code_of p)) ∷ items) []
 ahead_clone a p items e (inl t) = last_comes a _ (inr (inr (inr (items, commanding_is p answer.Clone items e, t))))
@@ -195,6 +198,7 @@ ahead_client a state.Events p k m items h t = open_before a state.Events (packet
 ahead_client a state.Refusal p k m items h t = absurd cc
 ahead_client a state.CloneReply p k m items h t = absurd cc
 ahead_client a state.Clone p k m items h t = clone_before a Client p k m items h t
+ahead_client a state.Quit p k m items h t = absurd cc
 ahead_client a state.Over p k m items h t = absurd cc
 
 -- the OK packet that answers COM_CLONE
@@ -210,6 +214,7 @@ clone_answered a p None k m items e v h t = absurd cc
 ahead_serve : (a : Agreed) (s : State) (p : List ℕ) (k : Kind) (m : State) (items : List Packet)
     → first_is 0xff p ≡ false → serve a s p ≡ Some (k, m) → Ahead a m items → Ahead a s (packet Server p k ∷ items)
 ahead_serve a state.Rest p k m items e h t = absurd cc
+ahead_serve a state.Quit p k m items e h t = absurd cc
 ahead_serve a state.Over p k m items e h t = absurd cc
 ahead_serve a state.Clone p k m items e h t = clone_before a Server p k m items h t
 ahead_serve a state.CloneReply p k m items e h t = clone_answered a p (reply_of a p) k m items e refl h t
@@ -248,6 +253,8 @@ error_is a s p items h f t = subst (λ (x : Kind × State). Ahead a x.1 items �
 ahead_error : (a : Agreed) (s : State) (p : List ℕ) (k : Kind) (m : State) (items : List Packet) → IsError a p → error_step s ≡ Some (k, m) → Ahead a m items → Ahead a s (packet Server p k ∷ items)
 ahead_error a state.Rest p k m items e h t = error_is a state.Rest p items h
     (λ t. last_comes a _ (inr (inr (inl (packet Server p kind.UnaskedError, (refl, refl, e), ap (λ xs. packet Server p kind.UnaskedError ∷ xs) t))))) t
+ahead_error a state.Quit p k m items e h t = error_is a state.Quit p items h
+    (λ t. inr (packet Server p kind.UnaskedError, (refl, refl, e), ap (λ xs. packet Server p kind.UnaskedError ∷ xs) t)) t
 ahead_error a state.Over p k m items e h t = absurd cc
 ahead_error a state.Clone p k m items e h t = clone_before a Server p k m items h t
 ahead_error a state.CloneReply p k m items e h t = error_is a state.CloneReply p items h (λ t. inr (items, (packet Server p kind.Error, (refl, refl, e), refl), t)) t
@@ -285,6 +292,7 @@ ahead_step a s Server p k m items h t = elim (chosen (first_is 0xff p) _ _ _ h) 
 ahead_rests : (a : Agreed) (s : State) → rests s ≡ true → Ahead a s []
 ahead_rests a state.Rest h = no_more a
 ahead_rests a state.Clone h = many_none c.clone []
+ahead_rests a state.Quit h = inl refl
 ahead_rests a state.Over h = refl
 ahead_rests a _ h = absurd cc
 

@@ -220,4 +220,5 @@ to_come a state.Events h = let e = old_end_comes a after.Rest in (e.0, e.1, e.2,
 to_come a state.Refusal h = (packet Server (0xff ∷ []) kind.Error, [], refl, (packet Server (0xff ∷ []) kind.Error, (refl, refl, (refl, short_report a)), refl))
 to_come a state.CloneReply h = (packet Server (0xff ∷ []) kind.Error, [], refl, inr (packet Server (0xff ∷ []) kind.Error, (refl, refl, (refl, short_report a)), refl))
 to_come a state.Clone h = absurd cc
+to_come a state.Quit h = absurd cc
 to_come a state.Over h = absurd cc

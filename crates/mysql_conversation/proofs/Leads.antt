@@ -290,8 +290,8 @@ error_at a s x k m o f e i = rw (f, i.0, i.1) (failed_no_report s ∙ o ∙ ap (
 lead_error : (a : Agreed) (s : State) → error_step s ≡ Some (kind.Error, state.Rest) → Leads a s (c.error a) state.Rest
 lead_error a s o items rest t h r = subst (λ xs. Run a s xs t) (sym h.2) (state.Rest, error_at a s h.0 kind.Error state.Rest o h.1.0 h.1.1 h.1.2, r)
 
-lead_unasked : (a : Agreed) → Leads a state.Rest (c.unasked_error a) state.Over
-lead_unasked a items rest t h r = subst (λ xs. Run a state.Rest xs t) (sym h.2) (state.Over, error_at a state.Rest h.0 kind.UnaskedError state.Over refl h.1.0 h.1.1 h.1.2, r)
+lead_unasked : (a : Agreed) (s : State) → error_step s ≡ Some (kind.UnaskedError, state.Over) → Leads a s (c.unasked_error a) state.Over
+lead_unasked a s o items rest t h r = subst (λ xs. Run a s xs t) (sym h.2) (state.Over, error_at a s h.0 kind.UnaskedError state.Over o h.1.0 h.1.1 h.1.2, r)
 
 -- ---- exchanges
 
@@ -317,7 +317,7 @@ lead_answer a answer.Fields = lead_fields a
 lead_answer a answer.Authentication = lead_authentication a false false
 lead_answer a answer.Events = lead_events a
 lead_answer a answer.Nothing = lead_nothing a state.Rest
-lead_answer a answer.Quit = lead_never a state.Over state.Rest
+lead_answer a answer.Quit = lead_never a state.Quit state.Rest
 lead_answer a answer.Clone = lead_error a state.CloneReply refl
 lead_answer a answer.Refusal = lead_error a state.Refusal refl
 
@@ -384,15 +384,19 @@ lead_cloned a = lead_then a _ _ _ state.CloneReply _ (lead_commanding a answer.C
     (lead_served a state.CloneReply kind.Ok (IsOk a false) state.Clone (λ p h. last_ok_of state.Clone (reply_of a p) (reply_ok a false p h)))
     (lead_many a state.Clone c.clone (lead_clone a)))
 
-last_out : (a : Agreed) (items : List Packet) → c.last a items [] → RunsOut a state.Rest items
-last_out a items (inl h) = leads_out a state.Rest nothing state.Rest items (lead_nothing a state.Rest) refl h
-last_out a items (inr (inl h)) = leads_out a state.Rest c.quit state.Over items (lead_commanding a answer.Quit) refl h
-last_out a items (inr (inr (inl h))) = leads_out a state.Rest (c.unasked_error a) state.Over items (lead_unasked a) refl h
-last_out a items (inr (inr (inr h))) = leads_out a state.Rest (c.cloned a) state.Clone items (lead_cloned a) refl h
-
 -- and before them a part that leads there
 then_out : (a : Agreed) (s : State) (f : List Packet → List Packet → Type 0) (m : State) (items mid : List Packet) → Leads a s f m → f items mid → RunsOut a m mid → RunsOut a s items
 then_out a s f m items mid l h o = (o.0, l items mid o.0 h o.1, o.2)
+
+quit_out : (a : Agreed) (items : List Packet) → (nothing or c.unasked_error a) items [] → RunsOut a state.Quit items
+quit_out a items (inl h) = leads_out a state.Quit nothing state.Quit items (lead_nothing a state.Quit) refl h
+quit_out a items (inr h) = leads_out a state.Quit (c.unasked_error a) state.Over items (lead_unasked a state.Quit refl) refl h
+
+last_out : (a : Agreed) (items : List Packet) → c.last a items [] → RunsOut a state.Rest items
+last_out a items (inl h) = leads_out a state.Rest nothing state.Rest items (lead_nothing a state.Rest) refl h
+last_out a items (inr (inl h)) = then_out a state.Rest (c.commanding answer.Quit) state.Quit items h.0 (lead_commanding a answer.Quit) h.1 (quit_out a h.0 h.2)
+last_out a items (inr (inr (inl h))) = leads_out a state.Rest (c.unasked_error a) state.Over items (lead_unasked a state.Rest refl) refl h
+last_out a items (inr (inr (inr h))) = leads_out a state.Rest (c.cloned a) state.Clone items (lead_cloned a) refl h
 
 commanded_out : (a : Agreed) (items : List Packet) → c.commanded a items [] → RunsOut a state.Rest items
 commanded_out a items h = then_out a state.Rest (c.exchanges a) state.Rest items h.0 (lead_exchanges a) h.1 (last_out a h.0 h.2)

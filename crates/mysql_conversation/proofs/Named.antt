@@ -248,6 +248,7 @@ named_serve a state.Events p = named_event (first_is 0 p) (old_end_of a p)
 named_serve a state.Refusal p = tt
 named_serve a state.CloneReply p = named_last_ok state.Clone [] (reply_of a p)
 named_serve a state.Clone p = refl
+named_serve a state.Quit p = tt
 named_serve a state.Over p = tt
 
 named_begun : (code : ℕ) (r : Option Answer) → Named (name.Command ∷ []) (begun code r)
@@ -280,12 +281,14 @@ named_client state.Events p = named_cond (name.SemiSyncAck ∷ []) (first_is 0xe
 named_client state.Refusal p = tt
 named_client state.CloneReply p = tt
 named_client state.Clone p = refl
+named_client state.Quit p = tt
 named_client state.Over p = tt
 
 error_named : (s : State) (xs : List KindName) → Named (error_names s ++ xs) (error_step s)
 error_named state.Rest xs = refl
 error_named (state.Authentication true b) xs = refl
 error_named (state.Authentication false b) xs = refl
+error_named state.Quit xs = refl
 error_named state.Over xs = tt
 error_named state.Clone xs = refl
 error_named _ xs = refl

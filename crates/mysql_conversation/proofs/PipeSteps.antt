@@ -319,6 +319,7 @@ Taken w p k n v = Began w p k n v × (listens w.state ≡ false) × (is_shut w.s
 -- what the client says where no command comes any more is none
 pub shut_kind : (d : Agreed) (s : State) (p : List ℕ) (k : Kind) (m : State) → is_shut s ≡ true → take_step d s Client p ≡ Some (k, m) → commands k ≡ false
 shut_kind d state.Clone p k m h e = ap (λ (x : Kind × State). commands x.0) (some_is (sym e))
+shut_kind d state.Quit p k m h e = absurd cc
 shut_kind d state.Over p k m h e = absurd cc
 shut_kind d _ p k m h e = absurd cc
 

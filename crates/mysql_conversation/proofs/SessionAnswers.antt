@@ -4,12 +4,14 @@ use Rattle.std.specs.Prelude.{◌↔◌, not, ◌&&◌, Option, Result, Ok, Err,
 use Rattle.mysql_auth.specs.declared.ssl_request.SslRequest.{SslRequest}
 use Rattle.mysql_conversation.specs.Agreements.{Agreed, agreed_on, compresses}
 use Rattle.mysql_conversation.specs.Piped as pipe
-use Rattle.mysql_conversation.specs.Session.{client_of, asks_tls, MayLogIn, BeginsAs, IsEncrypted, AsksForTls, AwaitsLogin, AgreesOnCompression, IsSameIn, IsSame, Continues, limit, limit_in}
-use Rattle.mysql_conversation.specs.SessionSteps.{login_at, GreetedAs, AnsweredAs, CompressedBy}
-use Rattle.mysql_conversation.proofs.Classes.{some_is}
+use Rattle.mysql_conversation.specs.Session.{client_of, asks_tls, ends_name, is_clear_error, MayLogIn, BeginsAs, IsEncrypted, AsksForTls, AwaitsLogin, AgreesOnCompression, IsSameIn, IsSame, Continues, limit, limit_in}
+use Rattle.mysql_conversation.specs.SessionSteps.{greeting_at, login_at, AnsweredAs, CompressedAt, CompressedBy, IsNoLoginAt, SentBefore, greeted_by, is_commands, refused_by, served_before}
+use Rattle.mysql_conversation.specs.Payloads.{first_is}
+use Rattle.mysql_conversation.proofs.Classes.{chosen, some_is}
 use Rattle.mysql_conversation.proofs.Places.{neither, unexpected_full}
-use Rattle.mysql_conversation.proofs.Sessions.{login_at_is, login_at_of}
+use Rattle.mysql_conversation.proofs.Sessions.{is_encrypted, login_at_is, login_at_of}
 use Rattle.mysql_conversation.specs.declared.kind.Kind.{Kind}
+use Rattle.mysql_conversation.specs.declared.kind.Kind.TheVariants as kind
 use Rattle.mysql_conversation.specs.declared.kind.Side.{Side}
 use Rattle.mysql_conversation.specs.declared.kind.Side.TheVariants.{Client, Server}
 use Rattle.mysql_conversation.specs.declared.pipeline.Pipeline.{Pipeline}
@@ -24,6 +26,7 @@ use Rattle.mysql_conversation.specs.declared.session.Session.{Session}
 same_in : (ph : Phase) → IsSameIn ph ph
 same_in phase.Greeting = refl
 same_in phase.Refused = refl
+same_in phase.NoLogin = refl
 same_in (phase.Login server) = refl
 same_in (phase.Encrypted server) = refl
 same_in (phase.InTls server) = refl
@@ -73,14 +76,6 @@ abbrev pub is_plain : Phase → Bool
 is_plain (phase.Login server) = true
 is_plain _ = false
 
-abbrev pub is_encrypted : Phase → Bool
-is_encrypted (phase.Encrypted server) = true
-is_encrypted _ = false
-
-abbrev pub is_commands : Phase → Bool
-is_commands (phase.Commands p) = true
-is_commands _ = false
-
 at_login : (s : Session) (tls : Bool) (server : Agreed) → AwaitsLogin s tls server → is_login s.phase ≡ true
 at_login s false server h = ap is_login h
 at_login s true server h = ap is_login h
@@ -100,16 +95,36 @@ no_commands s side p n h = let no : false ≡ true = sym n ∙ ap is_commands h.
 pub server_agrees_on_nothing : (s : Session) (side : Side) (p : List ℕ) → side ≡ Server → AgreesOnCompression s side p → ⊥
 server_agrees_on_nothing s side p e h = let no : Client ≡ Server = sym h.0 ∙ e in absurd cc
 
--- ---- the greeting
+-- ---- a packet of the server
 
-pub greeted_plain : (next : Phase) (p : List ℕ) (k : Kind) → GreetedAs p k next → is_encrypted next ≡ false
-greeted_plain next p k (inl g) = ap is_encrypted g.2
-greeted_plain next p k (inr g) = ap is_encrypted g.4
+late_plain : (b : Bool) (j k : Kind) (next : Phase) → refused_by b j ≡ Some (k, next) → is_encrypted next ≡ false
+late_plain true j k next h = ap is_encrypted (sym (ap (λ (x : Kind × Phase). x.1) (some_is h)))
+late_plain false j k next h = absurd cc
+
+greeting_plain : (o : Option Agreed) (k : Kind) (next : Phase) → greeted_by o ≡ Some (k, next) → is_encrypted next ≡ false
+greeting_plain None k next h = absurd cc
+greeting_plain (Some server) k next h = ap is_encrypted (sym (ap (λ (x : Kind × Phase). x.1) (some_is h)))
+
+-- after it nothing is in TLS that was not
+pub served_plain : (ph next : Phase) (p : List ℕ) (k : Kind) → served_before ph p ≡ Some (k, next) → is_encrypted next ≡ false
+served_plain phase.Greeting next p k h = elim (chosen (first_is 0xff p) _ _ _ h) [
+  | inl g ↦ ap is_encrypted (sym (ap (λ (x : Kind × Phase). x.1) (some_is g.1)))
+  | inr g ↦ greeting_plain (greeting_at p) k next g.1
+]
+served_plain phase.Refused next p k h = absurd cc
+served_plain (phase.Login server) next p k h = late_plain (first_is 0xff p) kind.UnaskedError k next h
+served_plain (phase.Encrypted server) next p k h = late_plain (is_clear_error p) kind.UnaskedError k next h
+served_plain (phase.InTls server) next p k h = late_plain (first_is 0xff p) kind.UnaskedError k next h
+served_plain phase.NoLogin next p k h = late_plain (first_is 0xff p) kind.Error k next h
+served_plain (phase.Commands q) next p k h = absurd cc
+
+pub server_asks_nothing : (s : Session) (side : Side) (p : List ℕ) → side ≡ Server → AsksForTls s side p → ⊥
+server_asks_nothing s side p e h = let no : Client ≡ Server = sym h.0 ∙ e in absurd cc
 
 -- ---- the login
 
-pub login_agrees : (s : Session) (tls : Bool) (server : Agreed) (p : List ℕ) (side : Side) → side ≡ Client → AwaitsLogin s tls server → CompressedBy server tls (login_at p) → AgreesOnCompression s side p
-login_agrees s tls server p side c a h = (c, tls, server, h.0, a, login_at_is h.0 p h.1, h.2, h.3)
+pub login_agrees : (s : Session) (tls : Bool) (server : Agreed) (p : List ℕ) (side : Side) → side ≡ Client → AwaitsLogin s tls server → CompressedBy server tls p → AgreesOnCompression s side p
+login_agrees s tls server p side c a h = (c, tls, server, h.0, a, login_at_is h.0 p h.1, h.2, h.3, h.4)
 
 awaited_once : (s : Session) (tls other : Bool) (a b : Agreed) → AwaitsLogin s tls a → AwaitsLogin s other b → (tls ≡ other) × (a ≡ b)
 awaited_once s false false a b h g = let e : phase.Login a ≡ phase.Login b = sym h ∙ g in (refl, cc)
@@ -117,38 +132,57 @@ awaited_once s false true a b h g = let no : phase.Login a ≡ phase.InTls b = s
 awaited_once s true false a b h g = let no : phase.InTls a ≡ phase.Login b = sym h ∙ g in absurd cc
 awaited_once s true true a b h g = let e : phase.InTls a ≡ phase.InTls b = sym h ∙ g in (refl, cc)
 
-pub agrees_by_login : (s : Session) (tls : Bool) (server : Agreed) (p : List ℕ) (side : Side) → AwaitsLogin s tls server → AgreesOnCompression s side p → CompressedBy server tls (login_at p)
+pub agrees_by_login : (s : Session) (tls : Bool) (server : Agreed) (p : List ℕ) (side : Side) → AwaitsLogin s tls server → AgreesOnCompression s side p → CompressedBy server tls p
 agrees_by_login s tls server p side a h =
     let once = awaited_once s h.1 tls h.2 server h.4 a in
-    subst (λ t. CompressedBy server t (login_at p)) once.0 (subst (λ a. CompressedBy a h.1 (login_at p)) once.1 (h.3, login_at_of h.3 p h.5, h.6, h.7))
+    subst (λ t. CompressedBy server t p) once.0 (subst (λ a. CompressedBy a h.1 p) once.1 (h.3, login_at_of h.3 p h.5, h.6, h.7, h.8))
 
 -- the answer to the greeting is a request for TLS exactly where it asks for TLS
-pub answered_plain : (s : Session) (server : Agreed) (next : Phase) (p : List ℕ) (k : Kind) (side : Side) → side ≡ Client → s.phase ≡ phase.Login server → AnsweredAs server false p k next
+no_tls_at : (p : List ℕ) (o : Option SslRequest) (r : SslRequest) → o ≡ Some r → IsNoLoginAt false p o → asks_tls r ≡ false
+no_tls_at p None r e h = absurd cc
+no_tls_at p (Some q) r e h = subst (λ r. asks_tls r ≡ false) (some_is e) h.0
+
+answered_plain : (s : Session) (server : Agreed) (next : Phase) (p : List ℕ) (k : Kind) (side : Side) → side ≡ Client → s.phase ≡ phase.Login server → AnsweredAs server false p k next
     → (t : Session) → t.phase ≡ next → IsEncrypted t ↔ AsksForTls s side p
-answered_plain s server next p k side c a (r, l, inl g) t e = ((λ h. (c, server, r, a, login_at_is r p l, g.1)), (λ h. (server, e ∙ g.3)))
-answered_plain s server next p k side c a (r, l, inr g) t e = neither
+answered_plain s server next p k side c a (inl (r, l, inl g)) t e = ((λ h. (c, server, r, a, login_at_is r p l, g.1)), (λ h. (server, e ∙ g.3)))
+answered_plain s server next p k side c a (inl (r, l, inr g)) t e = neither
     (not_encrypted t (ap is_encrypted (e ∙ g.3.1)))
     (λ h.
     let same : h.2 ≡ r = some_is (sym (login_at_of h.2 p h.4) ∙ l) in
     let no : true ≡ false = sym h.5 ∙ ap asks_tls same ∙ g.0 in absurd cc)
+answered_plain s server next p k side c a (inr g) t e = neither
+    (not_encrypted t (ap is_encrypted (e ∙ g.2)))
+    (λ h. let no : true ≡ false = sym h.5 ∙ no_tls_at p (login_at p) h.2 (login_at_of h.2 p h.4) g.0 in absurd cc)
 
-pub answered_in_tls : (server : Agreed) (next : Phase) (p : List ℕ) (k : Kind) → AnsweredAs server true p k next → is_encrypted next ≡ false
-answered_in_tls server next p k (r, l, inl g) = let no : true ≡ false = g.0 in absurd cc
-answered_in_tls server next p k (r, l, inr g) = ap is_encrypted g.3.1
+answered_in_tls : (server : Agreed) (next : Phase) (p : List ℕ) (k : Kind) → AnsweredAs server true p k next → is_encrypted next ≡ false
+answered_in_tls server next p k (inl (r, l, inl g)) = let no : true ≡ false = g.0 in absurd cc
+answered_in_tls server next p k (inl (r, l, inr g)) = ap is_encrypted g.3.1
+answered_in_tls server next p k (inr g) = ap is_encrypted g.2
 
--- why a login is refused
-abbrev pub LoginRefused : Agreed → List ℕ → Refusal → Type 0
-LoginRefused server p why =
-    ((why ≡ refusal.Unexpected) × (login_at p ≡ None))
-    ⊎ ((why ≡ refusal.Compressed) × (head : SslRequest) × (login_at p ≡ Some head) × (compresses (agreed_on server (client_of head)) ≡ true))
+sent_tls_at : (s t : Session) (ph next : Phase) (p : List ℕ) (k : Kind) (side : Side) → side ≡ Client → s.phase ≡ ph → SentBefore ph p k next → t.phase ≡ next → IsEncrypted t ↔ AsksForTls s side p
+sent_tls_at s t phase.Greeting next p k side c a h e = absurd h
+sent_tls_at s t phase.Refused next p k side c a h e = absurd h
+sent_tls_at s t (phase.Login server) next p k side c a h e = answered_plain s server next p k side c a h t e
+sent_tls_at s t (phase.Encrypted server) next p k side c a h e = absurd h
+sent_tls_at s t (phase.InTls server) next p k side c a h e = neither (not_encrypted t (ap is_encrypted e ∙ answered_in_tls server next p k h)) (no_tls s side p (ap is_plain a))
+sent_tls_at s t phase.NoLogin next p k side c a h e = absurd h
+sent_tls_at s t (phase.Commands q) next p k side c a h e = absurd h
 
-pub login_not_encrypted : (server : Agreed) (p : List ℕ) (e : Refusal) → LoginRefused server p e → e ≡ refusal.Encrypted → ⊥
-login_not_encrypted server p e (inl h) g = unexpected_encrypted e h.0 g
-login_not_encrypted server p e (inr h) g = compressed_encrypted e h.0 g
+pub sent_tls : (s t : Session) (p : List ℕ) (k : Kind) (side : Side) → side ≡ Client → SentBefore s.phase p k t.phase → IsEncrypted t ↔ AsksForTls s side p
+sent_tls s t p k side c h = sent_tls_at s t s.phase t.phase p k side c refl h refl
 
-pub login_not_full : (server : Agreed) (p : List ℕ) (e : Refusal) → LoginRefused server p e → e ≡ refusal.Full → ⊥
-login_not_full server p e (inl h) g = unexpected_full e h.0 g
-login_not_full server p e (inr h) g = compressed_full e h.0 g
+compressed_at : (s : Session) (ph : Phase) (p : List ℕ) (side : Side) → side ≡ Client → s.phase ≡ ph → CompressedAt ph p ↔ AgreesOnCompression s side p
+compressed_at s phase.Greeting p side c a = neither (λ h. h) (no_compression s side p (ap is_login a))
+compressed_at s phase.Refused p side c a = neither (λ h. h) (no_compression s side p (ap is_login a))
+compressed_at s (phase.Login server) p side c a = ((λ h. login_agrees s false server p side c a h), (λ h. agrees_by_login s false server p side a h))
+compressed_at s (phase.Encrypted server) p side c a = neither (λ h. h) (no_compression s side p (ap is_login a))
+compressed_at s (phase.InTls server) p side c a = ((λ h. login_agrees s true server p side c a h), (λ h. agrees_by_login s true server p side a h))
+compressed_at s phase.NoLogin p side c a = neither (λ h. h) (no_compression s side p (ap is_login a))
+compressed_at s (phase.Commands q) p side c a = neither (λ h. h) (no_compression s side p (ap is_login a))
+
+-- both agree on compression by what the client sends
+pub sent_compressed : (s : Session) (p : List ℕ) (side : Side) → side ≡ Client → CompressedAt s.phase p ↔ AgreesOnCompression s side p
+sent_compressed s p side c = compressed_at s s.phase p side c refl
 
 -- ---- the conversation
 
@@ -164,19 +198,28 @@ commands_full s p side payload r e h = (
 
 -- ---- a login that does not agree on compression
 
-pub compressed_none : (server : Agreed) (tls : Bool) (o : Option SslRequest) → o ≡ None → CompressedBy server tls o → ⊥
-compressed_none server tls o e h = let no : None ≡ Some h.0 = sym e ∙ h.1 in absurd cc
+pub compressed_none : (server : Agreed) (tls : Bool) (p : List ℕ) → login_at p ≡ None → CompressedBy server tls p → ⊥
+compressed_none server tls p e h = let no : None ≡ Some h.0 = sym e ∙ h.1 in absurd cc
 
-pub compressed_asks : (server : Agreed) (tls : Bool) (o : Option SslRequest) (r : SslRequest) → o ≡ Some r → (not tls && asks_tls r) ≡ true → CompressedBy server tls o → ⊥
-compressed_asks server true o r e a h = absurd cc
-compressed_asks server false o r e a h =
+pub compressed_asks : (server : Agreed) (tls : Bool) (p : List ℕ) (r : SslRequest) → login_at p ≡ Some r → (not tls && asks_tls r) ≡ true → CompressedBy server tls p → ⊥
+compressed_asks server true p r e a h = absurd cc
+compressed_asks server false p r e a h =
     let same : h.0 ≡ r = some_is (sym h.1 ∙ e) in
     let no : false ≡ true = sym h.2 ∙ ap asks_tls same ∙ a in absurd cc
 
-pub compressed_open : (server : Agreed) (tls : Bool) (o : Option SslRequest) (r : SslRequest) → o ≡ Some r → compresses (agreed_on server (client_of r)) ≡ false → CompressedBy server tls o → ⊥
-compressed_open server tls o r e c h =
+pub compressed_unended : (server : Agreed) (tls : Bool) (p : List ℕ) → ends_name p ≡ false → CompressedBy server tls p → ⊥
+compressed_unended server tls p e h = let no : true ≡ false = sym h.4 ∙ e in absurd cc
+
+pub compressed_open : (server : Agreed) (tls : Bool) (p : List ℕ) (r : SslRequest) → login_at p ≡ Some r → compresses (agreed_on server (client_of r)) ≡ false → CompressedBy server tls p → ⊥
+compressed_open server tls p r e c h =
     let same : h.0 ≡ r = some_is (sym h.1 ∙ e) in
     let no : true ≡ false = sym h.3 ∙ ap (λ r. compresses (agreed_on server (client_of r))) same ∙ c in absurd cc
+
+pub none_read : (tls : Bool) (p : List ℕ) → login_at p ≡ None → IsNoLoginAt tls p (login_at p)
+none_read tls p e = subst (λ o. IsNoLoginAt tls p o) (sym e) tt
+
+pub none_ends : (tls : Bool) (p : List ℕ) (r : SslRequest) → login_at p ≡ Some r → MayLogIn tls r → ends_name p ≡ false → IsNoLoginAt tls p (login_at p)
+none_ends tls p r e m n = subst (λ o. IsNoLoginAt tls p o) (sym e) (m, n)
 
 pub ok_is_no_error : {A E : Type 0} (x : A) (e : E) → Ok x ≡ Err e → ⊥
 ok_is_no_error x e h = absurd cc

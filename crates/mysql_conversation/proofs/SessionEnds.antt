@@ -1,5 +1,5 @@
 -- Packets with which each session may go on.
-use Rattle.std.proofs.Common.{◌≡◌, ℕ, List, [], ◌∷◌, ◌++◌, inl, inr, Ok, refl, ap, subst, ◌∙◌, Bool, true, false, append_assoc}
+use Rattle.std.proofs.Common.{◌≡◌, ℕ, List, [], ◌∷◌, ◌++◌, inl, inr, Ok, refl, sym, ap, subst, ◌∙◌, Bool, true, false, append_assoc}
 use Rattle.std.proofs.Common.{append-nil}
 use Rattle.std.specs.Int.Bits.{and_zero_r}
 use Rattle.std.specs.Prelude.{bit_and, ◌==◌, ◌||◌}
@@ -12,7 +12,7 @@ use Rattle.mysql_auth.specs.declared.ssl_request.SslRequest.{SslRequest}
 use Rattle.mysql_conversation.specs.Agreements.{Agreed, agreed_on}
 use Rattle.mysql_conversation.specs.Piped.{place, stands}
 use Rattle.mysql_conversation.specs.Pipelined.{Numbered, IsPipelined}
-use Rattle.mysql_conversation.specs.Session.{client_of, MayLogIn, Before, IsLoggedIn, IsSessionBeginning, TakenIn}
+use Rattle.mysql_conversation.specs.Session.{client_of, MayLogIn, Before, IsLoggedIn, IsRefused, IsSessionBeginning, TakenIn}
 use Rattle.mysql_conversation.specs.Standing.{start}
 use Rattle.mysql_conversation.proofs.Stood.{run_is_beginning}
 use Rattle.mysql_conversation.specs.declared.kind.Kind.TheVariants as kind
@@ -21,14 +21,14 @@ use Rattle.mysql_conversation.specs.declared.kind.Side.TheVariants.{Client, Serv
 use Rattle.mysql_conversation.specs.declared.session.Phase.{Phase}
 use Rattle.mysql_conversation.specs.declared.session.Phase.TheVariants as phase
 
--- the login of a client that can do nothing
+-- the login of a client that can do nothing, with an empty name
 abbrev pub zeros : List ℕ
-zeros = 0 ∷ 0 ∷ 0 ∷ 0 ∷ 0 ∷ 0 ∷ 0 ∷ 0 ∷ 0 ∷ 0 ∷ 0 ∷ 0 ∷ 0 ∷ 0 ∷ 0 ∷ 0 ∷ 0 ∷ 0 ∷ 0 ∷ 0 ∷ 0 ∷ 0 ∷ 0 ∷ 0 ∷ 0 ∷ 0 ∷ 0 ∷ 0 ∷ 0 ∷ 0 ∷ 0 ∷ 0 ∷ []
+zeros = 0 ∷ 0 ∷ 0 ∷ 0 ∷ 0 ∷ 0 ∷ 0 ∷ 0 ∷ 0 ∷ 0 ∷ 0 ∷ 0 ∷ 0 ∷ 0 ∷ 0 ∷ 0 ∷ 0 ∷ 0 ∷ 0 ∷ 0 ∷ 0 ∷ 0 ∷ 0 ∷ 0 ∷ 0 ∷ 0 ∷ 0 ∷ 0 ∷ 0 ∷ 0 ∷ 0 ∷ 0 ∷ 0 ∷ []
 
 abbrev pub nothing_asked : SslRequest
 nothing_asked = request_of (record { 0 = 0; 1 = record {} }) 0 0 (record { 0 = 0; 1 = record {} })
 
-pub zeros_read : (ssl_request.form tt).reads zeros ≡ Ok (nothing_asked, [])
+pub zeros_read : (ssl_request.form tt).reads zeros ≡ Ok (nothing_asked, 0 ∷ [])
 unfolding ssl_request bytes number raw coded skip
 zeros_read = refl
 
@@ -45,7 +45,7 @@ logged_in server tls items f = (
   client_of nothing_asked,
   tls,
   f,
-  ((refl, refl, refl), nothing_asked, ([], (ssl_request.form tt).found nothing_asked zeros [] zeros_read), may tls, refl),
+  ((refl, refl, refl), nothing_asked, (0 ∷ [], (ssl_request.form tt).found nothing_asked zeros (0 ∷ []) zeros_read), may tls, refl, refl),
   refl,
   none_agreed server.mysql.0,
 )
@@ -60,8 +60,11 @@ login_goes_on server tls items f =
 pub taken_is_beginning : (ph : Phase) (items : List Numbered) → TakenIn ph items → IsSessionBeginning items
 taken_is_beginning phase.Greeting items e =
     let y = place Server (0xff ∷ []) kind.UnaskedError 0 in
-    (y ∷ [], inl (y, ap (λ xs. xs ++ y ∷ []) e, ((refl, refl, refl), refl)))
-taken_is_beginning phase.Refused items h = ([], inl (h.0, append-nil items ∙ h.1, h.2))
+    (y ∷ [], inl (inl (y, ap (λ xs. xs ++ y ∷ []) e, ((refl, refl, refl), refl))))
+taken_is_beginning phase.Refused items h = ([], inl (subst (λ xs. IsRefused xs) (sym (append-nil items)) h))
+taken_is_beginning phase.NoLogin items h =
+    let y = place Server (0xff ∷ []) kind.Error 0 in
+    (y ∷ [], inl (inr (inr (h.0, h.1, h.2, h.3, y, ap (λ xs. xs ++ y ∷ []) h.4 ∙ append_assoc h.2 (h.3 ∷ []) (y ∷ []), h.5, h.6, ((refl, refl, refl), refl)))))
 taken_is_beginning (phase.Login server) items h = login_goes_on server false items h
 taken_is_beginning (phase.Encrypted server) items h = login_goes_on server true items h
 taken_is_beginning (phase.InTls server) items h = login_goes_on server true items h

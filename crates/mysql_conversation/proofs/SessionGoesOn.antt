@@ -9,7 +9,7 @@ use Rattle.mysql_auth.specs.Handshake.{handshake, handshake_block, handshake_hea
 use Rattle.mysql_auth.specs.SslRequest.{ssl_request, request_of}
 use Rattle.mysql_auth.specs.declared.ssl_request.SslRequest.{SslRequest}
 use Rattle.mysql_conversation.specs.Agreements.{Agreed, agreed_on}
-use Rattle.mysql_conversation.specs.Expected.{greeting_names, login_names}
+use Rattle.mysql_conversation.specs.Expected.{greeting_names, login_names, login_error_names}
 use Rattle.mysql_conversation.specs.KindName.{name_of, is_in}
 use Rattle.mysql_conversation.specs.Payloads.{first_is}
 use Rattle.mysql_conversation.specs.Piped.{PipeTaken, place}
@@ -19,7 +19,7 @@ use Rattle.mysql_conversation.specs.SessionSteps.{greeting_at}
 use Rattle.mysql_conversation.specs.Standing.{start}
 use Rattle.mysql_conversation.proofs.Named.{All, pick}
 use Rattle.mysql_conversation.proofs.SessionEnds.{zeros, nothing_asked, logged_in, taken_is_beginning}
-use Rattle.mysql_conversation.proofs.Sessions.{greeting_at_is, head_is, after_one, after_two, one_or_two, login_or_tls, session_rest, begins_with, two_or_more, more_of}
+use Rattle.mysql_conversation.proofs.Sessions.{AnswersGreeting, greeting_at_is, answer_at, error_at, nothing_after, served_more, session_rest, begins_with, more_of}
 use Rattle.mysql_conversation.proofs.Stood.{run_is_beginning}
 use Rattle.mysql_conversation.specs.declared.kind.Kind.{Kind}
 use Rattle.mysql_conversation.specs.declared.kind.Kind.TheVariants as kind
@@ -57,7 +57,7 @@ greeting_comes =
 error_comes : GoesOn Server name.UnaskedError []
 error_comes =
     let y = place Server (0xff ∷ []) kind.UnaskedError 0 in
-    (0xff ∷ [], kind.UnaskedError, 0, refl, taken_is_beginning phase.Refused (y ∷ []) (y, refl, ((refl, refl, refl), refl)))
+    (0xff ∷ [], kind.UnaskedError, 0, refl, taken_is_beginning phase.Refused (y ∷ []) (inl (y, refl, ((refl, refl, refl), refl))))
 
 each_greeting : (side : Side) → All (λ n. GoesOn side n []) (greeting_names side)
 each_greeting Client = tt
@@ -76,33 +76,32 @@ greeting_goes_on side n items e = (
       subst (λ n. is_in n (greeting_names side) ≡ true) h.3 (begun_as side h.0 h.1 h.2 (begins_with y b.0 (subst (λ xs. IsSession ((xs ++ y ∷ []) ++ b.0)) e b.1)))),
 )
 
--- ---- after an error in its place
-
-not_both : (x u : Numbered) (server : Agreed) → IsGreetingError x → x ≡ u → IsGreeting server u → ⊥
-not_both x u server g e h =
-    let no : first_is 0xff x.packet.payload ≡ false = ap (λ (x : Numbered). first_is 0xff x.packet.payload) e ∙ h.1 in
-    let yes : first_is 0xff x.packet.payload ≡ true = g.1 in absurd cc
-
-alone : (x y : Numbered) (more : List Numbered) → IsGreetingError x → IsSession (x ∷ y ∷ more) → ⊥
-alone x y more g (inl h) = absurd cc
-alone x y more g (inr h) = elim (begins_with x (y ∷ more) (inr h)) [
-  | inl e ↦ error_or_login h.5.2 h.5.3
-  | inr e ↦ (let no : first_is 0xff x.packet.payload ≡ false = e.1.1 in let yes : first_is 0xff x.packet.payload ≡ true = g.1 in absurd cc)
-]
-  where
-    error_or_login : (tls : Bool) → Before h.5.0 tls h.1 → ⊥
-    error_or_login false f =
-        let e : x ∷ y ∷ more ≡ f.0 ∷ h.2 ∷ h.3 = h.4 ∙ ap (λ fs. fs ++ h.2 ∷ h.3) f.1 in
-        not_both x f.0 h.5.0 g (head_is x f.0 (y ∷ more) (h.2 ∷ h.3) e).0 f.2
-    error_or_login true f =
-        let e : x ∷ y ∷ more ≡ f.0 ∷ f.1 ∷ h.2 ∷ h.3 = h.4 ∙ ap (λ fs. fs ++ h.2 ∷ h.3) f.2 in
-        not_both x f.0 h.5.0 g (head_is x f.0 (y ∷ more) (f.1 ∷ h.2 ∷ h.3) e).0 f.3
+-- ---- after an error
 
 pub nothing_goes_on : (side : Side) (n : KindName) (items : List Numbered) → TakenIn phase.Refused items → GoesOn side n items → ⊥
 nothing_goes_on side n items t h =
     let y = place side h.0 h.1 h.2 in
     let b = h.4 in
-    alone t.0 y b.0 t.2 (subst (λ xs. IsSession ((xs ++ y ∷ []) ++ b.0)) t.1 b.1)
+    nothing_after items y b.0 t (subst (λ xs. IsSession xs) (append_assoc items (y ∷ []) b.0) b.1)
+
+-- ---- after what is no login
+
+login_error_comes : (items : List Numbered) → TakenIn phase.NoLogin items → GoesOn Server name.Error items
+login_error_comes items t = (0xff ∷ [], kind.Error, 0, refl, taken_is_beginning phase.Refused _ (served_more phase.NoLogin (0xff ∷ []) kind.Error 0 phase.Refused items refl refl t))
+
+each_login_error : (side : Side) (items : List Numbered) → TakenIn phase.NoLogin items → All (λ n. GoesOn side n items) (login_error_names side)
+each_login_error Client items t = tt
+each_login_error Server items t = (login_error_comes items t, tt)
+
+pub login_error_goes_on : (side : Side) (n : KindName) (items : List Numbered) → TakenIn phase.NoLogin items → is_in n (login_error_names side) ≡ true ↔ GoesOn side n items
+login_error_goes_on side n items t = (
+  (λ h. pick (λ n. GoesOn side n items) n (login_error_names side) (each_login_error side items t) h),
+  (λ h.
+      let y = place side h.0 h.1 h.2 in
+      let b = h.4 in
+      let e = error_at t.0 t.1 t.2 t.3 y b.0 t.5 t.6 (subst (λ xs. IsSession xs) (append_assoc items (y ∷ []) b.0 ∙ ap (λ xs. xs ++ y ∷ b.0) t.4 ∙ append_assoc t.2 (t.3 ∷ []) (y ∷ b.0)) b.1) in
+      subst (λ n. is_in n (login_error_names side) ≡ true) h.3 (rw (e.0.0.0, e.0.0.1) refl)),
+)
 
 -- ---- the login
 
@@ -134,38 +133,25 @@ login_comes server tls items f =
     let y = place Client zeros kind.Login 0 in
     (zeros, kind.Login, 0, refl, (b.0, inr (a, items, y, b.0, append_assoc items (y ∷ []) b.0, logged_in server tls items f, b.1)))
 
+late_comes : (server : Agreed) (tls : Bool) (items : List Numbered) → Before server tls items → GoesOn Server name.UnaskedError items
+late_comes server tls items f =
+    let y = place Server (0xff ∷ []) kind.UnaskedError 0 in
+    (0xff ∷ [], kind.UnaskedError, 0, refl, taken_is_beginning phase.Refused (items ++ y ∷ []) (inr (inl (server, tls, items, y, refl, f, ((refl, refl, refl), refl)))))
+
 each_login : (server : Agreed) (tls : Bool) (side : Side) (items : List Numbered) → Before server tls items → All (λ n. GoesOn side n items) (login_names tls side)
 each_login server true Client items f = (login_comes server true items f, tt)
 each_login server false Client items f = (request_comes server items f, (login_comes server false items f, tt))
-each_login server tls Server items f = tt
-
--- what answers the greeting: a request for TLS, or a login
-abbrev pub AnswersGreeting : Bool → Numbered → Type 0
-AnswersGreeting tls y = ((tls ≡ false) × IsSslRequest y) ⊎ ((c : Agreed) × IsLogin tls c y)
-
-answer_of : (tls : Bool) (y x : Numbered) → y ≡ x → AnswersGreeting tls x → AnswersGreeting tls y
-answer_of tls y x e h = subst (λ x. AnswersGreeting tls x) (sym e) h
-
-answer_by : (y : Numbered) (items more : List Numbered) (server : Agreed) (tls : Bool) → Before server tls items
-    → (s c : Agreed) (b : Bool) (front : List Numbered) (x : Numbered) (rest : List Numbered) → items ++ y ∷ more ≡ front ++ x ∷ rest → Before s b front → IsLogin b c x → AnswersGreeting tls y
-answer_by y items more server false f s c false front x rest e g l =
-    answer_of false y x (after_one server s f.0 g.0 y x more rest items front e f.1 g.1).1.0 (inr (c, l))
-answer_by y items more server false f s c true front x rest e g l =
-    answer_of false y g.1 (one_or_two f.0 g.0 g.1 y x more rest items front e f.1 g.2) (inl (refl, g.4))
-answer_by y items more server true f s c false front x rest e g l =
-    absurd (login_or_tls false c x f.1 (one_or_two g.0 f.0 f.1 x y rest more front items (sym e) g.1 f.2) l f.4)
-answer_by y items more server true f s c true front x rest e g l =
-    answer_of true y x (after_two f.0 g.0 f.1 g.1 y x more rest items front e f.2 g.2).1.0 (inr (c, l))
-
-pub answer_at : (y : Numbered) (items more : List Numbered) (server : Agreed) (tls : Bool) → Before server tls items → IsSession (items ++ y ∷ more) → AnswersGreeting tls y
-answer_at y items more server tls f (inl h) = absurd (two_or_more server tls items y h.0 more f h.1)
-answer_at y items more server tls f (inr h) = answer_by y items more server tls f h.5.0 h.5.1 h.5.2 h.1 h.2 h.3 h.4 h.5.3 h.5.4
+each_login server tls Server items f = (late_comes server tls items f, tt)
 
 answer_named : (tls : Bool) (side : Side) (p : List ℕ) (k : Kind) (i : ℕ) → AnswersGreeting tls (place side p k i) → is_in (name_of k) (login_names tls side) ≡ true
 answer_named true side p k i (inl h) = absurd cc
 answer_named false side p k i (inl h) = rw (h.1.0.0, h.1.0.1) refl
-answer_named true side p k i (inr h) = rw (h.1.0.0, h.1.0.1) refl
-answer_named false side p k i (inr h) = rw (h.1.0.0, h.1.0.1) refl
+answer_named true side p k i (inr (inl h)) = rw (h.1.0.0, h.1.0.1) refl
+answer_named false side p k i (inr (inl h)) = rw (h.1.0.0, h.1.0.1) refl
+answer_named true side p k i (inr (inr (inl h))) = rw (h.0.0, h.0.1) refl
+answer_named false side p k i (inr (inr (inl h))) = rw (h.0.0, h.0.1) refl
+answer_named true side p k i (inr (inr (inr h))) = rw (h.0.0, h.0.1) refl
+answer_named false side p k i (inr (inr (inr h))) = rw (h.0.0, h.0.1) refl
 
 pub login_goes_on : (server : Agreed) (tls : Bool) (side : Side) (n : KindName) (items : List Numbered) → Before server tls items → is_in n (login_names tls side) ≡ true ↔ GoesOn side n items
 login_goes_on server tls side n items f = (

@@ -62,6 +62,7 @@ turn state.Events = inr (inr (inl (refl, refl, refl)))
 turn state.Refusal = inr (inr (inl (refl, refl, refl)))
 turn state.CloneReply = inr (inr (inl (refl, refl, refl)))
 turn state.Clone = inr (inr (inr (refl, refl, refl, refl)))
+turn state.Quit = inr (inr (inr (refl, refl, refl, refl)))
 turn state.Over = inr (inr (inr (refl, refl, refl, refl)))
 
 -- an exchange runs, or none does
@@ -83,6 +84,7 @@ running_idle _ h = refl
 
 pub running_shut : (s : State) → rests s ≡ false → is_shut s ≡ false
 running_shut state.Clone h = absurd cc
+running_shut state.Quit h = absurd cc
 running_shut state.Over h = absurd cc
 running_shut _ h = refl
 
@@ -376,6 +378,7 @@ fits_serve a state.Events p h = fits_event (first_is 0 p) (old_end_of a p)
 fits_serve a state.Refusal p h = tt
 fits_serve a state.CloneReply p h = absurd cc
 fits_serve a state.Clone p h = absurd cc
+fits_serve a state.Quit p h = absurd cc
 fits_serve a state.Over p h = absurd cc
 
 fits_infile : (r : Request) (p : List ℕ) → Fits (infile_step r p)
@@ -406,6 +409,7 @@ fits_client state.Events p h = fits_cond (first_is 0xef p) _ _ (refl, refl) tt
 fits_client state.Refusal p h = tt
 fits_client state.CloneReply p h = absurd cc
 fits_client state.Clone p h = absurd cc
+fits_client state.Quit p h = absurd cc
 fits_client state.Over p h = absurd cc
 
 fitting : (o : Option (Kind × State)) (k : Kind) (m : State) → Fits o → o ≡ Some (k, m) → Fits (Some (k, m))
@@ -423,6 +427,7 @@ plain_shuts state.Rest h = absurd cc
 plain_shuts (state.Authentication true b) h = absurd cc
 plain_shuts state.CloneReply h = absurd cc
 plain_shuts state.Clone h = absurd cc
+plain_shuts state.Quit h = absurd cc
 plain_shuts state.Over h = absurd cc
 plain_shuts (state.Authentication false b) h = (refl, refl)
 plain_shuts (state.Infile r) h = (refl, refl)
@@ -459,7 +464,7 @@ clone_ok_says None k m h = absurd cc
 
 -- which states are special, and which are plain
 abbrev pub Special : State → Type 0
-Special s = (s ≡ state.Rest) ⊎ (((b : Bool) × (s ≡ state.Authentication true b)) ⊎ ((s ≡ state.CloneReply) ⊎ ((s ≡ state.Clone) ⊎ ((s ≡ state.Over) ⊎ (is_plain s ≡ true)))))
+Special s = (s ≡ state.Rest) ⊎ (((b : Bool) × (s ≡ state.Authentication true b)) ⊎ ((s ≡ state.CloneReply) ⊎ ((s ≡ state.Clone) ⊎ ((s ≡ state.Over) ⊎ ((s ≡ state.Quit) ⊎ (is_plain s ≡ true))))))
 
 pub special : (s : State) → Special s
 special state.Rest = inl refl
@@ -467,20 +472,21 @@ special (state.Authentication true b) = inr (inl (b, refl))
 special state.CloneReply = inr (inr (inl refl))
 special state.Clone = inr (inr (inr (inl refl)))
 special state.Over = inr (inr (inr (inr (inl refl))))
-special (state.Authentication false b) = inr (inr (inr (inr (inr refl))))
-special (state.Infile r) = inr (inr (inr (inr (inr refl))))
-special (state.Reply r) = inr (inr (inr (inr (inr refl))))
-special (state.InfileReply r) = inr (inr (inr (inr (inr refl))))
-special (state.Definitions n b) = inr (inr (inr (inr (inr refl))))
-special (state.DefinitionsEnd b) = inr (inr (inr (inr (inr refl))))
-special (state.Rows r) = inr (inr (inr (inr (inr refl))))
-special state.Prepared = inr (inr (inr (inr (inr refl))))
-special state.Fetch = inr (inr (inr (inr (inr refl))))
-special (state.Acknowledgement may_end) = inr (inr (inr (inr (inr refl))))
-special state.Text = inr (inr (inr (inr (inr refl))))
-special state.Fields = inr (inr (inr (inr (inr refl))))
-special state.Events = inr (inr (inr (inr (inr refl))))
-special state.Refusal = inr (inr (inr (inr (inr refl))))
+special state.Quit = inr (inr (inr (inr (inr (inl refl)))))
+special (state.Authentication false b) = inr (inr (inr (inr (inr (inr refl)))))
+special (state.Infile r) = inr (inr (inr (inr (inr (inr refl)))))
+special (state.Reply r) = inr (inr (inr (inr (inr (inr refl)))))
+special (state.InfileReply r) = inr (inr (inr (inr (inr (inr refl)))))
+special (state.Definitions n b) = inr (inr (inr (inr (inr (inr refl)))))
+special (state.DefinitionsEnd b) = inr (inr (inr (inr (inr (inr refl)))))
+special (state.Rows r) = inr (inr (inr (inr (inr (inr refl)))))
+special state.Prepared = inr (inr (inr (inr (inr (inr refl)))))
+special state.Fetch = inr (inr (inr (inr (inr (inr refl)))))
+special (state.Acknowledgement may_end) = inr (inr (inr (inr (inr (inr refl)))))
+special state.Text = inr (inr (inr (inr (inr (inr refl)))))
+special state.Fields = inr (inr (inr (inr (inr (inr refl)))))
+special state.Events = inr (inr (inr (inr (inr (inr refl)))))
+special state.Refusal = inr (inr (inr (inr (inr (inr refl)))))
 
 served_says : (a : Agreed) (s : State) (p : List ℕ) (k : Kind) (m : State) → Special s → serve a s p ≡ Some (k, m) → Says s k m
 served_says a s p k m (inl e) h = let no : serve a state.Rest p ≡ Some (k, m) = subst (λ s. serve a s p ≡ Some (k, m)) e h in absurd cc
@@ -490,7 +496,8 @@ served_says a s p k m (inr (inr (inl e))) h = subst (λ s. Says s k m) (sym e) (
 served_says a s p k m (inr (inr (inr (inl e)))) h =
     subst (λ s. Says s k m) (sym e) (of_one state.Clone kind.Clone k state.Clone m (subst (λ s. serve a s p ≡ Some (k, m)) e h) (refl, refl, refl))
 served_says a s p k m (inr (inr (inr (inr (inl e))))) h = let no : serve a state.Over p ≡ Some (k, m) = subst (λ s. serve a s p ≡ Some (k, m)) e h in absurd cc
-served_says a s p k m (inr (inr (inr (inr (inr e))))) h = plain_says s k m e (fitting (serve a s p) k m (fits_serve a s p e) h)
+served_says a s p k m (inr (inr (inr (inr (inr (inl e)))))) h = let no : serve a state.Quit p ≡ Some (k, m) = subst (λ s. serve a s p ≡ Some (k, m)) e h in absurd cc
+served_says a s p k m (inr (inr (inr (inr (inr (inr e)))))) h = plain_says s k m e (fitting (serve a s p) k m (fits_serve a s p e) h)
 
 -- where an exchange runs that is neither a login nor COM_CLONE, an error ends it
 pub plain_error : (s : State) → is_plain s ≡ true → error_step s ≡ Some (kind.Error, state.Rest)
@@ -498,6 +505,7 @@ plain_error state.Rest h = absurd cc
 plain_error (state.Authentication true b) h = absurd cc
 plain_error state.CloneReply h = absurd cc
 plain_error state.Clone h = absurd cc
+plain_error state.Quit h = absurd cc
 plain_error state.Over h = absurd cc
 plain_error (state.Authentication false b) h = refl
 plain_error _ h = refl
@@ -509,7 +517,8 @@ error_says s k m (inr (inl e)) h =
 error_says s k m (inr (inr (inl e))) h = subst (λ s. Says s k m) (sym e) (of_one state.CloneReply kind.Error k state.Rest m (subst (λ s. error_step s ≡ Some (k, m)) e h) (refl, refl, refl))
 error_says s k m (inr (inr (inr (inl e)))) h = subst (λ s. Says s k m) (sym e) (of_one state.Clone kind.Clone k state.Clone m (subst (λ s. error_step s ≡ Some (k, m)) e h) (refl, refl, refl))
 error_says s k m (inr (inr (inr (inr (inl e))))) h = let no : error_step state.Over ≡ Some (k, m) = subst (λ s. error_step s ≡ Some (k, m)) e h in absurd cc
-error_says s k m (inr (inr (inr (inr (inr e))))) h = plain_says s k m e (fitting (error_step s) k m (subst (λ o. Fits o) (sym (plain_error s e)) (refl, refl)) h)
+error_says s k m (inr (inr (inr (inr (inr (inl e)))))) h = subst (λ s. Says s k m) (sym e) (of_one state.Quit kind.UnaskedError k state.Over m (subst (λ s. error_step s ≡ Some (k, m)) e h) (refl, refl, refl))
+error_says s k m (inr (inr (inr (inr (inr (inr e)))))) h = plain_says s k m e (fitting (error_step s) k m (subst (λ o. Fits o) (sym (plain_error s e)) (refl, refl)) h)
 
 pub failed_clone : (r : Bool) → failed r state.Clone ≡ Some (kind.Clone, state.Clone)
 failed_clone true = refl
@@ -540,6 +549,7 @@ step_says a s p k m h = elim (chosen (first_is 0xff p) _ _ _ h) [
 due_shuts : (s : State) → is_due s ≡ true → (is_shut s ≡ false) × (is_in name.ProgressReport (shutting_names s) ≡ false)
 due_shuts state.Rest h = absurd cc
 due_shuts state.Clone h = absurd cc
+due_shuts state.Quit h = absurd cc
 due_shuts state.Over h = absurd cc
 due_shuts (state.Authentication true b) h = (refl, refl)
 due_shuts (state.Authentication false b) h = (refl, refl)
@@ -580,7 +590,8 @@ client_listens s p k m (inr (inr (inr (inl e)))) h =
     let f = subst (λ (x : Kind × State). (listens x.1 ≡ asks x.0) × (inside x.0 ≡ false)) (some_is c) (refl, refl) in
     (f.0, f.1 ∙ ap not (sym (ap rests e)))
 client_listens s p k m (inr (inr (inr (inr (inl e))))) h = let no : client_step state.Over p ≡ Some (k, m) = subst (λ s. client_step s p ≡ Some (k, m)) e h in absurd cc
-client_listens s p k m (inr (inr (inr (inr (inr e))))) h =
+client_listens s p k m (inr (inr (inr (inr (inr (inl e)))))) h = let no : client_step state.Quit p ≡ Some (k, m) = subst (λ s. client_step s p ≡ Some (k, m)) e h in absurd cc
+client_listens s p k m (inr (inr (inr (inr (inr (inr e)))))) h =
     let f = fitting (client_step s p) k m (fits_client s p e) h in
     (stance_listens m (asks k) f.0, f.1 ∙ ap not (sym (plain_shuts s e).0))
 
@@ -636,7 +647,8 @@ client_no_login s p (inr (inl e)) l = let no : is_login s ≡ true = ap is_login
 client_no_login s p (inr (inr (inl e))) l = subst (λ s. NoLogin (client_step s p)) (sym e) tt
 client_no_login s p (inr (inr (inr (inl e)))) l = subst (λ s. NoLogin (client_step s p)) (sym e) refl
 client_no_login s p (inr (inr (inr (inr (inl e))))) l = subst (λ s. NoLogin (client_step s p)) (sym e) tt
-client_no_login s p (inr (inr (inr (inr (inr e))))) l = fits_no_login (client_step s p) (fits_client s p e)
+client_no_login s p (inr (inr (inr (inr (inr (inl e)))))) l = subst (λ s. NoLogin (client_step s p)) (sym e) tt
+client_no_login s p (inr (inr (inr (inr (inr (inr e)))))) l = fits_no_login (client_step s p) (fits_client s p e)
 
 serve_no_login : (a : Agreed) (s : State) (p : List ℕ) → Special s → is_login s ≡ false → NoLogin (serve a s p)
 serve_no_login a s p (inl e) l = subst (λ s. NoLogin (serve a s p)) (sym e) tt
@@ -644,13 +656,15 @@ serve_no_login a s p (inr (inl e)) l = let no : is_login s ≡ true = ap is_logi
 serve_no_login a s p (inr (inr (inl e))) l = subst (λ s. NoLogin (serve a s p)) (sym e) (clone_no_login (reply_of a p))
 serve_no_login a s p (inr (inr (inr (inl e)))) l = subst (λ s. NoLogin (serve a s p)) (sym e) refl
 serve_no_login a s p (inr (inr (inr (inr (inl e))))) l = subst (λ s. NoLogin (serve a s p)) (sym e) tt
-serve_no_login a s p (inr (inr (inr (inr (inr e))))) l = fits_no_login (serve a s p) (fits_serve a s p e)
+serve_no_login a s p (inr (inr (inr (inr (inr (inl e)))))) l = subst (λ s. NoLogin (serve a s p)) (sym e) tt
+serve_no_login a s p (inr (inr (inr (inr (inr (inr e)))))) l = fits_no_login (serve a s p) (fits_serve a s p e)
 
 error_no_login : (s : State) → NoLogin (error_step s)
 error_no_login state.Rest = refl
 error_no_login (state.Authentication true b) = refl
 error_no_login (state.Authentication false b) = refl
 error_no_login state.Over = tt
+error_no_login state.Quit = refl
 error_no_login state.Clone = refl
 error_no_login _ = refl
 
@@ -675,7 +689,8 @@ error_rests s n l = elim (special s) [
   | inr (inr (inl e)) ↦ ap error_step e
   | inr (inr (inr (inl e))) ↦ (let no : rests s ≡ true = ap rests e in absurd cc)
   | inr (inr (inr (inr (inl e)))) ↦ (let no : rests s ≡ true = ap rests e in absurd cc)
-  | inr (inr (inr (inr (inr e)))) ↦ plain_error s e
+  | inr (inr (inr (inr (inr (inl e))))) ↦ (let no : rests s ≡ true = ap rests e in absurd cc)
+  | inr (inr (inr (inr (inr (inr e))))) ↦ plain_error s e
 ]
 
 -- an error in an exchange is one, and no exchange runs after it

@@ -86,6 +86,7 @@ rest_settles d i l (n ∷ q) o = elim (begin_due n.command) [
   where
     shut_rests : (s : State) → is_shut s ≡ true → rests s ≡ true
     shut_rests state.Clone h = refl
+    shut_rests state.Quit h = refl
     shut_rests state.Over h = refl
     shut_rests _ h = absurd cc
 

@@ -80,6 +80,7 @@ tail_of a state.Events = c.events a
 tail_of a state.Refusal = c.error a
 tail_of a state.CloneReply = (c.ok a false followed_by many c.clone) or c.error a
 tail_of a state.Clone = many c.clone
+tail_of a state.Quit = nothing
 tail_of a state.Over = nothing
 
 -- ---- parts

@@ -100,6 +100,7 @@ no_aside d state.Events p c h e = ack_refused p c e
 no_aside d state.Refusal p c h e = refl
 no_aside d state.CloneReply p c h e = refl
 no_aside d state.Clone p c h e = absurd cc
+no_aside d state.Quit p c h e = absurd cc
 no_aside d state.Over p c h e = absurd cc
 
 kind_at : (k : Kind) (m : State) (r : Option Command) → command_step r ≡ Some (k, m) → commands k ≡ true

@@ -196,6 +196,7 @@ each_served a state.Events =
 each_served a state.Refusal = tt
 each_served a state.CloneReply = (comes_served a state.CloneReply name.Ok ok_bytes kind.Ok state.Clone refl refl (ap (last_ok state.Clone) (ok_reply a)), tt)
 each_served a state.Clone = (comes_served a state.Clone name.Clone [] kind.Clone state.Clone refl refl refl, tt)
+each_served a state.Quit = tt
 each_served a state.Over = tt
 
 comes_error_at : (a : Agreed) (s : State) (n : KindName) (k : Kind) (m : State) → name_of k ≡ n → error_step s ≡ Some (k, m) → Comes a s Server n
@@ -204,6 +205,7 @@ comes_error_at a s n k m e h = (0xff ∷ [], k, m, e, rw (short_report a) (faile
 each_error : (a : Agreed) (s : State) → All (Comes a s Server) (error_names s)
 each_error a state.Rest = (comes_error_at a state.Rest name.UnaskedError kind.UnaskedError state.Over refl refl, tt)
 each_error a state.Clone = (comes_error_at a state.Clone name.Clone kind.Clone state.Clone refl refl, tt)
+each_error a state.Quit = (comes_error_at a state.Quit name.UnaskedError kind.UnaskedError state.Over refl refl, tt)
 each_error a state.Over = tt
 each_error a (state.Authentication true b) = (comes_error_at a (state.Authentication true b) name.Error kind.Error state.Over refl refl, tt)
 each_error a (state.Authentication false b) = (comes_error_at a (state.Authentication false b) name.Error kind.Error state.Rest refl refl, tt)
@@ -240,6 +242,7 @@ each_sent a state.Events = ((0xef ∷ [], kind.SemiSyncAck, state.Events, refl, 
 each_sent a state.Refusal = tt
 each_sent a state.CloneReply = tt
 each_sent a state.Clone = (([], kind.Clone, state.Clone, refl, refl), tt)
+each_sent a state.Quit = tt
 each_sent a state.Over = tt
 
 -- ---- of both

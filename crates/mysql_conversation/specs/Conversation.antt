@@ -298,9 +298,9 @@ exchanges a = many (unless_broken a (exchange a))
 abbrev pub commanding : Answer → Part
 commanding r = one (λ x. (x.from ≡ Client) × (x.kind ≡ kind.Command (code_of x.payload)) × (answering (code_of x.payload) (asks_cursor x.payload) ≡ Some r))
 
--- COM_QUIT
-abbrev pub quit : Part
-quit = commanding answer.Quit
+-- COM_QUIT, which a server may still answer with an error
+abbrev pub quit : Agreed → Part
+quit a = commanding answer.Quit followed_by (nothing or unasked_error a)
 
 -- COM_CLONE, and the clone plugin's own protocol up to the end of the connection
 abbrev pub cloned : Agreed → Part
@@ -308,7 +308,7 @@ cloned a = commanding answer.Clone followed_by ok a false followed_by many clone
 
 -- what ends the connection, after which no packet comes
 abbrev pub last : Agreed → Part
-last a = nothing or quit or unasked_error a or cloned a
+last a = nothing or quit a or unasked_error a or cloned a
 
 abbrev pub commanded : Agreed → Part
 commanded a = exchanges a followed_by last a

@@ -58,6 +58,7 @@ numbers_of o state.Refusal = at o 14 0
 numbers_of o state.CloneReply = at o 15 0
 numbers_of o state.Clone = at o 16 0
 numbers_of o state.Over = at o 17 0
+numbers_of o state.Quit = at o 18 0
 
 abbrev pub request_at : ℕ → Option Request
 request_at n = if n == 0 then Some Query else (if n == 1 then Some Execution else (if n == 2 then Some Cursor else None))
@@ -103,7 +104,8 @@ state_at s =
     else (if s.place == 15 then Some state.CloneReply
     else (if s.place == 16 then Some state.Clone
     else (if s.place == 17 then Some state.Over
-    else None)))))))))))))))))
+    else (if s.place == 18 then Some state.Quit
+    else None))))))))))))))))))
 
 -- the numbers are of a state
 abbrev pub IsState : ConversationState → Type 0

@@ -33,6 +33,7 @@ sent_names state.Events = name.SemiSyncAck ∷ []
 sent_names state.Refusal = []
 sent_names state.CloneReply = []
 sent_names state.Clone = name.Clone ∷ []
+sent_names state.Quit = []
 sent_names state.Over = []
 
 -- how an end is named
@@ -70,12 +71,14 @@ served_names a state.Events = name.BinlogEvent ∷ name.Eof ∷ []
 served_names a state.Refusal = []
 served_names a state.CloneReply = name.Ok ∷ []
 served_names a state.Clone = name.Clone ∷ []
+served_names a state.Quit = []
 served_names a state.Over = []
 
 -- of what begins with ff, and is no report
 abbrev pub error_names : State → List KindName
 error_names state.Rest = name.UnaskedError ∷ []
 error_names state.Clone = name.Clone ∷ []
+error_names state.Quit = name.UnaskedError ∷ []
 error_names state.Over = []
 error_names _ = name.Error ∷ []
 
@@ -101,6 +104,7 @@ shutting_names state.Rest = name.UnaskedError ∷ []
 shutting_names (state.Authentication true is_asked) = name.Error ∷ []
 shutting_names state.CloneReply = name.Ok ∷ []
 shutting_names state.Clone = name.Clone ∷ []
+shutting_names state.Quit = name.UnaskedError ∷ []
 shutting_names _ = []
 
 -- Where commands may come early: a command where the server is to speak and COM_QUIT doesn't wait, and another packet of the client where
@@ -116,7 +120,12 @@ abbrev pub greeting_names : Side → List KindName
 greeting_names Client = []
 greeting_names Server = name.Handshake ∷ name.UnaskedError ∷ []
 
+-- what answers what is no login
+abbrev pub login_error_names : Side → List KindName
+login_error_names Client = []
+login_error_names Server = name.Error ∷ []
+
 abbrev pub login_names : Bool → Side → List KindName
-login_names tls Server = []
+login_names tls Server = name.UnaskedError ∷ []
 login_names true Client = name.Login ∷ []
 login_names false Client = name.SslRequest ∷ name.Login ∷ []

@@ -145,7 +145,7 @@ answers answer.Fields = state.Fields
 answers answer.Authentication = state.Authentication false false
 answers answer.Events = state.Events
 answers answer.Nothing = state.Rest
-answers answer.Quit = state.Over
+answers answer.Quit = state.Quit
 answers answer.Clone = state.CloneReply
 answers answer.Refusal = state.Refusal
 
@@ -187,6 +187,7 @@ client_step state.Events p = ack_step p
 client_step state.Refusal p = None
 client_step state.CloneReply p = None
 client_step state.Clone p = Some (kind.Clone, state.Clone)
+client_step state.Quit p = None
 client_step state.Over p = None
 
 -- an event, or the EOF packet after the last
@@ -308,6 +309,7 @@ serve a state.Events p = event_step (first_is 0 p) (old_end_of a p)
 serve a state.Refusal p = None
 serve a state.CloneReply p = last_ok state.Clone (reply_of a p)
 serve a state.Clone p = Some (kind.Clone, state.Clone)
+serve a state.Quit p = None
 serve a state.Over p = None
 
 -- ---- whose turn it is
@@ -320,6 +322,7 @@ is_idle _ = false
 -- no command comes any more
 abbrev pub is_shut : State → Bool
 is_shut state.Clone = true
+is_shut state.Quit = true
 is_shut state.Over = true
 is_shut _ = false
 
@@ -327,6 +330,7 @@ is_shut _ = false
 abbrev pub rests : State → Bool
 rests state.Rest = true
 rests state.Clone = true
+rests state.Quit = true
 rests state.Over = true
 rests _ = false
 
@@ -343,6 +347,7 @@ is_due (state.Authentication login true) = false
 is_due (state.Authentication login false) = true
 is_due (state.Infile r) = false
 is_due state.Clone = false
+is_due state.Quit = false
 is_due state.Over = false
 is_due _ = true
 
@@ -350,6 +355,7 @@ is_due _ = true
 abbrev pub error_step : State → Option (Kind × State)
 error_step state.Rest = Some (kind.UnaskedError, state.Over)
 error_step (state.Authentication true is_asked) = Some (kind.Error, state.Over)
+error_step state.Quit = Some (kind.UnaskedError, state.Over)
 error_step state.Over = None
 error_step state.Clone = Some (kind.Clone, state.Clone)
 error_step _ = Some (kind.Error, state.Rest)

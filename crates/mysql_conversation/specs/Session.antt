@@ -1,5 +1,6 @@
 -- Whole sessions: the greeting, the login, and the conversation that follows them.
-use Rattle.std.specs.Prelude.{◌≡◌, ◌⊎◌, ℕ, List, [], ◌∷◌, ◌++◌, Bool, true, false}
+use Rattle.std.specs.Prelude.{◌≡◌, ◌⊎◌, ℕ, List, [], ◌∷◌, ◌++◌, drop, Bool, true, false, ◌==◌, ◌&&◌, if◌then◌else◌}
+use Rattle.std.specs.List.{list_any}
 use Rattle.mysql_wire.specs.FlagMasks.{CLIENT_SSL}
 use Rattle.mysql_wire.specs.Flags.{has}
 use Rattle.mysql_auth.specs.Handshake.{handshake}
@@ -36,6 +37,16 @@ client_of r = record { mysql = head.capabilities r; mariadb = head.mariadb_capab
 abbrev pub asks_tls : SslRequest → Bool
 asks_tls r = has (head.capabilities r).0 CLIENT_SSL
 
+-- The user's name, after these 32 bytes, ends with a zero: what has none is no login (`parse_client_handshake_packet` in MySQL's
+-- `sql_authentication.cc`), whatever its first bytes say.
+abbrev pub ends_name : List ℕ → Bool
+ends_name p = list_any (λ b. b == 0) (drop 32 p)
+
+-- ff, a code and the # before its state, as no record of TLS begins that a server sends
+abbrev pub is_clear_error : List ℕ → Bool
+is_clear_error (b ∷ c ∷ d ∷ hash ∷ p) = b == 0xff && hash == 0x23
+is_clear_error _ = false
+
 -- a packet of no command's exchange, of this side and kind
 abbrev pub IsOf : Side → Kind → Numbered → Type 0
 IsOf side k x = (x.packet.from ≡ side) × (x.packet.kind ≡ k) × (x.number ≡ 0)
@@ -64,7 +75,15 @@ MayLogIn false r = asks_tls r ≡ false
 
 -- a login of a client that can do this
 abbrev pub IsLogin : Bool → Agreed → Numbered → Type 0
-IsLogin tls client x = IsOf Client kind.Login x × (r : SslRequest) × BeginsAs r x.packet.payload × MayLogIn tls r × (client_of r ≡ client)
+IsLogin tls client x = IsOf Client kind.Login x × (r : SslRequest) × BeginsAs r x.packet.payload × MayLogIn tls r × (client_of r ≡ client) × (ends_name x.packet.payload ≡ true)
+
+-- what stands in a login's place, and is none
+abbrev pub IsNoLogin : Bool → Numbered → Type 0
+IsNoLogin tls x = IsOf Client kind.Login x × ((r : SslRequest) → BeginsAs r x.packet.payload → MayLogIn tls r × (ends_name x.packet.payload ≡ false))
+
+-- the server answers it with an error
+abbrev pub IsLoginError : Numbered → Type 0
+IsLoginError x = IsOf Server kind.Error x × (first_is 0xff x.packet.payload ≡ true)
 
 -- what comes before the login: the greeting, and the request for TLS where that is asked for
 abbrev pub Before : Agreed → Bool → List Numbered → Type 0
@@ -76,10 +95,17 @@ abbrev pub IsLoggedIn : Agreed → List Numbered → Numbered → Type 0
 IsLoggedIn a front x =
     (server : Agreed) × (client : Agreed) × (tls : Bool) × Before server tls front × IsLogin tls client x × (agreed_on server client ≡ a) × (compresses a ≡ false)
 
--- an error in place of the greeting; or the greeting, the login, and a conversation under what both agreed on
+-- an error in place of the greeting; or in place of the login, which comes too late, say; or in answer to what is no login
+abbrev pub IsRefused : List Numbered → Type 0
+IsRefused items =
+    ((x : Numbered) × (items ≡ x ∷ []) × IsGreetingError x)
+    ⊎ (((server : Agreed) × (tls : Bool) × (front : List Numbered) × (x : Numbered) × (items ≡ front ++ x ∷ []) × Before server tls front × IsGreetingError x)
+    ⊎ ((server : Agreed) × (tls : Bool) × (front : List Numbered) × (y : Numbered) × (x : Numbered) × (items ≡ front ++ y ∷ x ∷ []) × Before server tls front × IsNoLogin tls y × IsLoginError x))
+
+-- a session that is refused; or the greeting, the login, and a conversation under what both agreed on
 abbrev pub IsSession : List Numbered → Type 0
 IsSession items =
-    ((x : Numbered) × (items ≡ x ∷ []) × IsGreetingError x)
+    IsRefused items
     ⊎ ((a : Agreed) × (front : List Numbered) × (x : Numbered) × (rest : List Numbered) × (items ≡ front ++ x ∷ rest) × IsLoggedIn a front x × IsPipelined a Login rest)
 
 -- the beginning of a session
@@ -89,7 +115,9 @@ IsSessionBeginning items = (more : List Numbered) × IsSession (items ++ more)
 -- these packets, of these kinds and numbers, are what it has taken
 abbrev pub TakenIn : Phase → List Numbered → Type 0
 TakenIn phase.Greeting items = items ≡ []
-TakenIn phase.Refused items = (x : Numbered) × (items ≡ x ∷ []) × IsGreetingError x
+TakenIn phase.Refused items = IsRefused items
+TakenIn phase.NoLogin items =
+    (server : Agreed) × (tls : Bool) × (front : List Numbered) × (y : Numbered) × (items ≡ front ++ y ∷ []) × Before server tls front × IsNoLogin tls y
 TakenIn (phase.Login server) items = Before server false items
 TakenIn (phase.Encrypted server) items = Before server true items
 TakenIn (phase.InTls server) items = Before server true items
@@ -103,6 +131,7 @@ SessionTaken s items = TakenIn s.phase items
 abbrev pub limit_in : ℕ → Phase → ℕ
 limit_in n phase.Greeting = n
 limit_in n phase.Refused = n
+limit_in n phase.NoLogin = n
 limit_in n (phase.Login server) = n
 limit_in n (phase.Encrypted server) = n
 limit_in n (phase.InTls server) = n
@@ -115,10 +144,15 @@ limit s = limit_in s.limit s.phase
 abbrev pub IsEncrypted : Session → Type 0
 IsEncrypted s = (server : Agreed) × (s.phase ≡ phase.Encrypted server)
 
+-- what comes is not ours: in TLS, but for an error that the server sends in clear, where it doesn't go on in TLS
+abbrev pub IsHidden : Session → Side → List ℕ → Type 0
+IsHidden s side p = IsEncrypted s × ((side ≡ Client) ⊎ (is_clear_error p ≡ false))
+
 -- what comes is deciphered, where it goes on in TLS
 abbrev pub deciphered_in : Phase → Phase
 deciphered_in phase.Greeting = phase.Greeting
 deciphered_in phase.Refused = phase.Refused
+deciphered_in phase.NoLogin = phase.NoLogin
 deciphered_in (phase.Login server) = phase.Login server
 deciphered_in (phase.Encrypted server) = phase.InTls server
 deciphered_in (phase.InTls server) = phase.InTls server
@@ -136,12 +170,13 @@ AsksForTls s side p = (side ≡ Client) × (server : Agreed) × (r : SslRequest)
 -- the client logs in, and by the greeting and the login both sides agree on compression
 abbrev pub AgreesOnCompression : Session → Side → List ℕ → Type 0
 AgreesOnCompression s side p =
-    (side ≡ Client) × (tls : Bool) × (server : Agreed) × (r : SslRequest) × AwaitsLogin s tls server × BeginsAs r p × MayLogIn tls r × (compresses (agreed_on server (client_of r)) ≡ true)
+    (side ≡ Client) × (tls : Bool) × (server : Agreed) × (r : SslRequest) × AwaitsLogin s tls server × BeginsAs r p × MayLogIn tls r × (compresses (agreed_on server (client_of r)) ≡ true) × (ends_name p ≡ true)
 
 -- nothing is changed: a conversation is the same, and else what comes next is
 abbrev pub IsSameIn : Phase → Phase → Type 0
 IsSameIn phase.Greeting next = next ≡ phase.Greeting
 IsSameIn phase.Refused next = next ≡ phase.Refused
+IsSameIn phase.NoLogin next = next ≡ phase.NoLogin
 IsSameIn (phase.Login server) next = next ≡ phase.Login server
 IsSameIn (phase.Encrypted server) next = next ≡ phase.Encrypted server
 IsSameIn (phase.InTls server) next = next ≡ phase.InTls server

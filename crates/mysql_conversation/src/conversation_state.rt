@@ -116,6 +116,7 @@ pub(crate) fn numbers_of(opening: Opening, state: State) -> ConversationState
         State::CloneReply => at(opening, 15, 0),
         State::Clone => at(opening, 16, 0),
         State::Over => at(opening, 17, 0),
+        State::Quit => at(opening, 18, 0),
     }
 }
 
@@ -190,6 +191,7 @@ pub(crate) fn state_at(numbers: &ConversationState) -> Option<State>
         15 => Some(State::CloneReply),
         16 => Some(State::Clone),
         17 => Some(State::Over),
+        18 => Some(State::Quit),
         _ => None,
     }
 }

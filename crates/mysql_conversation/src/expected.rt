@@ -66,7 +66,7 @@ fn is_served(agreed: SessionCapabilities, state: &State, name: KindName) -> bool
 {
     let ends = is_end(deprecates_eof(agreed), name);
     match *state {
-        State::Rest | State::Infile(_) | State::Refusal | State::Over => false,
+        State::Rest | State::Infile(_) | State::Refusal | State::Quit | State::Over => false,
         State::Authentication(_, _) => {
             matches!(name, KindName::Ok) || is_asked(asks_factors(agreed), name)
         }
@@ -94,7 +94,7 @@ fn is_error(state: &State, name: KindName) -> bool
     ensures { result ≡ is_in name (spec.error_names state.now) }
 {
     match *state {
-        State::Rest => matches!(name, KindName::UnaskedError),
+        State::Rest | State::Quit => matches!(name, KindName::UnaskedError),
         State::Clone => matches!(name, KindName::Clone),
         State::Over => false,
         _ => matches!(name, KindName::Error),
@@ -106,7 +106,7 @@ pub(crate) fn shuts(state: &State, name: KindName) -> bool
     ensures { result ≡ is_in name (spec.shutting_names state.now) }
 {
     match *state {
-        State::Rest => matches!(name, KindName::UnaskedError),
+        State::Rest | State::Quit => matches!(name, KindName::UnaskedError),
         State::Authentication(true, _) => matches!(name, KindName::Error),
         State::CloneReply => matches!(name, KindName::Ok),
         State::Clone => matches!(name, KindName::Clone),
@@ -169,6 +169,16 @@ pub(crate) fn is_login(in_tls: bool, from: Side, name: KindName) -> bool
         Side::Client => {
             matches!(name, KindName::Login) || (!in_tls && matches!(name, KindName::SslRequest))
         }
-        Side::Server => false,
+        Side::Server => matches!(name, KindName::UnaskedError),
+    }
+}
+
+/// What answers what is no login.
+pub(crate) fn is_login_error(from: Side, name: KindName) -> bool
+    ensures { result ≡ is_in name (spec.login_error_names from) }
+{
+    match from {
+        Side::Client => false,
+        Side::Server => matches!(name, KindName::Error),
     }
 }

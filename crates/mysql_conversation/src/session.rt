@@ -1,6 +1,6 @@
 //! Whole sessions.
 
-ghost use Rattle.std.specs.Prelude.{◌≡◌, ◌↔◌, ◌⊎◌, ◌≤◌, ◌<◌, ◌-◌, ◌^◌, IfOk, IfErr, IfSome, IfNone, OnErr, OnOk, IsTrue, List, [], ◌∷◌, ◌++◌, ℕ, true, false, None, Some, length, not, ◌&&◌, Err};
+ghost use Rattle.std.specs.Prelude.{◌≡◌, ◌≢◌, ◌↔◌, ◌⊎◌, ◌≤◌, ◌<◌, ◌-◌, ◌^◌, IfOk, IfErr, IfSome, IfNone, OnErr, OnOk, IsTrue, List, [], ◌∷◌, ◌++◌, ℕ, true, false, None, Some, length, not, ◌&&◌, Err};
 ghost use Rattle.mysql_auth.specs.declared.ssl_request.SslRequest as login_head;
 ghost use Rattle.mysql_conversation.specs.Agreements.{agreed_on, compresses};
 ghost use Rattle.mysql_conversation.specs.Payloads as payloads;
@@ -8,7 +8,7 @@ ghost use Rattle.mysql_conversation.specs.Session as sessions;
 ghost use Rattle.mysql_conversation.specs.SessionSteps.{greeting_at, login_at};
 
 use crate::agreed::{agreed_on, compresses};
-use crate::expected::{is_greeting, is_login};
+use crate::expected::{is_greeting, is_login, is_login_error};
 use crate::kind::{Kind, Opening, Side};
 use crate::kind_name::KindName;
 use crate::payload::first_is;
@@ -24,7 +24,7 @@ use std::alloc::Global;
 pub(crate) enum Phase {
     /// The greeting, or an error in its place.
     Greeting,
-    /// Nothing: there was an error in place of the greeting.
+    /// Nothing: there was an error in place of the greeting or of the login.
     Refused,
     /// The login, or a request to go on in TLS.
     Login(SessionCapabilities),
@@ -32,6 +32,8 @@ pub(crate) enum Phase {
     Encrypted(SessionCapabilities),
     /// The login, which the caller has deciphered.
     InTls(SessionCapabilities),
+    /// The error that answers what is no login.
+    NoLogin,
     /// The conversation that follows the login.
     Commands(Pipeline),
 }
@@ -82,6 +84,26 @@ fn asks_tls(in_tls: bool, head: &SslRequest) -> bool
     !in_tls && head.capabilities().contains(CapabilityFlags::CLIENT_SSL)
 }
 
+/// Whether the user's name ends, after the 32 bytes that a login begins with.
+fn ends_name(payload: &[u8]) -> bool
+    ensures { result ≡ sessions.ends_name payload.now }
+{
+    match payload.get(32..) {
+        Some(rest) => rest.iter().any(|byte| *byte == 0),
+        None => false,
+    }
+}
+
+/// Whether it is an error that a server sends in clear: no record of TLS that it sends begins so.
+fn is_clear_error(payload: &[u8]) -> bool
+    ensures { result ≡ sessions.is_clear_error payload.now }
+{
+    match payload {
+        [first, _, _, hash, ..] => *first == 0xff && *hash == b'#',
+        _ => false,
+    }
+}
+
 /// What a client can do.
 fn client_of(head: &SslRequest) -> SessionCapabilities
     ensures { result ≡ sessions.client_of head.now }
@@ -96,8 +118,9 @@ impl Session {
     ghost use Rattle.mysql_conversation.specs.Pipelined.{Numbered};
     ghost use Rattle.mysql_conversation.specs.Piped as piped;
     ghost use Rattle.mysql_conversation.specs.Piped.{place};
-    ghost use Rattle.mysql_conversation.specs.Session.{IsSession, IsSessionBeginning, SessionTaken, IsEncrypted, AsksForTls, AgreesOnCompression, IsSame, Continues, Comes, GoesOn, IsLoggedInAmong, client_of};
-    ghost use Rattle.mysql_conversation.specs.SessionSteps.{GreetedAs, AnsweredAs, CompressedBy};
+    ghost use Rattle.mysql_conversation.specs.Session.{IsSession, IsSessionBeginning, SessionTaken, IsEncrypted, IsHidden, AsksForTls, AgreesOnCompression, IsSame, Continues, Comes, GoesOn, IsLoggedInAmong, client_of};
+    ghost use Rattle.mysql_conversation.specs.SessionSteps.{AnsweredAs, CompressedAt, CompressedBy, SentBefore, is_commands, sends_none, served_before};
+    ghost use Rattle.mysql_conversation.specs.declared.session.Phase.TheVariants as phases;
     ghost use Rattle.mysql_conversation.specs.Agreements as agreement;
     ghost use Rattle.mysql_conversation.specs.declared.kind.Kind as declared;
     ghost use Rattle.mysql_conversation.specs.declared.kind.Side.TheVariants as side;
@@ -156,6 +179,7 @@ impl Session {
             Phase::Commands(pipeline) => pipeline.expects(from, name),
             Phase::Greeting => is_greeting(from, name),
             Phase::Refused => false,
+            Phase::NoLogin => is_login_error(from, name),
             Phase::Login(_server) => is_login(false, from, name),
             Phase::Encrypted(_server) => is_login(true, from, name),
             Phase::InTls(_server) => is_login(true, from, name),
@@ -181,8 +205,9 @@ impl Session {
         // Of no kind and number does the packet go on with what was taken.
         ensures refused { IfErr result (λ why. (items : List Numbered) (kind : declared.Kind) (number : ℕ) → why ≡ refusal.Unexpected → SessionTaken self.old items
             → IsSessionBeginning (items ++ place from payload.now kind number ∷ []) → ⊥) }
-        // Exactly where a request to go on in TLS came, and nothing says that what comes is deciphered.
-        ensures encrypted { (result ≡ Err refusal.Encrypted) ↔ IsEncrypted self.old }
+        // Exactly where a request to go on in TLS came, and nothing says that what comes is deciphered: but for an error that the
+        // server sends in clear.
+        ensures encrypted { (result ≡ Err refusal.Encrypted) ↔ IsHidden self.old from payload.now }
         ensures tls { IfOk result (λ _. IsEncrypted self.new ↔ AsksForTls self.old from payload.now) }
         // Exactly of a login by which both sides agree on compression.
         ensures compressed { (result ≡ Err refusal.Compressed) ↔ AgreesOnCompression self.old from payload.now }
@@ -199,33 +224,90 @@ impl Session {
     {
         match &mut self.phase {
             Phase::Commands(pipeline) => pipeline.next(from, payload),
-            Phase::Greeting => match from {
-                Side::Server => self.greeted(payload),
-                Side::Client => Err(Refusal::Unexpected),
+            Phase::Greeting
+            | Phase::Refused
+            | Phase::Login(_)
+            | Phase::Encrypted(_)
+            | Phase::InTls(_)
+            | Phase::NoLogin => match from {
+                Side::Server => self.served(payload),
+                Side::Client => self.sent(payload),
             },
-            Phase::Refused => Err(Refusal::Unexpected),
+        }
+    }
+
+    /// A packet of the server before the conversation.
+    fn served(&mut self, payload: &[u8]) -> Result<(Kind, u64), Refusal>
+        requires before { is_commands self.old.phase ≡ false }
+        ensures taken { IfOk result (λ x. (x.1 ≡ 0) × (served_before self.old.phase payload.now ≡ Some (x.0, self.new.phase))) }
+        ensures refused { IfErr result (λ why. ((why ≡ refusal.Unexpected) ⊎ (why ≡ refusal.Encrypted)) × (served_before self.old.phase payload.now ≡ None)) }
+        ensures encrypted { (result ≡ Err refusal.Encrypted) ↔ (IsEncrypted self.old × (sessions.is_clear_error payload.now ≡ false)) }
+        ensures limit { OnOk result (sessions.limit self.new ≡ self.old.limit) }
+        ensures err { OnErr result (self.new ≡ self.old) }
+    {
+        match &self.phase {
+            Phase::Greeting => self.greeted(payload),
+            Phase::Login(_) | Phase::InTls(_) => {
+                self.refused(Kind::UnaskedError, first_is(0xff, payload))
+            }
+            Phase::NoLogin => self.refused(Kind::Error, first_is(0xff, payload)),
+            Phase::Encrypted(_) => {
+                if is_clear_error(payload) {
+                    self.refused(Kind::UnaskedError, true)
+                } else {
+                    Err(Refusal::Encrypted)
+                }
+            }
+            Phase::Refused | Phase::Commands(_) => Err(Refusal::Unexpected),
+        }
+    }
+
+    /// An error, where it is one: nothing comes after it.
+    fn refused(&mut self, kind: Kind, is_error: bool) -> Result<(Kind, u64), Refusal>
+        ensures taken { IfOk result (λ x. (x.1 ≡ 0) × (x.0 ≡ kind) × (is_error ≡ true) × (self.new.phase ≡ phases.Refused)) }
+        ensures refused { IfErr result (λ why. (why ≡ refusal.Unexpected) × (is_error ≡ false)) }
+        ensures limit { self.new.limit ≡ self.old.limit }
+        ensures err { OnErr result (self.new ≡ self.old) }
+    {
+        if is_error {
+            self.phase = Phase::Refused;
+            Ok((kind, 0))
+        } else {
+            Err(Refusal::Unexpected)
+        }
+    }
+
+    /// A packet of the client before the conversation.
+    fn sent(&mut self, payload: &[u8]) -> Result<(Kind, u64), Refusal>
+        requires before { is_commands self.old.phase ≡ false }
+        ensures taken { IfOk result (λ x. (x.1 ≡ 0) × SentBefore self.old.phase payload.now x.0 self.new.phase) }
+        ensures refused { IfErr result (λ why. why ≡ refusal.Unexpected → sends_none self.old.phase ≡ true) }
+        ensures encrypted { (result ≡ Err refusal.Encrypted) ↔ IsEncrypted self.old }
+        ensures compressed { (result ≡ Err refusal.Compressed) ↔ CompressedAt self.old.phase payload.now }
+        ensures ours { IfErr result (λ why. (why ≢ refusal.Full) × (why ≢ refusal.Memory)) }
+        ensures limit { OnOk result (sessions.limit self.new ≡ self.old.limit) }
+        ensures err { OnErr result (self.new ≡ self.old) }
+    {
+        match &self.phase {
+            Phase::Login(server) => {
+                let server = *server;
+                self.answered(server, false, payload)
+            }
+            Phase::InTls(server) => {
+                let server = *server;
+                self.answered(server, true, payload)
+            }
             Phase::Encrypted(_) => Err(Refusal::Encrypted),
-            Phase::Login(server) => match from {
-                Side::Server => Err(Refusal::Unexpected),
-                Side::Client => {
-                    let server = *server;
-                    self.answered(server, false, payload)
-                }
-            },
-            Phase::InTls(server) => match from {
-                Side::Server => Err(Refusal::Unexpected),
-                Side::Client => {
-                    let server = *server;
-                    self.answered(server, true, payload)
-                }
-            },
+            Phase::Greeting | Phase::Refused | Phase::NoLogin | Phase::Commands(_) => {
+                Err(Refusal::Unexpected)
+            }
         }
     }
 
     /// The greeting, or an error in its place.
     fn greeted(&mut self, payload: &[u8]) -> Result<(Kind, u64), Refusal>
-        ensures taken { IfOk result (λ x. (x.1 ≡ 0) × GreetedAs payload.now x.0 self.new.phase) }
-        ensures refused { IfErr result (λ why. (why ≡ refusal.Unexpected) × (payloads.first_is 0xff payload.now ≡ false) × (greeting_at payload.now ≡ None)) }
+        ensures taken { IfOk result (λ x. (x.1 ≡ 0) × (served_before phases.Greeting payload.now ≡ Some (x.0, self.new.phase))) }
+        ensures refused { IfErr result (λ why. (why ≡ refusal.Unexpected) × (served_before phases.Greeting payload.now ≡ None)) }
         ensures limit { OnOk result (sessions.limit self.new ≡ self.old.limit) }
         ensures err { OnErr result (self.new ≡ self.old) }
     {
@@ -250,18 +332,22 @@ impl Session {
         payload: &[u8],
     ) -> Result<(Kind, u64), Refusal>
         ensures taken { IfOk result (λ x. (x.1 ≡ 0) × AnsweredAs server in_tls payload.now x.0 self.new.phase) }
-        ensures refused { IfErr result (λ why. ((why ≡ refusal.Unexpected) × (login_at payload.now ≡ None))
-            ⊎ ((why ≡ refusal.Compressed) × (head : login_head.SslRequest) × (login_at payload.now ≡ Some head) × (compresses (agreed_on server (client_of head)) ≡ true))) }
-        ensures compressed { (result ≡ Err refusal.Compressed) ↔ CompressedBy server in_tls (login_at payload.now) }
+        ensures refused { IfErr result (λ why. why ≡ refusal.Compressed) }
+        ensures compressed { (result ≡ Err refusal.Compressed) ↔ CompressedBy server in_tls payload.now }
         ensures limit { OnOk result (sessions.limit self.new ≡ self.old.limit) }
         ensures err { OnErr result (self.new ≡ self.old) }
     {
         let Some(head) = login(self.alloc, payload) else {
-            return Err(Refusal::Unexpected);
+            self.phase = Phase::NoLogin;
+            return Ok((Kind::Login, 0));
         };
         if asks_tls(in_tls, &head) {
             self.phase = Phase::Encrypted(server);
             return Ok((Kind::SslRequest, 0));
+        }
+        if !ends_name(payload) {
+            self.phase = Phase::NoLogin;
+            return Ok((Kind::Login, 0));
         }
         let agreed = agreed_on(server, client_of(&head));
         if compresses(agreed) {

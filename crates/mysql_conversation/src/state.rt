@@ -37,7 +37,7 @@ pub(crate) enum Answer {
     Events,
     /// Nothing.
     Nothing,
-    /// Nothing, and no packet comes any more.
+    /// Nothing, and no command comes any more.
     Quit,
     /// An OK packet, and then the clone plugin's own protocol.
     Clone,
@@ -102,6 +102,8 @@ pub(crate) enum State {
     CloneReply,
     /// A packet of the clone plugin's own protocol, of either side.
     Clone,
+    /// After `COM_QUIT`: nothing, or an error.
+    Quit,
     /// Nothing: the connection is over.
     Over,
 }

@@ -45,7 +45,7 @@ pub(crate) fn answers(answer: Answer) -> State
         Answer::Authentication => State::Authentication(false, false),
         Answer::Events => State::Events,
         Answer::Nothing => State::Rest,
-        Answer::Quit => State::Over,
+        Answer::Quit => State::Quit,
         Answer::Clone => State::CloneReply,
         Answer::Refusal => State::Refusal,
     }
@@ -158,7 +158,7 @@ fn serve(
 {
     let deprecates = deprecates_eof(agreed);
     match *state {
-        State::Rest | State::Infile(_) | State::Refusal | State::Over => None,
+        State::Rest | State::Infile(_) | State::Refusal | State::Quit | State::Over => None,
         State::Authentication(is_login, _) => {
             authentication_step(alloc, agreed, state, is_login, payload)
         }
@@ -224,7 +224,7 @@ pub(crate) fn is_idle(state: &State) -> bool
 pub(crate) fn is_shut(state: &State) -> bool
     ensures { result ≡ spec.is_shut state.now }
 {
-    matches!(state, State::Clone | State::Over)
+    matches!(state, State::Clone | State::Quit | State::Over)
 }
 
 /// Whether no exchange runs.
@@ -232,7 +232,7 @@ pub(crate) fn is_shut(state: &State) -> bool
 pub(crate) fn rests(state: &State) -> bool
     ensures { result ≡ spec.rests state.now }
 {
-    matches!(state, State::Rest | State::Clone | State::Over)
+    matches!(state, State::Rest | State::Clone | State::Quit | State::Over)
 }
 
 /// Whether the client may answer by a packet that is no command.
@@ -254,7 +254,7 @@ pub(crate) fn is_due(state: &State) -> bool
 {
     match state {
         State::Authentication(_, asked) => !*asked,
-        State::Rest | State::Infile(_) | State::Clone | State::Over => false,
+        State::Rest | State::Infile(_) | State::Clone | State::Quit | State::Over => false,
         _ => true,
     }
 }
@@ -268,7 +268,7 @@ fn error_step(state: &mut State) -> Option<Kind>
     match *state {
         State::Over => None,
         State::Clone => Some(Kind::Clone),
-        State::Rest => {
+        State::Rest | State::Quit => {
             *state = State::Over;
             Some(Kind::UnaskedError)
         }

@@ -18,6 +18,7 @@ client_packet agreed kind.Login = map variant.Login (handshake_response_as_sent.
 client_packet agreed kind.AuthData = map variant.AuthData all_left
 client_packet agreed (kind.Command code) = map variant.Command (command (agreed_or_none agreed).mysql)
 client_packet agreed kind.InfileContent = map variant.InfileContent all_left
+client_packet agreed kind.Clone = map variant.Clone all_left
 client_packet agreed kind.InfileEnd = give variant.InfileEnd
 client_packet agreed kind.SemiSyncAck = map variant.SemiSyncAck (semi_sync_ack.form tt)
 client_packet agreed _ = other_side

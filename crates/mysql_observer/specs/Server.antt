@@ -67,6 +67,11 @@ module _ {C : Type 0} (type_of : C → ColumnType) (unsigned : C → Bool) where
   unasked_error None = map variant.GreetingError (greeting_error.form tt)
   unasked_error (Some agreed) = map variant.UnaskedError (err_packet.form agreed.mysql)
 
+  -- and so has one that answers what is no login
+  abbrev pub asked_error : Option SessionCapabilities → Form (ServerPacket C)
+  asked_error None = map variant.GreetingError (greeting_error.form tt)
+  asked_error (Some agreed) = map variant.Error (err_packet.form agreed.mysql)
+
   -- ---- by the kind
 
   abbrev pub server_packet : ReadContext C → Kind → Form (ServerPacket C)
@@ -77,7 +82,7 @@ module _ {C : Type 0} (type_of : C → ColumnType) (unsigned : C → Bool) where
   server_packet c kind.AuthNextFactor = map variant.AuthNextFactor (auth_next_factor.form tt)
   server_packet c kind.AuthPluginData = map variant.AuthPluginData all_left
   server_packet c kind.Ok = map variant.Ok (ok_form (agreed_or_none c.agreed))
-  server_packet c kind.Error = map variant.Error (err_packet.form (agreed_or_none c.agreed).mysql)
+  server_packet c kind.Error = asked_error c.agreed
   server_packet c kind.UnaskedError = unasked_error c.agreed
   server_packet c kind.ProgressReport = map variant.ProgressReport report_form
   server_packet c kind.LocalInfile = map variant.LocalInfile (local_infile.form tt)
@@ -90,5 +95,6 @@ module _ {C : Type 0} (type_of : C → ColumnType) (unsigned : C → Bool) where
   server_packet c (kind.Row Binary) = map variant.BinaryRow (binary_row c.columns.now)
   server_packet c (kind.PrepareOk columns params follow) = map variant.PrepareOk (stmt_with_metadata.form (agreed_or_none c.agreed).mysql)
   server_packet c kind.Statistics = map variant.Statistics all_left
+  server_packet c kind.Clone = map variant.Clone all_left
   server_packet c kind.BinlogEvent = map variant.BinlogEvent (stream_event.form c.semi_sync)
   server_packet c _ = other_side

@@ -21,4 +21,6 @@ pub enum ClientPacket<'a> {
     InfileEnd,
     /// A replica's acknowledgement of an event.
     SemiSyncAck(SemiSyncAckPacket<'a>),
+    /// A packet of the clone plugin's own protocol: the whole payload.
+    Clone(BytesRef<'a>),
 }

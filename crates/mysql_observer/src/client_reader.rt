@@ -28,6 +28,7 @@ fn read_of_kind<'s, 'a>(
         Kind::InfileContent => Ok(ClientPacket::InfileContent(buf.parse(())?)),
         Kind::InfileEnd => Ok(ClientPacket::InfileEnd),
         Kind::SemiSyncAck => Ok(ClientPacket::SemiSyncAck(buf.parse(())?)),
+        Kind::Clone => Ok(ClientPacket::Clone(buf.parse(())?)),
         _ => Err(FaultOf::InvalidInput("A kind of the server's packets")),
     }
 }

@@ -18,7 +18,7 @@ use mysql_values::ServerSide;
 pub enum ServerPacket<'a, 'c, C: TypedColumn> {
     /// The greeting.
     Handshake(HandshakePacketRef<'a>),
-    /// An error in place of the greeting.
+    /// An error before the login: in place of the greeting or of the login, or in answer to what is no login.
     GreetingError(GreetingErrorRef<'a>),
     /// A switch of the plugin.
     AuthSwitch(AuthSwitchRequestRef<'a>),
@@ -60,4 +60,6 @@ pub enum ServerPacket<'a, 'c, C: TypedColumn> {
     Statistics(BytesRef<'a>),
     /// An event of a stream.
     BinlogEvent(BinlogStreamEvent<'a>),
+    /// A packet of the clone plugin's own protocol: the whole payload.
+    Clone(BytesRef<'a>),
 }

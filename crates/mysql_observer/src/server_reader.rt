@@ -98,7 +98,10 @@ fn read_of_kind<'s, 'a, 'c, C: TypedColumn>(
         Kind::AuthNextFactor => Ok(ServerPacket::AuthNextFactor(buf.parse(())?)),
         Kind::AuthPluginData => Ok(ServerPacket::AuthPluginData(buf.parse(())?)),
         Kind::Ok => Ok(ServerPacket::Ok(read_ok(agreed, buf)?)),
-        Kind::Error => Ok(ServerPacket::Error(buf.parse(agreed.mysql)?)),
+        Kind::Error => match context.agreed {
+            Some(agreed) => Ok(ServerPacket::Error(buf.parse(agreed.mysql)?)),
+            None => Ok(ServerPacket::GreetingError(buf.parse(())?)),
+        },
         Kind::UnaskedError => match context.agreed {
             Some(agreed) => Ok(ServerPacket::UnaskedError(buf.parse(agreed.mysql)?)),
             None => Ok(ServerPacket::GreetingError(buf.parse(())?)),
@@ -119,6 +122,7 @@ fn read_of_kind<'s, 'a, 'c, C: TypedColumn>(
         Kind::PrepareOk(_, _, _) => Ok(ServerPacket::PrepareOk(buf.parse(agreed.mysql)?)),
         Kind::Statistics => Ok(ServerPacket::Statistics(buf.parse(())?)),
         Kind::BinlogEvent => Ok(ServerPacket::BinlogEvent(buf.parse(context.semi_sync)?)),
+        Kind::Clone => Ok(ServerPacket::Clone(buf.parse(())?)),
         _ => Err(FaultOf::InvalidInput("A kind of the client's packets")),
     }
 }

@@ -18,7 +18,9 @@ pub(crate) fn client_fields<'p>(
         // (what a client proves itself by is not shown)
         ClientPacket::AuthData(_) => Ok(()),
         ClientPacket::Command(command) => append_command(command, fields),
-        ClientPacket::InfileContent(content) => append_length(content.as_bytes(), fields),
+        ClientPacket::InfileContent(content) | ClientPacket::Clone(content) => {
+            append_length(content.as_bytes(), fields)
+        }
         ClientPacket::InfileEnd => Ok(()),
         ClientPacket::SemiSyncAck(ack) => {
             Ok(fields.push(Field::number("position", ack.position()))?)
@@ -27,7 +29,7 @@ pub(crate) fn client_fields<'p>(
 }
 
 /// How many bytes there are.
-fn append_length<'p>(bytes: &[u8], fields: &mut Vec<Field<'p>>) -> Result<(), AllocError> {
+pub(crate) fn append_length<'p>(bytes: &[u8], fields: &mut Vec<Field<'p>>) -> Result<(), AllocError> {
     Ok(fields.push(Field::number("length", bytes.len() as u64))?)
 }
 

@@ -46,6 +46,7 @@ pub(crate) fn server_fields<'p, C: TypedColumn>(
         ServerPacket::PrepareOk(statement) => add(statement_fields(alloc, statement)?, fields),
         ServerPacket::Statistics(text) => append_bytes("text", text.as_bytes(), fields),
         ServerPacket::BinlogEvent(event) => append_event(event, fields),
+        ServerPacket::Clone(bytes) => append_length(bytes.as_bytes(), fields),
     }
 }
 

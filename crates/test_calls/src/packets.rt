@@ -212,7 +212,7 @@ fn server(out: &mut Out, packet: ServerPacket<'_, '_, Typed>) {
         ServerPacket::TextRow(row) => text_row(out, row),
         ServerPacket::BinaryRow(row) => binary_row(out, row),
         ServerPacket::PrepareOk(packet) => statement(out, &packet),
-        ServerPacket::Statistics(text) => length(out, text.as_bytes()),
+        ServerPacket::Statistics(text) | ServerPacket::Clone(text) => length(out, text.as_bytes()),
         ServerPacket::BinlogEvent(event) => length(out, event.event()),
     }
 }
@@ -222,7 +222,7 @@ fn client(out: &mut Out, packet: ClientPacket<'_>) {
     match packet {
         ClientPacket::SslRequest(packet) => number(out, u64::from(packet.capabilities().bits())),
         ClientPacket::Login(packet) => login(out, &packet),
-        ClientPacket::AuthData(data) => length(out, data.as_bytes()),
+        ClientPacket::AuthData(data) | ClientPacket::Clone(data) => length(out, data.as_bytes()),
         ClientPacket::Command(packet) => command(out, &packet),
         ClientPacket::InfileContent(data) => length(out, data.as_bytes()),
         ClientPacket::InfileEnd => {}

@@ -1,6 +1,6 @@
 use Rattle.std.proofs.Common.{sym, ◌∙◌, subst, true, false}
 use Rattle.mysql_conversation.specs.Session.{TakenIn}
-use Rattle.mysql_conversation.proofs.SessionGoesOn.{greeting_goes_on, login_goes_on, commands_go_on}
+use Rattle.mysql_conversation.proofs.SessionGoesOn.{greeting_goes_on, login_error_goes_on, login_goes_on, commands_go_on}
 use Rattle.mysql_conversation.proofs.session.Session.expects.Goals as goal
 
 pub returns-in-Commands : goal.returns-in-Commands
@@ -11,6 +11,11 @@ pub returns-in-Greeting : goal.returns-in-Greeting
 returns-in-Greeting c = λ items t.
     let g = greeting_goes_on c.args.from c.args.name items (subst (λ ph. TakenIn ph items) c.in-Greeting.is t) in
     ((λ e. g.0 (sym c.is_greeting.ensures ∙ e)), (λ k. c.is_greeting.ensures ∙ g.1 k))
+
+pub returns-in-NoLogin : goal.returns-in-NoLogin
+returns-in-NoLogin c = λ items t.
+    let g = login_error_goes_on c.args.from c.args.name items (subst (λ ph. TakenIn ph items) c.in-NoLogin.is t) in
+    ((λ e. g.0 (sym c.is_login_error.ensures ∙ e)), (λ k. c.is_login_error.ensures ∙ g.1 k))
 
 pub returns-in-Login : goal.returns-in-Login
 returns-in-Login c = λ items t.
