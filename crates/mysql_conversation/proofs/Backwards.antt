@@ -147,8 +147,8 @@ ok_acknowledged a false p items rest e o t = serving kind.Ok (IsOk a false) p it
 back_last_end : (a : Agreed) (may_end more : Bool) (p : List ℕ) (k : Kind) (m : State) (items rest : List Packet)
     → first_is 0xff p ≡ false → IsEnd a more p → last_end (deprecates_eof a) may_end more ≡ Some (k, m) → tail_of a m items rest → tail_of a (state.Acknowledgement may_end) (packet Server p k ∷ items) rest
 back_last_end a true false p k m items rest e w h t = back a (state.Acknowledgement true) Server p _ k _ m items rest h (λ t. inr (serving (ending (deprecates_eof a)) (IsEnd a false) p items rest t e w)) t
-back_last_end a true true p k m items rest e w h t = absurd cc
-back_last_end a false more p k m items rest e w h t = absurd cc
+back_last_end a may_end true p k m items rest e w h t = absurd cc
+back_last_end a false false p k m items rest e w h t = absurd cc
 
 back_acknowledgement : (a : Agreed) (may_end : Bool) (p : List ℕ) (l : Option Line) (k : Kind) (m : State) (items rest : List Packet)
     → first_is 0xff p ≡ false → line_of a Text p ≡ l → acknowledgement_step (deprecates_eof a) may_end l (reply_of a p) ≡ Some (k, m) → tail_of a m items rest → tail_of a (state.Acknowledgement may_end) (packet Server p k ∷ items) rest

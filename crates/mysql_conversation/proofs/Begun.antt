@@ -275,10 +275,13 @@ ahead_error a state.Fields p k m items e h t = error_is a state.Fields p items h
 ahead_error a state.Events p k m items e h t = error_is a state.Events p items h (λ t. open_error a state.Events p items refl e t) t
 ahead_error a state.Refusal p k m items e h t = error_is a state.Refusal p items h (λ t. open_error a state.Refusal p items refl e t) t
 
+clone_pair : (k : Kind) (m : State) → kind.Clone ≡ k → state.Clone ≡ m → ◌≡◌ {A = Option (Kind × State)} (Some (kind.Clone, state.Clone)) (Some (k, m))
+clone_pair k m a b = subst (λ k. ◌≡◌ {A = Option (Kind × State)} (Some (kind.Clone, state.Clone)) (Some (k, m))) a (ap (λ (m : State). Some (kind.Clone, m)) b)
+
 ahead_failed : (a : Agreed) (s : State) (p : List ℕ) (k : Kind) (m : State) (items : List Packet) → first_is 0xff p ≡ true → failed (is_report a p) s ≡ Some (k, m) → Ahead a m items → Ahead a s (packet Server p k ∷ items)
 ahead_failed a s p k m items f h t = elim (failed_is (is_report a p) s k m h) [
   | inl e ↦ ahead_error a s p k m items (f, e.0) e.1 t
-  | inr e ↦ subst (λ s. Ahead a s (packet Server p k ∷ items)) (sym e.0) (clone_before a Server p k m items (subst (λ k. Some (kind.Clone, state.Clone) ≡ Some (k, m)) e.1 (ap (λ m. Some (kind.Clone, m)) e.2)) t)
+  | inr e ↦ subst (λ s. Ahead a s (packet Server p k ∷ items)) (sym e.0) (clone_before a Server p k m items (clone_pair k m e.1 e.2) t)
 ]
 
 ahead_step : (a : Agreed) (s : State) (side : Side) (p : List ℕ) (k : Kind) (m : State) (items : List Packet)

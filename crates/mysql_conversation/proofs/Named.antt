@@ -212,8 +212,7 @@ named_prepared d None = tt
 named_prepared d (Some s) = refl
 
 named_last_ok : (m : State) (xs : List KindName) (r : Option Reply) → Named (name.Ok ∷ xs) (last_ok m r)
-named_last_ok m xs (Some (reply.Ok false)) = refl
-named_last_ok m xs (Some (reply.Ok true)) = tt
+named_last_ok m xs (Some (reply.Ok more)) = named_cond (name.Ok ∷ xs) more _ _ tt refl
 named_last_ok m xs (Some reply.Infile) = tt
 named_last_ok m xs (Some (reply.Columns n follow)) = tt
 named_last_ok m xs None = tt
@@ -224,7 +223,8 @@ named_last_end d true = tt
 
 named_acknowledgement : (a : Agreed) (may_end : Bool) (l : Option Line) (r : Option Reply) → Named (served_names a (state.Acknowledgement may_end)) (acknowledgement_step (deprecates_eof a) may_end l r)
 named_acknowledgement a true (Some (line.End more)) r = named_last_end (deprecates_eof a) more
-named_acknowledgement a false (Some (line.End more)) r = tt
+named_acknowledgement a false (Some (line.End true)) r = tt
+named_acknowledgement a false (Some (line.End false)) r = tt
 named_acknowledgement a true (Some line.Row) r = named_last_ok state.Rest (end_name (deprecates_eof a) ∷ []) r
 named_acknowledgement a false (Some line.Row) r = named_last_ok state.Rest [] r
 named_acknowledgement a true None r = tt

@@ -15,6 +15,8 @@ use Rattle.mysql_conversation.specs.declared.kind.Side.{Side}
 use Rattle.mysql_conversation.specs.declared.kind.Side.TheVariants.{Client, Server}
 use Rattle.mysql_conversation.specs.declared.state.State.{State}
 use Rattle.mysql_conversation.specs.declared.state.State.TheVariants as state
+use Rattle.mysql_conversation.specs.declared.state.Answer.{Answer}
+use Rattle.mysql_conversation.specs.declared.state.Answer.TheVariants as answer
 use Rattle.mysql_conversation.specs.declared.state.Command.{Command}
 use Rattle.mysql_conversation.specs.declared.pipeline.Waiting.{Waiting}
 
@@ -94,6 +96,17 @@ settle_last m i l (n ∷ q) = elim (cases_Bool (is_idle m)) [
   | inr e ↦ rw e refl
 ]
 
+-- no other command is COM_QUIT
+pub quit_is : (r : Answer) → (r ≡ answer.Quit → ⊥) → is_quit r ≡ false
+quit_is answer.Quit h = absurd (h refl)
+quit_is _ h = refl
+
+-- the last that waits
+pub quits_last : (q : List Waiting) (n : Waiting) → quits (q ++ n ∷ []) ≡ is_quit n.command.answer
+quits_last [] n = refl
+quits_last (k ∷ []) n = refl
+quits_last (k ∷ m ∷ q) n = quits_last (m ∷ q) n
+
 -- who settles is asked no more and no less
 pub settle_listens : (m : State) (i l : ℕ) (q : List Waiting) → listens (settle m i l q).state ≡ listens m
 settle_listens m i l [] = refl
@@ -118,27 +131,18 @@ settle_idle m i l (n ∷ q) h = elim (cases_Bool (is_idle m)) [
 -- COM_QUIT that waits goes on to wait, or no command comes any more
 pub settle_quits : (m : State) (i l : ℕ) (q : List Waiting) → quits q ≡ true → (quits (settle m i l q).waiting ≡ true) ⊎ (is_shut (settle m i l q).state ≡ true)
 settle_quits m i l [] h = absurd cc
-settle_quits m i l (n ∷ q) h = elim (cases_Bool (is_idle m)) [
-  | inr e ↦ inl (ap (λ (w : Standing). quits w.waiting) (settle_stays m i l (n ∷ q) e) ∙ h)
-  | inl e ↦ moved q h
+settle_quits m i l (n ∷ []) h = elim (cases_Bool (is_idle m)) [
+  | inl e ↦ inr (ap (λ (w : Standing). is_shut w.state) (settle_at_rest m i l n [] (idle_is m e)) ∙ begin_shut n.command ∙ h)
+  | inr e ↦ inl (ap (λ (w : Standing). quits w.waiting) (settle_stays m i l (n ∷ []) e) ∙ h)
 ]
-  where
-    at_last : is_quit n.command.answer ≡ true → is_shut (settle (begin n.command) n.number l []).state ≡ true
-    at_last h = begin_shut n.command ∙ h
-
-    moved : (r : List Waiting) → quits (n ∷ r) ≡ true → (quits (settle m i l (n ∷ r)).waiting ≡ true) ⊎ (is_shut (settle m i l (n ∷ r)).state ≡ true)
-    moved [] g = elim (cases_Bool (is_idle m)) [
-      | inl e ↦ inr (ap (λ (w : Standing). is_shut w.state) (settle_at_rest m i l n [] (idle_is m e)) ∙ at_last g)
-      | inr e ↦ inl (ap (λ (w : Standing). quits w.waiting) (settle_stays m i l (n ∷ []) e) ∙ g)
-    ]
-    moved (k ∷ r) g = elim (cases_Bool (is_idle m)) [
-      | inl e ↦ (let z = settle_at_rest m i l n (k ∷ r) (idle_is m e) in
-          elim (settle_quits (begin n.command) n.number l (k ∷ r) g) [
-            | inl a ↦ inl (ap (λ (w : Standing). quits w.waiting) z ∙ a)
-            | inr a ↦ inr (ap (λ (w : Standing). is_shut w.state) z ∙ a)
-          ])
-      | inr e ↦ inl (ap (λ (w : Standing). quits w.waiting) (settle_stays m i l (n ∷ k ∷ r) e) ∙ g)
-    ]
+settle_quits m i l (n ∷ k ∷ q) h = elim (cases_Bool (is_idle m)) [
+  | inl e ↦ (let z = settle_at_rest m i l n (k ∷ q) (idle_is m e) in
+      elim (settle_quits (begin n.command) n.number l (k ∷ q) h) [
+        | inl a ↦ inl (ap (λ (w : Standing). quits w.waiting) z ∙ a)
+        | inr a ↦ inr (ap (λ (w : Standing). is_shut w.state) z ∙ a)
+      ])
+  | inr e ↦ inl (ap (λ (w : Standing). quits w.waiting) (settle_stays m i l (n ∷ k ∷ q) e) ∙ h)
+]
 
 -- ---- what waits
 
@@ -255,7 +259,7 @@ began_early w p k n v (Some c) sp e h = elim (chosen (quits w.waiting) _ _ _ h) 
   | inl g ↦ absurd cc
   | inr g ↦ (let o = some_is g.1 in
       let a : after w c ≡ push w c = rw sp refl in
-      (g.0, c, e, ap (λ (o : Outcome). o.0) o, ap (λ (o : Outcome). o.1) o, a ∙ ap (λ (o : Outcome). o.2) o))
+      (g.0, (c, e, ap (λ (o : Outcome). o.0) o, ap (λ (o : Outcome). o.1) o, a ∙ ap (λ (o : Outcome). o.2) o)))
 ]
 
 began_at_rest : (i l : ℕ) (q : List Waiting) (p : List ℕ) (k : Kind) (n : ℕ) (v : Standing) (r : Option Command) → command_of p ≡ r → in_turn (standing state.Rest i l q) (command_step r) ≡ outcome k n v → Began (standing state.Rest i l q) p k n v

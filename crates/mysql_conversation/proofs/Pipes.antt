@@ -17,6 +17,7 @@ use Rattle.mysql_conversation.specs.declared.kind.Side.{Side}
 use Rattle.mysql_conversation.specs.declared.kind.Side.TheVariants.{Client, Server}
 use Rattle.mysql_conversation.specs.declared.state.State.{State}
 use Rattle.mysql_conversation.specs.declared.state.State.TheVariants as state
+use Rattle.mysql_conversation.specs.declared.pipeline.Waiting.{Waiting}
 use Rattle.mysql_conversation.specs.declared.state.Command.{Command}
 use Rattle.mysql_conversation.proofs.PipeSteps.{outcome, Over, not_both, side_is, waits_more, after, settle_more, settle_last, settle_listens, settle_shut, settle_idle, settle_quits, settle_quiet, stops, no_stop, stop_parts, OnlyLast, Sound, step_sound, shut_kind, served_back, server_back, server_next, IsOf, taken_early, taken_at_rest, Began, loaded_back, client_turn, client_due, client_rest, command_due, aside_due, by_client, command_back}
 

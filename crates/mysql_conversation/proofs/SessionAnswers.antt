@@ -1,15 +1,15 @@
 -- What a session answers, and that an error changes nothing.
 use Rattle.std.proofs.Common.{◌≡◌, ℕ, List, inl, inr, ◌⊎◌, Some, None, refl, sym, ap, subst, ◌∙◌, Bool, true, false}
-use Rattle.std.specs.Prelude.{◌↔◌, not, ◌&&◌, Option, Result, Ok, Err, IfOk, IfErr, OnErr}
+use Rattle.std.specs.Prelude.{◌↔◌, not, ◌&&◌, Option, Result, Ok, Err, IfOk, IfErr, OnOk, OnErr}
 use Rattle.mysql_auth.specs.declared.ssl_request.SslRequest.{SslRequest}
 use Rattle.mysql_conversation.specs.Agreements.{Agreed, agreed_on, compresses}
 use Rattle.mysql_conversation.specs.Piped as pipe
 use Rattle.mysql_conversation.specs.Session.{client_of, asks_tls, ends_name, is_clear_error, MayLogIn, BeginsAs, IsEncrypted, AsksForTls, AwaitsLogin, AgreesOnCompression, IsSameIn, IsSame, Continues, limit, limit_in}
-use Rattle.mysql_conversation.specs.SessionSteps.{greeting_at, login_at, AnsweredAs, CompressedAt, CompressedBy, IsNoLoginAt, SentBefore, greeted_by, is_commands, refused_by, served_before}
+use Rattle.mysql_conversation.specs.SessionSteps.{greeting_at, login_at, AnsweredAs, CompressedAt, CompressedBy, IsNoLoginAt, SentBefore, greeted_by, is_commands, is_encrypted, refused_by, served_before}
 use Rattle.mysql_conversation.specs.Payloads.{first_is}
 use Rattle.mysql_conversation.proofs.Classes.{chosen, some_is}
 use Rattle.mysql_conversation.proofs.Places.{neither, unexpected_full}
-use Rattle.mysql_conversation.proofs.Sessions.{is_encrypted, login_at_is, login_at_of}
+use Rattle.mysql_conversation.proofs.Sessions.{login_at_is, login_at_of}
 use Rattle.mysql_conversation.specs.declared.kind.Kind.{Kind}
 use Rattle.mysql_conversation.specs.declared.kind.Kind.TheVariants as kind
 use Rattle.mysql_conversation.specs.declared.kind.Side.{Side}
@@ -94,6 +94,28 @@ no_commands s side p n h = let no : false ≡ true = sym n ∙ ap is_commands h.
 
 pub server_agrees_on_nothing : (s : Session) (side : Side) (p : List ℕ) → side ≡ Server → AgreesOnCompression s side p → ⊥
 server_agrees_on_nothing s side p e h = let no : Client ≡ Server = sym h.0 ∙ e in absurd cc
+
+-- no other phase is the conversation
+pub commands_is : (ph : Phase) → is_commands ph ≡ true → ((p : Pipeline) → ph ≡ phase.Commands p → ⊥) → ⊥
+commands_is (phase.Commands p) h clash = clash p refl
+commands_is _ h clash = absurd cc
+
+-- before the conversation the limit is the session's
+limit_before : (s : Session) → is_commands s.phase ≡ false → limit s ≡ s.limit
+limit_before s n = of_phase s.phase n
+  where
+    of_phase : (ph : Phase) → is_commands ph ≡ false → limit_in s.limit ph ≡ s.limit
+    of_phase phase.Greeting h = refl
+    of_phase phase.Refused h = refl
+    of_phase phase.NoLogin h = refl
+    of_phase (phase.Login server) h = refl
+    of_phase (phase.Encrypted server) h = refl
+    of_phase (phase.InTls server) h = refl
+    of_phase (phase.Commands p) h = absurd cc
+
+pub same_limit : {A E : Type 0} (s t : Session) (r : Result A E) → is_commands s.phase ≡ false → OnOk r (limit t ≡ s.limit) → OnErr r (t ≡ s) → limit t ≡ limit s
+same_limit s t (Ok x) n h g = h ∙ sym (limit_before s n)
+same_limit s t (Err e) n h g = ap limit g
 
 -- ---- a packet of the server
 

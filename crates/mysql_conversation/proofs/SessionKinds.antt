@@ -64,7 +64,7 @@ one_before_two (z ∷ []) its y u w e = inr (ap (λ z. z ∷ []) (the_head e))
 one_before_two (z ∷ v ∷ []) its y u w e = absurd cc
 one_before_two (z ∷ v ∷ t ∷ items) its y u w e = absurd cc
 
-tail_of : List Numbered → List Numbered
+abbrev tail_of : List Numbered → List Numbered
 tail_of [] = []
 tail_of (x ∷ xs) = xs
 

@@ -12,7 +12,7 @@ use Rattle.mysql_conversation.specs.Payloads.{first_is}
 use Rattle.mysql_conversation.specs.Piped.{PipeTaken, place}
 use Rattle.mysql_conversation.specs.Pipelined.{Numbered, IsPipelined, IsPipelinedBeginning}
 use Rattle.mysql_conversation.specs.Session.{server_of, client_of, asks_tls, ends_name, is_clear_error, IsGreeting, IsGreetingError, BeginsAs, IsSslRequest, MayLogIn, IsLogin, IsNoLogin, IsLoginError, Before, IsLoggedIn, IsLoggedInAmong, IsRefused, IsSession, IsSessionBeginning, TakenIn}
-use Rattle.mysql_conversation.specs.SessionSteps.{greeting_in, greeting_at, login_in, login_at, IsNoLoginAt, AnsweredAs, SentBefore, refused_by, greeted_by, served_before, sends_none, is_commands}
+use Rattle.mysql_conversation.specs.SessionSteps.{greeting_in, greeting_at, login_in, login_at, IsNoLoginAt, AnsweredAs, SentBefore, refused_by, greeted_by, served_before, sends_none, is_commands, is_encrypted}
 use Rattle.mysql_conversation.proofs.Classes.{chosen, some_is}
 use Rattle.mysql_conversation.specs.declared.kind.Kind.{Kind}
 use Rattle.mysql_conversation.specs.declared.kind.Kind.TheVariants as kind
@@ -24,11 +24,6 @@ use Rattle.mysql_conversation.specs.declared.pipeline.Refusal.{Refusal}
 use Rattle.mysql_conversation.specs.declared.pipeline.Refusal.TheVariants as refusal
 use Rattle.mysql_conversation.specs.declared.session.Phase.{Phase}
 use Rattle.mysql_conversation.specs.declared.session.Phase.TheVariants as phase
-
--- a request to go on in TLS came, and nothing says that what comes is deciphered
-abbrev pub is_encrypted : Phase → Bool
-is_encrypted (phase.Encrypted server) = true
-is_encrypted _ = false
 
 -- ---- packets that are read
 
@@ -289,9 +284,9 @@ abbrev pub AnswersGreeting : Bool → Numbered → Type 0
 AnswersGreeting tls y = ((tls ≡ false) × IsSslRequest y) ⊎ (((c : Agreed) × IsLogin tls c y) ⊎ (IsNoLogin tls y ⊎ IsGreetingError y))
 
 answer_aligned : (i j : Bool) (y x : Numbered) (ys xs : List Numbered) → Aligned i j y x ys xs → AnswersGreeting j x → (((w : Numbered) × IsSslRequest w × (x ≡ w)) → ⊥) → AnswersGreeting i y
-answer_aligned i j y x ys xs (inl q) h no = subst (λ y. AnswersGreeting i y) (sym q.1) (subst (λ j. AnswersGreeting j x) (sym q.0) h)
-answer_aligned i j y x ys xs (inr (inl w)) h no = inl (w.3, subst (λ y. IsSslRequest y) (sym w.2) w.1)
-answer_aligned i j y x ys xs (inr (inr w)) h no = absurd (no w)
+answer_aligned i j y x ys xs (inl q) h clash = subst (λ y. AnswersGreeting i y) (sym q.1) (subst (λ j. AnswersGreeting j x) (sym q.0) h)
+answer_aligned i j y x ys xs (inr (inl w)) h clash = inl (w.3, subst (λ y. IsSslRequest y) (sym w.2) w.1)
+answer_aligned i j y x ys xs (inr (inr w)) h clash = absurd (clash w)
 
 pub answer_at : (y : Numbered) (items more : List Numbered) (server : Agreed) (tls : Bool) → Before server tls items → IsSession (items ++ y ∷ more) → AnswersGreeting tls y
 answer_at y items more server tls f (inl (inl h)) = absurd (two_or_more server tls items y h.0 more f h.1)

@@ -1,6 +1,6 @@
 -- Whose turn it is in each state, and what the kind of a packet says of it.
 use Rattle.std.proofs.Common.{◌≡◌, ℕ, zero, suc, List, [], ◌∷◌, ◌⊎◌, inl, inr, Option, Some, None, refl, sym, ap, subst, ◌∙◌, Bool, true, false, cond}
-use Rattle.std.specs.Prelude.{◌&&◌, not}
+use Rattle.std.specs.Prelude.{◌&&◌, ◌||◌, not}
 use Rattle.std.proofs.lemmas.Bool.{and_parts, cases_Bool}
 use Rattle.mysql_wire.specs.Flags.{StatusFlags}
 use Rattle.mysql_prepared.specs.Stmt.{num_columns, num_params}
@@ -337,16 +337,13 @@ fits_prepared d (Some s) = (prepared_listens d (definitions_follow s) (num_colum
 
 -- of the OK packet that answers COM_CLONE alone no more commands come
 fits_last_ok : (r : Option Reply) → Fits (last_ok state.Rest r)
-fits_last_ok (Some (reply.Ok false)) = (refl, refl)
-fits_last_ok (Some (reply.Ok true)) = tt
+fits_last_ok (Some (reply.Ok more)) = fits_cond more _ _ tt (refl, refl)
 fits_last_ok (Some reply.Infile) = tt
 fits_last_ok (Some (reply.Columns n follow)) = tt
 fits_last_ok None = tt
 
 fits_last_end : (d may_end more : Bool) → Fits (last_end d may_end more)
-fits_last_end d true false = fits_end d state.Rest refl
-fits_last_end d true true = tt
-fits_last_end d false more = tt
+fits_last_end d may_end more = fits_cond (more || not may_end) _ _ tt (fits_end d state.Rest refl)
 
 fits_acknowledgement : (d may_end : Bool) (l : Option Line) (r : Option Reply) → Fits (acknowledgement_step d may_end l r)
 fits_acknowledgement d may_end (Some (line.End more)) r = fits_last_end d may_end more
@@ -456,8 +453,8 @@ of_one : (s : State) (j k : Kind) (n m : State) → ◌≡◌ {A = Option (Kind 
 of_one s j k n m e = subst (λ (x : Kind × State). Says s x.0 x.1) (some_is e)
 
 clone_ok_says : (r : Option Reply) (k : Kind) (m : State) → last_ok state.Clone r ≡ Some (k, m) → Says state.CloneReply k m
-clone_ok_says (Some (reply.Ok false)) k m h = of_one state.CloneReply kind.Ok k state.Clone m h (refl, refl, refl)
 clone_ok_says (Some (reply.Ok true)) k m h = absurd cc
+clone_ok_says (Some (reply.Ok false)) k m h = of_one state.CloneReply kind.Ok k state.Clone m h (refl, refl, refl)
 clone_ok_says (Some reply.Infile) k m h = absurd cc
 clone_ok_says (Some (reply.Columns n follow)) k m h = absurd cc
 clone_ok_says None k m h = absurd cc

@@ -148,6 +148,9 @@ comes_prepared a =
     let s = statement_is a (sends_metadata a.mysql) refl in
     comes_served a state.Prepared name.PrepareOk statement_bytes _ _ refl refl (ap (prepared_step (deprecates_eof a)) (statement_at_of a s.0 statement_bytes s.1 s.2))
 
+ok_acknowledges : (a : Agreed) (may_end : Bool) → serve a (state.Acknowledgement may_end) ok_bytes ≡ Some (kind.Ok, state.Rest)
+ok_acknowledges a may_end = ap (λ l. acknowledgement_step (deprecates_eof a) may_end l (reply_of a ok_bytes)) (line_row a Text ok_bytes refl) ∙ ap (last_ok state.Rest) (ok_reply a)
+
 each_served : (a : Agreed) (s : State) → All (Comes a s Server) (served_names a s)
 unfolding row_bytes
 each_served a state.Rest = tt
@@ -180,10 +183,10 @@ each_served a state.Fetch =
     (also (comes_end a state.Fetch state.Rest (λ p t b. ap (last_step (deprecates_eof a) (kind.Row Binary) state.Fetch) b))
     tt)
 each_served a (state.Acknowledgement true) =
-    also (comes_served a (state.Acknowledgement true) name.Ok ok_bytes kind.Ok state.Rest refl refl (rw (line_row a Text ok_bytes refl, ok_reply a) refl))
+    also (comes_served a (state.Acknowledgement true) name.Ok ok_bytes kind.Ok state.Rest refl refl (ok_acknowledges a true))
     (also (comes_end a (state.Acknowledgement true) state.Rest (λ p t b. ap (λ l. acknowledgement_step (deprecates_eof a) true l (reply_of a p)) t))
     tt)
-each_served a (state.Acknowledgement false) = (comes_served a (state.Acknowledgement false) name.Ok ok_bytes kind.Ok state.Rest refl refl (rw (line_row a Text ok_bytes refl, ok_reply a) refl), tt)
+each_served a (state.Acknowledgement false) = (comes_served a (state.Acknowledgement false) name.Ok ok_bytes kind.Ok state.Rest refl refl (ok_acknowledges a false), tt)
 each_served a state.Text = (comes_served a state.Text name.Statistics [] kind.Statistics state.Rest refl refl refl, tt)
 each_served a state.Fields =
     also (comes_served a state.Fields name.FieldListColumn row_bytes kind.FieldListColumn state.Fields refl refl (ap (last_step (deprecates_eof a) kind.FieldListColumn state.Fields) (is_row a Text)))

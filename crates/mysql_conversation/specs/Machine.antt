@@ -1,5 +1,5 @@
 -- The machine: what each packet is in each state, and the state after it.
-use Rattle.std.specs.Prelude.{◌≡◌, ℕ, zero, suc, List, [], ◌∷◌, Bool, true, false, Option, Some, None, Ok, Err, nat_lt, ◌&&◌, if◌then◌else◌}
+use Rattle.std.specs.Prelude.{◌≡◌, ℕ, zero, suc, List, [], ◌∷◌, Bool, true, false, Option, Some, None, Ok, Err, nat_lt, not, ◌&&◌, ◌||◌, if◌then◌else◌}
 use Rattle.mysql_wire.specs.Flags.{StatusFlags}
 use Rattle.mysql_wire.specs.Reading.{Reading}
 use Rattle.mysql_replies.specs.ColumnCount.{column_count, count, metadata_follows}
@@ -273,17 +273,14 @@ prepared_step deprecates (Some s) =
 
 -- an OK packet, after which no more results come
 abbrev pub last_ok : State → Option Reply → Option (Kind × State)
-last_ok m (Some (reply.Ok false)) = Some (kind.Ok, m)
-last_ok m (Some (reply.Ok true)) = None
+last_ok m (Some (reply.Ok more)) = if more then None else Some (kind.Ok, m)
 last_ok m (Some reply.Infile) = None
 last_ok m (Some (reply.Columns n follow)) = None
 last_ok m None = None
 
 -- an end, where the server may say so
 abbrev pub last_end : Bool → Bool → Bool → Option (Kind × State)
-last_end deprecates true false = Some (ending deprecates, state.Rest)
-last_end deprecates true true = None
-last_end deprecates false more = None
+last_end deprecates may_end more = if more || not may_end then None else Some (ending deprecates, state.Rest)
 
 abbrev pub acknowledgement_step : Bool → Bool → Option Line → Option Reply → Option (Kind × State)
 acknowledgement_step deprecates may_end (Some (line.End more)) r = last_end deprecates may_end more

@@ -1,5 +1,5 @@
 -- Whole sessions: the greeting, the login, and the conversation that follows them.
-use Rattle.std.specs.Prelude.{◌≡◌, ◌⊎◌, ℕ, List, [], ◌∷◌, ◌++◌, drop, Bool, true, false, ◌==◌, ◌&&◌, if◌then◌else◌}
+use Rattle.std.specs.Prelude.{◌≡◌, ◌⊎◌, ℕ, List, [], ◌∷◌, ◌++◌, drop, length, nat_lt, Bool, true, false, ◌==◌, ◌&&◌, if◌then◌else◌}
 use Rattle.std.specs.List.{list_any}
 use Rattle.mysql_wire.specs.FlagMasks.{CLIENT_SSL}
 use Rattle.mysql_wire.specs.Flags.{has}
@@ -37,10 +37,14 @@ client_of r = record { mysql = head.capabilities r; mariadb = head.mariadb_capab
 abbrev pub asks_tls : SslRequest → Bool
 asks_tls r = has (head.capabilities r).0 CLIENT_SSL
 
+-- a byte is 0
+abbrev pub has_zero : List ℕ → Bool
+has_zero bytes = list_any (λ b. b == 0) bytes
+
 -- The user's name, after these 32 bytes, ends with a zero: what has none is no login (`parse_client_handshake_packet` in MySQL's
 -- `sql_authentication.cc`), whatever its first bytes say.
 abbrev pub ends_name : List ℕ → Bool
-ends_name p = list_any (λ b. b == 0) (drop 32 p)
+ends_name p = if nat_lt (length p) 32 then false else has_zero (drop 32 p)
 
 -- ff, a code and the # before its state, as no record of TLS begins that a server sends
 abbrev pub is_clear_error : List ℕ → Bool

@@ -89,6 +89,11 @@ sends_none phase.Refused = true
 sends_none phase.NoLogin = true
 sends_none ph = false
 
+-- a request to go on in TLS came, and nothing says that what comes is deciphered
+abbrev pub is_encrypted : Phase → Bool
+is_encrypted (phase.Encrypted server) = true
+is_encrypted ph = false
+
 -- the conversation goes on
 abbrev pub is_commands : Phase → Bool
 is_commands (phase.Commands q) = true

@@ -43,7 +43,7 @@ pub enum KindName {
 
 impl KindName {
     /// Each of them.
-    pub const ALL: [KindName; 28] = [
+    pub const ALL: [KindName; 29] = [
         KindName::Handshake,
         KindName::SslRequest,
         KindName::Login,

@@ -57,7 +57,7 @@ fn waits(waiting: &VecDeque<Waiting>) -> bool
 fn quits(waiting: &VecDeque<Waiting>) -> bool
     ensures { result ≡ spec.quits waiting.now.items }
 {
-    match waiting.back() {
+    match waiting.iter().next_back() {
         Some(last) => matches!(last.command.answer, Answer::Quit),
         None => false,
     }

@@ -306,7 +306,10 @@ pub(crate) fn last_ok(state: &mut State, next: State, reply: Option<Reply>) -> O
     ensures none { IfNone result ((spec.last_ok next reply ≡ None) × (state.new ≡ state.old)) }
 {
     match reply? {
-        Reply::Ok(false) => {
+        Reply::Ok(more) => {
+            if more {
+                return None;
+            }
             *state = next;
             Some(Kind::Ok)
         }
@@ -328,10 +331,12 @@ pub(crate) fn acknowledgement_step(
 {
     match line? {
         Line::Row => last_ok(state, State::Rest, reply),
-        Line::End(false) if may_end => {
+        Line::End(more) => {
+            if more || !may_end {
+                return None;
+            }
             *state = State::Rest;
             Some(ending(deprecates))
         }
-        Line::End(_) => None,
     }
 }

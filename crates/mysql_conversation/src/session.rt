@@ -5,6 +5,7 @@ ghost use Rattle.mysql_auth.specs.declared.ssl_request.SslRequest as login_head;
 ghost use Rattle.mysql_conversation.specs.Agreements.{agreed_on, compresses};
 ghost use Rattle.mysql_conversation.specs.Payloads as payloads;
 ghost use Rattle.mysql_conversation.specs.Session as sessions;
+ghost use Rattle.mysql_conversation.specs.SessionSteps as steps;
 ghost use Rattle.mysql_conversation.specs.SessionSteps.{greeting_at, login_at};
 
 use crate::agreed::{agreed_on, compresses};
@@ -36,6 +37,14 @@ pub(crate) enum Phase {
     NoLogin,
     /// The conversation that follows the login.
     Commands(Pipeline),
+}
+
+/// Whether the conversation goes on.
+#[inline(always)]
+fn is_commands(phase: &Phase) -> bool
+    ensures { result ≡ steps.is_commands phase.now }
+{
+    matches!(phase, Phase::Commands(_))
 }
 
 /// A session from the server's greeting on: it is fed each payload of both sides, and tells which packet it is.
@@ -84,12 +93,19 @@ fn asks_tls(in_tls: bool, head: &SslRequest) -> bool
     !in_tls && head.capabilities().contains(CapabilityFlags::CLIENT_SSL)
 }
 
+/// Whether a byte is 0.
+fn has_zero(bytes: &[u8]) -> bool
+    ensures { result ≡ sessions.has_zero bytes.now }
+{
+    bytes.iter().any(|byte| *byte == 0)
+}
+
 /// Whether the user's name ends, after the 32 bytes that a login begins with.
 fn ends_name(payload: &[u8]) -> bool
     ensures { result ≡ sessions.ends_name payload.now }
 {
-    match payload.get(32..) {
-        Some(rest) => rest.iter().any(|byte| *byte == 0),
+    match payload.split_first_chunk::<32>() {
+        Some((_head, rest)) => has_zero(rest),
         None => false,
     }
 }
@@ -119,7 +135,7 @@ impl Session {
     ghost use Rattle.mysql_conversation.specs.Piped as piped;
     ghost use Rattle.mysql_conversation.specs.Piped.{place};
     ghost use Rattle.mysql_conversation.specs.Session.{IsSession, IsSessionBeginning, SessionTaken, IsEncrypted, IsHidden, AsksForTls, AgreesOnCompression, IsSame, Continues, Comes, GoesOn, IsLoggedInAmong, client_of};
-    ghost use Rattle.mysql_conversation.specs.SessionSteps.{AnsweredAs, CompressedAt, CompressedBy, SentBefore, is_commands, sends_none, served_before};
+    ghost use Rattle.mysql_conversation.specs.SessionSteps.{AnsweredAs, CompressedAt, CompressedBy, SentBefore, is_commands, is_encrypted, sends_none, served_before};
     ghost use Rattle.mysql_conversation.specs.declared.session.Phase.TheVariants as phases;
     ghost use Rattle.mysql_conversation.specs.Agreements as agreement;
     ghost use Rattle.mysql_conversation.specs.declared.kind.Kind as declared;
@@ -222,17 +238,16 @@ impl Session {
         ensures same { OnErr result (IsSame self.old self.new) }
         ensures limit { sessions.limit self.new ≡ sessions.limit self.old }
     {
-        match &mut self.phase {
-            Phase::Commands(pipeline) => pipeline.next(from, payload),
-            Phase::Greeting
-            | Phase::Refused
-            | Phase::Login(_)
-            | Phase::Encrypted(_)
-            | Phase::InTls(_)
-            | Phase::NoLogin => match from {
+        if !is_commands(&self.phase) {
+            return match from {
                 Side::Server => self.served(payload),
                 Side::Client => self.sent(payload),
-            },
+            };
+        }
+        match &mut self.phase {
+            Phase::Commands(pipeline) => pipeline.next(from, payload),
+            // (there is no other)
+            _ => Err(Refusal::Unexpected),
         }
     }
 
@@ -240,7 +255,8 @@ impl Session {
     fn served(&mut self, payload: &[u8]) -> Result<(Kind, u64), Refusal>
         requires before { is_commands self.old.phase ≡ false }
         ensures taken { IfOk result (λ x. (x.1 ≡ 0) × (served_before self.old.phase payload.now ≡ Some (x.0, self.new.phase))) }
-        ensures refused { IfErr result (λ why. ((why ≡ refusal.Unexpected) ⊎ (why ≡ refusal.Encrypted)) × (served_before self.old.phase payload.now ≡ None)) }
+        ensures refused { IfErr result (λ why. why ≡ refusal.Unexpected → (is_encrypted self.old.phase ≡ false) × (served_before self.old.phase payload.now ≡ None)) }
+        ensures ours { IfErr result (λ why. (why ≡ refusal.Unexpected) ⊎ (why ≡ refusal.Encrypted)) }
         ensures encrypted { (result ≡ Err refusal.Encrypted) ↔ (IsEncrypted self.old × (sessions.is_clear_error payload.now ≡ false)) }
         ensures limit { OnOk result (sessions.limit self.new ≡ self.old.limit) }
         ensures err { OnErr result (self.new ≡ self.old) }
