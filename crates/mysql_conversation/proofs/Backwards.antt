@@ -1,5 +1,5 @@
 -- A step back: what comes before what may come.
-use Rattle.std.proofs.Common.{◌≡◌, ◌≢◌, ℕ, ◌<◌, zero, suc, List, [], ◌∷◌, inl, inr, Option, Some, None, refl, sym, ap, subst, Bool, true, false, arith}
+use Rattle.std.proofs.Common.{◌≡◌, ◌≢◌, ℕ, ◌<◌, zero, suc, List, [], ◌∷◌, inl, inr, Option, Some, None, refl, sym, subst, Bool, true, false, arith}
 use Rattle.mysql_wire.specs.Flags.{StatusFlags}
 use Rattle.mysql_prepared.specs.Stmt.{num_columns, num_params}
 use Rattle.mysql_prepared.specs.StmtWithMetadata.{packet_of}

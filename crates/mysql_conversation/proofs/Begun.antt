@@ -1,6 +1,6 @@
 -- Each list that the machine takes is the beginning of a conversation, and each beginning is taken.
 use Rattle.std.specs.Prelude.{◌&&◌, ◌==◌, not}
-use Rattle.std.proofs.Common.{◌≡◌, ℕ, zero, suc, List, [], ◌∷◌, ◌++◌, ◌⊎◌, inl, inr, Option, Some, None, Result, Ok, Err, IfOk, OnErr, refl, sym, ap, subst, ◌∙◌, Bool, true, false, cond}
+use Rattle.std.proofs.Common.{◌≡◌, ℕ, suc, List, [], ◌∷◌, ◌++◌, ◌⊎◌, inl, inr, Option, Some, None, Result, Ok, Err, IfOk, OnErr, refl, sym, ap, subst, ◌∙◌, Bool, true, false, cond}
 use Rattle.std.proofs.lemmas.Bool.{and_parts}
 use Rattle.mysql_conversation.specs.Agreements.{Agreed, reports_progress}
 use Rattle.mysql_conversation.specs.Payloads.{has_more, first_is, IsOk, IsError, is_report, begins_with_ff, asks_cursor}

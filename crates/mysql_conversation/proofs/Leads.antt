@@ -20,7 +20,6 @@ use Rattle.mysql_conversation.specs.declared.state.Request.TheVariants.{Query, E
 use Rattle.mysql_conversation.specs.declared.kind.Format.TheVariants.{Text, Binary}
 use Rattle.mysql_conversation.specs.declared.kind.Kind.{Kind}
 use Rattle.mysql_conversation.specs.declared.kind.Kind.TheVariants as kind
-use Rattle.mysql_conversation.specs.declared.state.Line.TheVariants as line
 use Rattle.mysql_conversation.specs.declared.state.Reply.{Reply}
 use Rattle.mysql_conversation.specs.declared.state.Reply.TheVariants as reply
 use Rattle.mysql_conversation.specs.declared.kind.Opening.{Opening}

@@ -2,7 +2,6 @@
 use Rattle.std.proofs.Common.{◌≡◌, ℕ, zero, suc, List, [], ◌∷◌, ◌++◌, inl, inr, Option, Some, None, refl, sym, ap, subst, ◌∙◌, Bool, true, false, cond}
 use Rattle.std.proofs.lemmas.Bool.{eqb-true, and_parts, or_cases, or_right}
 use Rattle.std.specs.Prelude.{◌==◌, ◌||◌, ◌&&◌}
-use Rattle.mysql_wire.specs.Form.{bytes}
 use Rattle.mysql_wire.specs.Flags.{StatusFlags}
 use Rattle.mysql_prepared.specs.declared.stmt_with_metadata.StmtPacketWithMetadata.{StmtPacketWithMetadata}
 use Rattle.mysql_conversation.proofs.States.{by_cond, failed_clone, failed_no_report}

@@ -4,7 +4,7 @@ use Rattle.std.specs.Prelude.{◌↔◌, Result, Ok, Err, IfErr}
 use Rattle.mysql_conversation.specs.Agreements.{Agreed}
 use Rattle.mysql_conversation.specs.Machine.{take_step, is_due, is_idle}
 use Rattle.mysql_conversation.specs.Standing.{IsFullOf, quits, command_of}
-use Rattle.mysql_conversation.specs.Piped.{IsCommand, IsFull, MustWait, IsIdle, CountsNoMore, limit, waiting}
+use Rattle.mysql_conversation.specs.Piped.{IsFull, IsIdle, CountsNoMore}
 use Rattle.mysql_conversation.proofs.States.{idle_is}
 use Rattle.mysql_conversation.proofs.Turns.{no_aside, rest_step_is, command_step}
 use Rattle.mysql_conversation.specs.declared.kind.Kind.{Kind}

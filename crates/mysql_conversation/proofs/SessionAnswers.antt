@@ -1,14 +1,14 @@
 -- What a session answers, and that an error changes nothing.
-use Rattle.std.proofs.Common.{◌≡◌, ℕ, List, inl, inr, ◌⊎◌, Some, None, refl, sym, ap, subst, ◌∙◌, Bool, true, false}
-use Rattle.std.specs.Prelude.{◌↔◌, not, ◌&&◌, Option, Result, Ok, Err, IfOk, IfErr, OnOk, OnErr}
+use Rattle.std.proofs.Common.{◌≡◌, ℕ, List, inl, inr, Some, None, refl, sym, ap, subst, ◌∙◌, Bool, true, false}
+use Rattle.std.specs.Prelude.{◌↔◌, not, ◌&&◌, Option, Result, Ok, Err, IfOk, OnOk, OnErr}
 use Rattle.mysql_auth.specs.declared.ssl_request.SslRequest.{SslRequest}
 use Rattle.mysql_conversation.specs.Agreements.{Agreed, agreed_on, compresses}
 use Rattle.mysql_conversation.specs.Piped as pipe
-use Rattle.mysql_conversation.specs.Session.{client_of, asks_tls, ends_name, is_clear_error, MayLogIn, BeginsAs, IsEncrypted, AsksForTls, AwaitsLogin, AgreesOnCompression, IsSameIn, IsSame, Continues, limit, limit_in}
+use Rattle.mysql_conversation.specs.Session.{client_of, asks_tls, ends_name, is_clear_error, MayLogIn, IsEncrypted, AsksForTls, AwaitsLogin, AgreesOnCompression, IsSameIn, IsSame, Continues, limit, limit_in}
 use Rattle.mysql_conversation.specs.SessionSteps.{greeting_at, login_at, AnsweredAs, CompressedAt, CompressedBy, IsNoLoginAt, SentBefore, greeted_by, is_commands, is_encrypted, refused_by, served_before}
 use Rattle.mysql_conversation.specs.Payloads.{first_is}
 use Rattle.mysql_conversation.proofs.Classes.{chosen, some_is}
-use Rattle.mysql_conversation.proofs.Places.{neither, unexpected_full}
+use Rattle.mysql_conversation.proofs.Places.{neither}
 use Rattle.mysql_conversation.proofs.Sessions.{login_at_is, login_at_of}
 use Rattle.mysql_conversation.specs.declared.kind.Kind.{Kind}
 use Rattle.mysql_conversation.specs.declared.kind.Kind.TheVariants as kind

@@ -14,7 +14,7 @@ use Rattle.mysql_conversation.specs.KindName.{name_of, is_in}
 use Rattle.mysql_conversation.specs.Payloads.{first_is}
 use Rattle.mysql_conversation.specs.Piped.{PipeTaken, place}
 use Rattle.mysql_conversation.specs.Pipelined.{Numbered, IsPipelined, IsPipelinedBeginning}
-use Rattle.mysql_conversation.specs.Session.{client_of, asks_tls, IsGreeting, IsGreetingError, IsSslRequest, IsLogin, Before, IsSession, TakenIn, GoesOn}
+use Rattle.mysql_conversation.specs.Session.{client_of, asks_tls, IsGreeting, IsGreetingError, IsSslRequest, Before, IsSession, TakenIn, GoesOn}
 use Rattle.mysql_conversation.specs.SessionSteps.{greeting_at}
 use Rattle.mysql_conversation.specs.Standing.{start}
 use Rattle.mysql_conversation.proofs.Named.{All, pick}

@@ -1,6 +1,6 @@
 -- Each list that the machine with commands that wait takes is the beginning of a pipelined conversation, and each beginning is taken.
 use Rattle.mysql_conversation.specs.Agreements.{Agreed}
-use Rattle.std.proofs.Common.{◌≡◌, ℕ, ◌+◌, List, [], ◌∷◌, ◌++◌, ◌⊎◌, inl, inr, Some, None, refl, sym, ap, subst, ◌∙◌, Bool, true, false}
+use Rattle.std.proofs.Common.{◌≡◌, ℕ, List, [], ◌∷◌, ◌++◌, ◌⊎◌, inl, inr, Some, None, refl, sym, ap, subst, ◌∙◌, Bool, true, false}
 use Rattle.std.proofs.lemmas.Bool.{cases_Bool}
 use Rattle.std.specs.Prelude.{◌≢◌, Option, Result, Ok, Err, IfOk, IfErr}
 use Rattle.mysql_conversation.specs.Conversation.{Packet, IsConversation, asks}
@@ -19,7 +19,7 @@ use Rattle.mysql_conversation.proofs.PipeSteps.{Outcome, Over, OnlyLast, Sound, 
 use Rattle.mysql_conversation.specs.declared.kind.Kind.{Kind}
 use Rattle.mysql_conversation.specs.declared.kind.Kind.TheVariants as kind
 use Rattle.mysql_conversation.specs.declared.kind.Side.{Side}
-use Rattle.mysql_conversation.specs.declared.kind.Side.TheVariants.{Client, Server}
+use Rattle.mysql_conversation.specs.declared.kind.Side.TheVariants.{Server}
 use Rattle.mysql_conversation.specs.declared.state.State.{State}
 use Rattle.mysql_conversation.specs.declared.state.State.TheVariants as state
 use Rattle.mysql_conversation.specs.declared.kind.Opening.{Opening}

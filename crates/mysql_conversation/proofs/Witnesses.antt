@@ -1,7 +1,7 @@
 -- A packet of each kind that may come next.
 use Rattle.std.proofs.Common.{◌≡◌, ◌<◌, ℕ, List, [], ◌∷◌, Some, None, Ok, refl, ap, ◌∙◌, Bool, true, false}
 use Rattle.std.proofs.lemmas.Bool.{ltb-true, and_parts}
-use Rattle.std.specs.Prelude.{◌&&◌, not}
+use Rattle.std.specs.Prelude.{◌&&◌}
 use Rattle.mysql_wire.specs.Form.{bytes, number}
 use Rattle.mysql_wire.specs.Int.{raw, raw_int}
 use Rattle.mysql_wire.specs.LenEnc.{lenenc}
@@ -16,7 +16,7 @@ use Rattle.mysql_conversation.specs.KindName.{name_of}
 use Rattle.mysql_conversation.specs.Expected.{sent_names, end_name, row_name, asked_names, served_names, error_names, reported, names, expects}
 use Rattle.mysql_conversation.proofs.Begun.{no_report}
 use Rattle.mysql_conversation.proofs.Classes.{ok_status_of, statement_at_of, old_end_of_is, line_row, line_end, reply_ok, reply_infile, reply_count}
-use Rattle.mysql_conversation.proofs.Ends.{tracks_nothing, short_report, ok_bytes, old_end_bytes, statement_bytes, plain, ok_spelled, old_end_spelled, end_bytes, statement_is}
+use Rattle.mysql_conversation.proofs.Ends.{short_report, ok_bytes, old_end_bytes, statement_bytes, plain, ok_spelled, old_end_spelled, end_bytes, statement_is}
 use Rattle.mysql_conversation.proofs.Named.{All, pick, all_both}
 use Rattle.mysql_conversation.proofs.States.{failed_no_report}
 use Rattle.mysql_conversation.specs.declared.kind.Format.{Format}

@@ -1,4 +1,4 @@
-use Rattle.std.proofs.Common.{◌≡◌, refl, sym, ap, ◌∙◌, true, false, ◌++◌}
+use Rattle.std.proofs.Common.{sym, ap, ◌∙◌, ◌++◌}
 use Rattle.mysql_conversation.specs.Standing.{is_quit, quits}
 use Rattle.mysql_conversation.proofs.PipeSteps.{quits_last, quit_is}
 use Rattle.mysql_conversation.proofs.pipeline.quits.Goals as goal

@@ -1,7 +1,7 @@
 use Rattle.std.proofs.Common.{sym, ◌∙◌, ap, inl, inr, refl}
 use Rattle.mysql_conversation.specs.Agreements.{agreed_on, compresses}
 use Rattle.mysql_conversation.proofs.Places.{neither}
-use Rattle.mysql_conversation.proofs.SessionAnswers.{ok_is_no_error, compressed_none, compressed_asks, compressed_open}
+use Rattle.mysql_conversation.proofs.SessionAnswers.{ok_is_no_error, compressed_asks, compressed_open}
 use Rattle.mysql_conversation.proofs.Sessions.{may_log_in}
 use Rattle.mysql_conversation.proofs.session.Session.answered.Goals as goal
 
