@@ -1,9 +1,9 @@
 //! Payloads out of a stream of bytes that comes in any pieces.
 
-ghost use Rattle.std.specs.Prelude.{◌≡◌, ◌↔◌, ◌≤◌, ◌<◌, ◌⊎◌, [], ◌++◌, length, slice_index, IfOk, OnErr, IfSome, IfNone, IsTrue, IsErrOf, IsOk, List, ℕ};
+ghost use Rattle.std.specs.Prelude.{◌≡◌, ◌↔◌, ◌≤◌, ◌<◌, ◌⊎◌, [], ◌++◌, length, slice_index, IfOk, OnErr, IfSome, IfNone, IsTrue, IsErrOf, IsOk, List, ℕ, ◌+◌, ◌*◌, ◌/◌};
 ghost use Rattle.std.specs.Cow.{cow_slice_items};
 ghost use Rattle.mysql_frames.specs.Frames as spec;
-ghost use Rattle.mysql_frames.specs.FrameReader.{AllLonger, BeginsInOrder, HandsOut, HoldsAll, Keeps, NoneWhole};
+ghost use Rattle.mysql_frames.specs.FrameReader.{AllLonger, BeginsInOrder, HandsOut, HoldsAll, Keeps, LacksPart, NoneWhole, ShowsNoFault, ShowsOutOfOrder, ShowsTooLong};
 
 use crate::error::FrameError;
 use crate::unfinished::Unfinished;
@@ -120,6 +120,17 @@ impl FrameReader {
         // Whatever comes, no payload's frames begin so; or each whose frames do is past the limit.
         ensures order { IsErrOf result FrameError.OutOfOrder → (more : List ℕ) → NoneWhole self.old.number (self.old.held ++ input.old.now ++ more) }
         ensures long { IsErrOf result FrameError.TooLong → (more : List ℕ) → AllLonger self.old.limit self.old.number (self.old.held ++ input.old.now ++ more) }
+
+        // Each of these is the answer as soon as the header that shows it is there; the first header that is wrong says which.
+        ensures no_fault { IfOk result (λ found. IfNone found (ShowsNoFault self.new)) }
+        ensures shown_order { IsErrOf result FrameError.OutOfOrder → ShowsOutOfOrder self.new }
+        ensures shown_long { IsErrOf result FrameError.TooLong → ShowsTooLong self.new }
+
+        // Memory is asked for part of a frame whose header is there, in order and within the limit.
+        ensures lacks_part { IsErrOf result FrameError.Memory → LacksPart self.new }
+
+        // No more is held than a payload of the limit's length and its headers.
+        ensures bounded { length self.new.held ≤ self.new.limit + 4 * (self.new.limit / 0xffffff + 1) }
     {
         self.unfinished.read(input)
     }
