@@ -49,9 +49,9 @@ peel_full size (suc full) (suc j) number after head got rest b e h =
     let r = peel_full size full j (next number) after head (drop size got) rest (next_below number) left
     (subst (λ bytes. FullFrames size j (next number) after bytes rest) (sym f.1) h.4) in
     elim r [
-      inl a ↦ inl (omega (arith, a.0), a.1, a.2)
+      | inl a ↦ inl (omega (arith, a.0), a.1, a.2)
       | inr a ↦
-        inr (a.0, a.1, omega (arith, a.2), omega (arith, a.3, length-drop size got), subst (λ n. FullFrames size a.0 n after (head ++ a.1) rest) (number_more full number) a.4)
+          inr (a.0, a.1, omega (arith, a.2), omega (arith, a.3, length-drop size got), subst (λ n. FullFrames size a.0 n after (head ++ a.1) rest) (number_more full number) a.4)
     ]
 
 -- where the next header isn't whole, each header is in order and within the limit
@@ -59,7 +59,7 @@ pub head_right : (full j number after len other limit : ℕ) (head got others : 
     → FullFrames most j number after (raw most full number got head) (header len other ++ others) → (other ≡ after) × (j * most + len ≤ limit)
 head_right full j number after len other limit head got others b e short within h =
     elim (peel_full most full j number after head got (header len other ++ others) b (omega arith) h) [
-      inl a ↦ let same = header_same len most other after others a.1 a.2 in (same.1, omega (arith, a.0, same.0))
+      | inl a ↦ let same = header_same len most other after others a.1 a.2 in (same.1, omega (arith, a.0, same.0))
       | inr a ↦ absurd (omega (arith, a.3, no_fewer most a.0 (number_of full number) after (head ++ a.1) (header len other ++ others) a.4, length-append head a.1))
     ]
 
@@ -77,11 +77,11 @@ pub body_right : (full j number after len other limit said : ℕ) (head got othe
     → FullFrames most j number after (raw most full number got head) (header len other ++ others) → (other ≡ after) × (j * most + len ≤ limit)
 body_right full j number after len other limit said head got others b e is short within h =
     elim (peel_full most full j number after head got (header len other ++ others) b e h) [
-      inl a ↦ let same = header_same len most other after others a.1 a.2 in (same.1, omega (arith, a.0, same.0))
+      | inl a ↦ let same = header_same len most other after others a.1 a.2 in (same.1, omega (arith, a.0, same.0))
       | inr a ↦
-        let r = body_right_in a.0 full (number_of full number) after len other said a.1 others (omega (arith, a.3, short))
-        (subst (λ h. FullFrames most a.0 (number_of full number) after (h ++ a.1) (header len other ++ others)) is a.4) in
-        (r.1, omega (arith, a.2, r.0, r.2, within))
+          let r = body_right_in a.0 full (number_of full number) after len other said a.1 others (omega (arith, a.3, short))
+          (subst (λ h. FullFrames most a.0 (number_of full number) after (h ++ a.1) (header len other ++ others)) is a.4) in
+          (r.1, omega (arith, a.2, r.0, r.2, within))
     ]
 
 -- so no fault is shown
@@ -143,3 +143,25 @@ raw_length size (suc full) number payload head e =
 pub held_bounded : (full number limit : ℕ) (payload head : List ℕ) → full * most ≤ length payload → length payload ≤ limit → length head ≤ 4
     → length (raw most full number payload head) ≤ limit + 4 * (limit / most + 1)
 held_bounded full number limit payload head e within four = omega (arith, raw_length most full number payload head e, e, within, four)
+
+-- a header out of order, and one with which the payload is too long, are not both the first that is wrong
+one_fault : (i j start number a b la lb limit other : ℕ) (bytes others rest : List ℕ) → start + i * most ≤ limit → limit < start + j * most + lb → other ≢ a
+    → FullFrames most i number a bytes (header la other ++ others) → FullFrames most j number b bytes (header lb b ++ rest) → ⊥
+one_fault zero zero start number a b la lb limit other bytes others rest within long wrong g h =
+    let same = header_same la lb other b others rest (sym g.1 ∙ h.1) in
+    wrong (same.1 ∙ sym h.0 ∙ g.0)
+one_fault zero (suc j) start number a b la lb limit other bytes others rest within long wrong g h =
+    let same = header_same la most other number others _ (sym g.1 ∙ h.3) in
+    wrong (same.1 ∙ g.0)
+one_fault (suc i) zero start number a b la lb limit other bytes others rest within long wrong g h =
+    let same = header_same most lb number b _ rest (sym g.3 ∙ h.1) in
+    omega (arith, within, long, same.0)
+one_fault (suc i) (suc j) start number a b la lb limit other bytes others rest within long wrong g h =
+    let same = header_same most most number number _ _ (sym g.3 ∙ h.3) in
+    let f = same_front g.0 g.1 h.0 h.1 (g.2 ∙ sym h.2) same.2 in
+    one_fault i j (start + most) (next number) a b la lb limit other g.1 others rest (omega (arith, within)) (omega (arith, long)) wrong g.4
+    (subst (λ bytes. FullFrames most j (next number) b bytes (header lb b ++ rest)) (sym f.1) h.4)
+
+pub faults_differ : (reader : ReaderState) → ShowsOutOfOrder reader → ShowsTooLong reader → ⊥
+faults_differ reader x y =
+    one_fault x.0 y.0 0 reader.number x.1 y.1 x.2 y.2 reader.limit x.3 reader.held x.4 y.3 (omega (arith, x.5.within)) (omega (arith, y.5)) x.6 x.5.before y.4.before

@@ -95,6 +95,8 @@ impl FrameReader {
     /// A payload that lies whole in one frame of the input is handed out where it lies, and takes no memory. Any other is joined in the
     /// reader's own memory, which [`give_back`](Self::give_back) takes back. A refusal loses nothing: the call may be made again.
     ///
+    /// `OutOfOrder` and `TooLong` are returned as soon as the header that shows them is complete, and a frame out of order is never `TooLong`.
+    ///
     /// ```
     /// let mut input = bytes_that_came;
     /// while let Some(payload) = reader.read(&mut input)? {
