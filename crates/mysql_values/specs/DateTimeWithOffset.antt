@@ -1,8 +1,8 @@
 -- A date and a time with their offset from UTC, as parameters have them.
-use Rattle.std.specs.Prelude.{ℕ, ℤ, refl}
+use Rattle.std.specs.Prelude.{ℤ, refl}
 use Rattle.std.specs.Int.{w16, cast_signed, cast_unsigned}
 use Rattle.std.specs.Int.RustNames.{FitsSigned}
-use Rattle.std.proofs.Common.{◌<◌, ◌^◌, ap}
+use Rattle.std.proofs.Common.{◌<◌, ◌^◌}
 use Rattle.std.proofs.lemmas.Int.{to_z-of_z}
 use Rattle.std.proofs.Math.Facts.{Fits-of_z, Fits-lt-pow}
 use Rattle.mysql_wire.specs.Codec.{Codec, Fields}

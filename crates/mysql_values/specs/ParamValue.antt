@@ -8,11 +8,13 @@ use Rattle.mysql_values.specs.declared.date_time_with_offset.DateTimeWithOffset.
 use Rattle.mysql_values.specs.declared.param_type.ParamType.{ParamType}
 use Rattle.mysql_values.specs.declared.param_value.ParamValue.{ParamValue}
 use Rattle.mysql_values.specs.declared.param_value.ParamValue.TheVariants as param
+use Rattle.mysql_values.specs.declared.typed_value.TypedValue.{TypedValue}
+use Rattle.mysql_values.specs.declared.typed_value.TypedValue.TheVariants as typed
 use Rattle.mysql_values.specs.declared.value_kind.ValueKind.{ValueKind}
 use Rattle.mysql_values.specs.declared.value_kind.ValueKind.TheVariants as kind
 use Rattle.mysql_values.specs.DateTimeWithOffset.{date_with_offset, DateWithOffsetFits}
 use Rattle.mysql_values.specs.ReadingBack.{IsInRange}
-use Rattle.mysql_values.specs.TypedValue.{is_unsigned_type, kind_read, kind_spelled}
+use Rattle.mysql_values.specs.TypedValue.{is_unsigned_type, kind_read, kind_spelled, kind_typed}
 use Rattle.mysql_values.specs.Value.{Content, NULL, bin}
 use Rattle.mysql_values.specs.ValueDeserializer.{date_value, value_of_kind}
 use Rattle.mysql_values.specs.ValueRef.{ref_content}
@@ -86,6 +88,11 @@ has_offset _ = false
 abbrev pub param_spelled : ParamType → ParamContent → Option (List ℕ)
 param_spelled t (Plain value) = kind_spelled (kind_under t) (is_unsigned_type t) value
 param_spelled t (WithOffset date) = if has_offset (kind_under t) then Some (date_with_offset.bytes date) else None
+
+-- the variant that holds the value under a type
+abbrev pub param_typed : ParamType → ParamValue → Option TypedValue
+param_typed t (param.Value value) = kind_typed (kind_under t) (is_unsigned_type t) value
+param_typed t (param.DateTimeWithOffset date) = if has_offset (kind_under t) then Some (typed.WithOffset date) else None
 
 -- ---- what is read of them
 

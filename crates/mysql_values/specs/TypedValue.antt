@@ -10,6 +10,8 @@ use Rattle.mysql_values.specs.declared.param_type.ParamType.{ParamType}
 use Rattle.mysql_values.specs.declared.typed_value.TypedValue.{TypedValue}
 use Rattle.mysql_values.specs.declared.typed_value.TypedValue.TheVariants as typed
 use Rattle.mysql_values.specs.declared.value_kind.ValueKind.{ValueKind}
+use Rattle.mysql_values.specs.declared.value_ref.ValueRef.{ValueRef}
+use Rattle.mysql_values.specs.declared.value_ref.ValueRef.TheVariants as value_ref
 use Rattle.mysql_values.specs.declared.value_kind.ValueKind.TheVariants as kind
 use Rattle.mysql_values.specs.DateTimeWithOffset.{date_with_offset}
 use Rattle.mysql_values.specs.Value.{Content, NULL, Int, UInt, bin}
@@ -42,6 +44,9 @@ spells_wide k u value = suits k value
 abbrev pub wide_value : ValueKind → (is_unsigned : Bool) → Content → Option (List ℕ)
 wide_value k u value = if spells_wide k u value then Some (bin value) else None
 
+abbrev pub wide_typed : ValueKind → (is_unsigned : Bool) → ValueRef → Option TypedValue
+wide_typed k u value = if spells_wide k u (ref_content value) then Some (typed.Wide value) else None
+
 -- a value that is not NULL under a kind: of an integer the low bytes of its bits, as many as the kind has
 abbrev pub some_spelled : ValueKind → (is_unsigned : Bool) → Content → Option (List ℕ)
 some_spelled kind.Tiny u value = option_map (le_bytes 1) (content_bits (2 ^ 7) u value)
@@ -57,6 +62,21 @@ kind_spelled k u value = some_spelled k u value
 -- the bytes of a value under a type; a type that does not spell the value has none for it
 abbrev pub spelled : ParamType → Content → Option (List ℕ)
 spelled t value = kind_spelled (kind_of t.column_type) (is_unsigned_type t) value
+
+-- the variant that holds a value under a kind, where the kind spells it: of a number its bits in the width of the kind
+abbrev pub some_typed : ValueKind → (is_unsigned : Bool) → ValueRef → Option TypedValue
+some_typed kind.Tiny u value = option_map typed.Tiny (content_bits (2 ^ 7) u (ref_content value))
+some_typed kind.Short u value = option_map typed.Short (content_bits (2 ^ 15) u (ref_content value))
+some_typed kind.Long u value = option_map typed.Long (content_bits (2 ^ 31) u (ref_content value))
+some_typed k u value = wide_typed k u value
+
+abbrev pub kind_typed : ValueKind → (is_unsigned : Bool) → ValueRef → Option TypedValue
+kind_typed k u value_ref.NULL = Some (typed.Wide value_ref.NULL)
+kind_typed k u value = some_typed k u value
+
+-- the value under a type
+abbrev pub typed_under : ParamType → ValueRef → Option TypedValue
+typed_under t value = kind_typed (kind_of t.column_type) (is_unsigned_type t) value
 
 -- a value as it is spelled
 abbrev pub typed_bytes : TypedValue → List ℕ

@@ -1,7 +1,7 @@
 //! The values of parameters and attributes.
 
 ghost use Rattle.std.specs.Prelude.{false, ◌≡◌, OnErr};
-ghost use Rattle.mysql_wire.specs.Reading.{Answers, IsTail};
+ghost use Rattle.mysql_wire.specs.Reading.{Answers};
 ghost use Rattle.mysql_values.specs.ParamValue as spec;
 ghost use Rattle.mysql_wire.specs.Form.{map};
 ghost use Rattle.mysql_values.specs.ParamValue.{Plain};
@@ -54,6 +54,7 @@ impl ValueKind {
 #[tactic(auto, unfolding(crate::specs::ParamValue::date_time_param))]
 fn read_date_time<'s, 'de>(buf: &mut ParseBuf<'de>) -> Result<ParamValue<'de>, FaultOf<'s>>
     ensures value { Answers false (spec.param_contents result) buf.new (spec.date_time_param.reads buf.old) }
+    ensures stays { OnErr result (buf.new ≡ buf.old) }
 {
     if buf.first() == Some(13) {
         let date: DateTimeWithOffset = buf.parse(())?;
@@ -71,6 +72,7 @@ fn read_other<'s, 'de>(
     buf: &mut ParseBuf<'de>,
 ) -> Result<ParamValue<'de>, FaultOf<'s>>
     ensures value { Answers false (spec.param_contents result) buf.new ((map Plain (value_of_kind kind is_unsigned)).reads buf.old) }
+    ensures stays { OnErr result (buf.new ≡ buf.old) }
 {
     let value = read_kind_ref(kind, is_unsigned, buf)?;
     Ok(ParamValue::Value(value))
@@ -80,13 +82,14 @@ fn read_other<'s, 'de>(
 ///
 /// A type is read as `get_ps_param_len` (`sql/protocol_classic.cc`) does: integers of 1, 2, 4 and 8 bytes and floats of 4 and 8; dates
 /// and times after their length; NULL without bytes; every other type as a length-encoded string. Missing bytes are
-/// `UnexpectedEof`, and a length that no date has is `InvalidData`.
+/// `UnexpectedEof`, and a length that no date has is `InvalidData`. On an error the buffer is unchanged.
 #[inline(always)]
 pub fn read_param_value<'s, 'de>(
     param_type: ParamType,
     buf: &mut ParseBuf<'de>,
 ) -> Result<ParamValue<'de>, FaultOf<'s>>
     ensures value { Answers false (spec.param_contents result) buf.new ((spec.param_value param_type).reads buf.old) }
+    ensures stays { OnErr result (buf.new ≡ buf.old) }
 {
     let is_unsigned = param_type.flags().contains(StmtExecuteParamFlags::UNSIGNED);
     match ValueKind::of_param(param_type.column_type()) {

@@ -2,8 +2,8 @@
 
 ghost use Rattle.std.specs.Prelude.{◌≡◌, ◌*◌, ◌^◌, ◌≤◌, ◌<◌, length, IfSome, Some, Option, ℕ, None, pos};
 ghost use Rattle.std.specs.Option.{option_map};
-ghost use Rattle.mysql_values.specs.TypedValue.{content_bits, kind_spelled, number_bits, spelled, typed_bytes, wide_value};
-ghost use Rattle.mysql_values.specs.ParamValue.{param_content, param_spelled};
+ghost use Rattle.mysql_values.specs.TypedValue.{content_bits, kind_spelled, kind_typed, number_bits, spelled, typed_bytes, typed_under, wide_typed, wide_value};
+ghost use Rattle.mysql_values.specs.ParamValue.{param_content, param_spelled, param_typed};
 ghost use Rattle.mysql_values.specs.ValueRef.{ref_content};
 
 use crate::date_time_with_offset::DateTimeWithOffset;
@@ -77,6 +77,7 @@ impl<'a> TypedValue<'a> {
     /// float of four bytes under FLOAT, and one of eight under DOUBLE; a date, which has no time of day under DATE; a span of
     /// time under TIME; bytes under each type of strings; NULL under any type.
     pub fn new(param_type: ParamType, value: ValueRef<'a>) -> Option<Self>
+        ensures variant { result ≡ typed_under param_type value.entry }
         ensures value { option_map typed_bytes result ≡ spelled param_type (ref_content value.entry) }
     {
         let is_unsigned = param_type.flags().contains(StmtExecuteParamFlags::UNSIGNED);
@@ -88,6 +89,7 @@ impl<'a> TypedValue<'a> {
     /// It is [`new`](Self::new), but `INT24`, `YEAR` and the reserved types are strings
     /// ([`read_param_value`](crate::read_param_value)), and `DATETIME` and `TIMESTAMP` spell a date with an offset.
     pub fn of_param(param_type: ParamType, value: ParamValue<'a>) -> Option<Self>
+        ensures variant { result ≡ param_typed param_type value.entry }
         ensures value { option_map typed_bytes result ≡ param_spelled param_type (param_content value.entry) }
     {
         let is_unsigned = param_type.flags().contains(StmtExecuteParamFlags::UNSIGNED);
@@ -103,6 +105,7 @@ impl<'a> TypedValue<'a> {
 
     /// The value under a kind, where the kind spells it.
     fn of_kind(kind: ValueKind, is_unsigned: bool, value: ValueRef<'a>) -> Option<Self>
+        ensures variant { result ≡ kind_typed kind is_unsigned value.entry }
         ensures value { option_map typed_bytes result ≡ kind_spelled kind is_unsigned (ref_content value.entry) }
     {
         if let ValueRef::NULL = value {
@@ -143,6 +146,7 @@ impl<'a> TypedValue<'a> {
 
 /// A value of eight bytes or of no constant width, where the kind spells it.
 fn wide(kind: ValueKind, is_unsigned: bool, value: ValueRef<'_>) -> Option<TypedValue<'_>>
+    ensures variant { result ≡ wide_typed kind is_unsigned value.entry }
     ensures value { option_map typed_bytes result ≡ wide_value kind is_unsigned (ref_content value.entry) }
 {
     let spells = match value {

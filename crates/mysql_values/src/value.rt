@@ -3,6 +3,7 @@
 ghost use Rattle.std.specs.Prelude.{◌≡◌};
 
 use crate::temporal::{Clock, DateTime, Day, TimeSpan};
+use crate::value_ref::copied;
 use mysql_wire::{Buffer, BytesRepr, IntRepr, LeU32, LeU64, LenEnc, MySerialize};
 use std::alloc::AllocError;
 use std::fmt;
@@ -10,7 +11,7 @@ use std::fmt::Debug;
 
 /// A value that a statement is executed with, or that a row holds.
 ///
-/// Equality of floats is that of their bits.
+/// Equality of floats is that of their bits. The clone of a string of at least one byte allocates, and no other does.
 #[derive(PartialEq, Drop)]
 pub enum Value {
     /// No value.
@@ -67,15 +68,18 @@ impl Debug for Value {
 }
 
 impl Clone for Value {
-    ghost use Rattle.std.specs.Prelude.{◌≡◌};
+    ghost use Rattle.std.specs.Prelude.{◌≡◌, IsFalse};
     ghost use Rattle.mysql_values.specs.Value.{content_of};
+    ghost use Rattle.mysql_values.specs.ValueDeserializer.{has_bytes};
 
     ghost is_clone = { λ value copy. content_of copy ≡ content_of value };
+
+    ghost is_infallible = { λ value. IsFalse (has_bytes (content_of value)) };
 
     fn clone(&self) -> Result<Self, AllocError> {
         Ok(match self {
             Value::NULL => Value::NULL,
-            Value::Bytes(bytes) => Value::Bytes(bytes.clone()?),
+            Value::Bytes(bytes) => Value::Bytes(copied(*bytes.allocator(), bytes)?),
             Value::Int(n) => Value::Int(*n),
             Value::UInt(n) => Value::UInt(*n),
             Value::Float(bits) => Value::Float(*bits),

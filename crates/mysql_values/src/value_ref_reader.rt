@@ -1,7 +1,7 @@
 //! Values of rows and requests, read where they lie.
 
 ghost use Rattle.std.specs.Prelude.{false, ◌≡◌, IsFalse, IsTrue, OnErr};
-ghost use Rattle.mysql_wire.specs.Reading.{Answers, IsTail};
+ghost use Rattle.mysql_wire.specs.Reading.{Answers};
 ghost use Rattle.mysql_values.specs.Value.{Int};
 ghost use Rattle.mysql_values.specs.ValueRef.{ref_content, refs_contents};
 ghost use Rattle.mysql_values.specs.ValueDeserializer.{text_value, bin_value, value_of_kind, string_value, long_integer, date_value, time_value};
@@ -15,18 +15,20 @@ use mysql_wire::{BytesRepr, ColumnType, FaultOf, LeU16, LeU32, LeU64, LenEnc, Pa
 #[inline(always)]
 fn string_ref<'s, 'de>(buf: &mut ParseBuf<'de>) -> Result<ValueRef<'de>, FaultOf<'s>>
     ensures value { Answers false (refs_contents result) buf.new (string_value.reads buf.old) }
-    ensures tail { OnErr result (IsTail buf.new buf.old) }
+    ensures stays { OnErr result (buf.new ≡ buf.old) }
 {
-    let mut content = <LenEnc as BytesRepr>::deserialize((), buf)?;
+    let mut rest = buf.rest();
+    let mut content = <LenEnc as BytesRepr>::deserialize((), &mut rest)?;
+    *buf = rest;
     Ok(ValueRef::Bytes(content.eat_all()))
 }
 
-/// Reads a value of a text row, which takes no memory: fb, or a length-encoded string.
+/// Reads a value of a text row, which takes no memory: fb, or a length-encoded string. On an error the buffer is unchanged.
 #[inline(always)]
 #[tactic(auto, using(mysql_wire::proofs::Tails::tails), unfolding(crate::specs::ValueDeserializer::text_value, mysql_wire::specs::Form::bytes))]
 pub fn read_text_ref<'s, 'de>(buf: &mut ParseBuf<'de>) -> Result<ValueRef<'de>, FaultOf<'s>>
     ensures value { Answers false (refs_contents result) buf.new (text_value.reads buf.old) }
-    ensures tail { OnErr result (IsTail buf.new buf.old) }
+    ensures stays { OnErr result (buf.new ≡ buf.old) }
 {
     if buf.first() == Some(0xfb) {
         buf.skip(1);
@@ -38,7 +40,7 @@ pub fn read_text_ref<'s, 'de>(buf: &mut ParseBuf<'de>) -> Result<ValueRef<'de>, 
 #[inline(never)]
 fn date_ref<'s, 'de>(buf: &mut ParseBuf<'de>) -> Result<ValueRef<'de>, FaultOf<'s>>
     ensures value { Answers false (refs_contents result) buf.new (date_value.reads buf.old) }
-    ensures tail { OnErr result (IsTail buf.new buf.old) }
+    ensures stays { OnErr result (buf.new ≡ buf.old) }
 {
     let date: DateTime = buf.parse(())?;
     Ok(ValueRef::Date(
@@ -55,7 +57,7 @@ fn date_ref<'s, 'de>(buf: &mut ParseBuf<'de>) -> Result<ValueRef<'de>, FaultOf<'
 #[inline(never)]
 fn time_ref<'s, 'de>(buf: &mut ParseBuf<'de>) -> Result<ValueRef<'de>, FaultOf<'s>>
     ensures value { Answers false (refs_contents result) buf.new (time_value.reads buf.old) }
-    ensures tail { OnErr result (IsTail buf.new buf.old) }
+    ensures stays { OnErr result (buf.new ≡ buf.old) }
 {
     let time: TimeSpan = buf.parse(())?;
     Ok(ValueRef::Time(
@@ -85,7 +87,7 @@ fn longlong_ref<'s, 'de>(
     buf: &mut ParseBuf<'de>,
 ) -> Result<ValueRef<'de>, FaultOf<'s>>
     ensures value { Answers false (refs_contents result) buf.new ((long_integer is_unsigned).reads buf.old) }
-    ensures tail { OnErr result (IsTail buf.new buf.old) }
+    ensures stays { OnErr result (buf.new ≡ buf.old) }
 {
     let number: RawInt<LeU64> = buf.parse(())?;
     Ok(if is_unsigned {
@@ -95,7 +97,7 @@ fn longlong_ref<'s, 'de>(
     })
 }
 
-/// Reads a value of the kind. It takes no memory.
+/// Reads a value of the kind. It takes no memory, and on an error the buffer is unchanged.
 #[tactic(auto, unfolding(mysql_wire::specs::Int::raw))]
 #[inline(always)]
 pub fn read_kind_ref<'s, 'de>(
@@ -104,7 +106,7 @@ pub fn read_kind_ref<'s, 'de>(
     buf: &mut ParseBuf<'de>,
 ) -> Result<ValueRef<'de>, FaultOf<'s>>
     ensures value { Answers false (refs_contents result) buf.new ((value_of_kind kind is_unsigned).reads buf.old) }
-    ensures tail { OnErr result (IsTail buf.new buf.old) }
+    ensures stays { OnErr result (buf.new ≡ buf.old) }
 {
     match kind {
         ValueKind::String => string_ref(buf),
@@ -151,7 +153,7 @@ pub fn read_kind_ref<'s, 'de>(
 }
 
 /// Reads a value in the form of its column's type, as [`ValueDeserializer<BinValue>`](crate::ValueDeserializer) does. It
-/// takes no memory.
+/// takes no memory, and on an error the buffer is unchanged.
 #[inline(always)]
 pub fn read_bin_ref<'s, 'de>(
     column_type: ColumnType,
@@ -159,7 +161,7 @@ pub fn read_bin_ref<'s, 'de>(
     buf: &mut ParseBuf<'de>,
 ) -> Result<ValueRef<'de>, FaultOf<'s>>
     ensures value { Answers false (refs_contents result) buf.new ((bin_value column_type is_unsigned).reads buf.old) }
-    ensures tail { OnErr result (IsTail buf.new buf.old) }
+    ensures stays { OnErr result (buf.new ≡ buf.old) }
 {
     read_kind_ref(ValueKind::of(column_type), is_unsigned, buf)
 }
