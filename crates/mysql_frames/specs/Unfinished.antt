@@ -42,7 +42,7 @@ pub record HasFrame (r : Unfinished) (len : ℕ) : Type 0 where
   pub header : IsHeader r len
   pub body : length r.payload.items ≡ r.full * most + len
 
--- memory of this capacity holds neither the frame that comes, of so many bytes, nor both what is there and what comes of it, or 65536 bytes where that is less
+-- memory of this capacity is too small for the payload with the frame that comes, of so many bytes; and for what is there of it with the larger of the input and 65536 bytes
 pub record LacksCapacity (capacity : ℕ) (r : Unfinished) (len : ℕ) (input : List ℕ) : Type 0 where
   pub frame : capacity < r.full * most + len
   pub comes : capacity < length r.payload.items + max 65536 (length input)

@@ -231,7 +231,7 @@ impl Unfinished {
         ensures shown_order { IsErrOf result FrameError.OutOfOrder → ShowsOutOfOrder (state_of self.new) }
         ensures shown_long { IsErrOf result FrameError.TooLong → ShowsTooLong (state_of self.new) }
         ensures lacks_part { IsErrOf result FrameError.Memory → LacksPart (state_of self.new) }
-        ensures lacks_capacity { IsErrOf result FrameError.Memory → (len : ℕ) × LacksCapacity (vec_capacity self.old.payload) self.new len input.new.now }
+        ensures lacks_capacity { IsErrOf result FrameError.Memory → (len : ℕ) × IsHeader self.new len × LacksCapacity (vec_capacity self.old.payload) self.new len input.new.now }
         ensures capacity { vec_capacity self.old.payload ≤ vec_capacity self.new.payload }
     {
         if !self.fill_head(input) {
@@ -291,7 +291,7 @@ impl Unfinished {
         ensures shown_order { IsErrOf result FrameError.OutOfOrder → ShowsOutOfOrder (state_of self.new) }
         ensures shown_long { IsErrOf result FrameError.TooLong → ShowsTooLong (state_of self.new) }
         ensures lacks_part { IsErrOf result FrameError.Memory → LacksPart (state_of self.new) }
-        ensures lacks_capacity { IsErrOf result FrameError.Memory → (len : ℕ) × LacksCapacity (vec_capacity self.old.payload) self.new len input.new.now }
+        ensures lacks_capacity { IsErrOf result FrameError.Memory → (len : ℕ) × IsHeader self.new len × LacksCapacity (vec_capacity self.old.payload) self.new len input.new.now }
     {
         'frames: loop {
             match self.frame(input)? {
@@ -324,7 +324,7 @@ impl Unfinished {
         ensures shown_order { IsErrOf result FrameError.OutOfOrder → ShowsOutOfOrder (state_of self.new) }
         ensures shown_long { IsErrOf result FrameError.TooLong → ShowsTooLong (state_of self.new) }
         ensures lacks_part { IsErrOf result FrameError.Memory → LacksPart (state_of self.new) }
-        ensures lacks_capacity { IsErrOf result FrameError.Memory → (len : ℕ) × LacksCapacity (vec_capacity self.old.payload) self.new len input.new.now }
+        ensures lacks_capacity { IsErrOf result FrameError.Memory → (len : ℕ) × IsHeader self.new len × LacksCapacity (vec_capacity self.old.payload) self.new len input.new.now }
         ensures bounded { length (held self.new) ≤ self.new.limit + 4 * (self.new.limit / 0xffffff + 1) }
     {
         if self.is_between() {

@@ -69,4 +69,4 @@ returns-in_err-frame-clause-lacks_capacity c e =
     let same : c.in_err-frame.field-0.0 ≡ Memory = cc in
     let lacks = c.in_err-frame.ensures.lacks_capacity (ap Err same) in
     let grown = c.frames.invariant.capacity in
-    (lacks.0, record { frame = omega (arith, lacks.1.frame, grown); comes = omega (arith, lacks.1.comes, grown) })
+    (lacks.0, lacks.1, record { frame = omega (arith, lacks.2.frame, grown); comes = omega (arith, lacks.2.comes, grown) })
