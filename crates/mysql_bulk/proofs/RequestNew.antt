@@ -45,3 +45,8 @@ some_rows (row ∷ rows) n = λ e. cc
 pub one_length : (a : ℕ) (rows : List (List Content)) → rows ≢ [] → EqualLengths a rows → OneLength rows
 one_length a [] n e = tt
 one_length a (row ∷ rows) n e = let E : ℕ → Type 0 = λ b. EqualLengths b (row ∷ rows) in subst E (sym e.0) e
+
+-- rows of one length, none of which has a value, have the length 0
+pub no_values : (a : ℕ) (rows : List (List Content)) → rows ≢ [] → EqualLengths a rows → EqualLengths 0 rows → a ≡ 0
+no_values a [] n e f = absurd (n refl)
+no_values a (row ∷ rows) n e f = sym e.0 ∙ f.0

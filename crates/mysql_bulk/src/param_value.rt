@@ -89,7 +89,12 @@ impl StmtBulkExecuteParamValue {
 }
 
 impl Clone for StmtBulkExecuteParamValue {
+    ghost use Rattle.std.specs.Prelude.{◌≡◌, IsFalse};
+    ghost use Rattle.mysql_values.specs.ValueDeserializer.{has_bytes};
+
     ghost is_clone = { λ value copy. copy ≡ value };
+
+    ghost is_infallible = { λ value. IsFalse (has_bytes value.content) };
 
     fn clone(&self) -> Result<Self, AllocError> {
         Ok(StmtBulkExecuteParamValue {

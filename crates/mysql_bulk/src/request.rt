@@ -1,6 +1,6 @@
 //! A bulk request.
 
-ghost use Rattle.std.specs.Prelude.{◌≡◌, ◌+◌, ◌*◌, length, None, refl, IfOk, if◌then◌else◌, fold, [], slice_get};
+ghost use Rattle.std.specs.Prelude.{◌≡◌, ◌≢◌, ◌+◌, ◌*◌, length, None, refl, Err, IfOk, IsOk, if◌then◌else◌, fold, [], slice_get};
 ghost use Rattle.std.specs.Option.{option_map};
 ghost use Rattle.mysql_wire.specs.Writing.{saturated};
 ghost use Rattle.mysql_cuts.specs.Cut.{rows_in};
@@ -74,6 +74,7 @@ fn gather(
     requires { EqualLengths arity (contents_of_rows rows.items) }
     ensures types { IfOk result (λ parts. parts.types.items ≡ (if sent then fold types_with_row [] (contents_of_rows rows.items) else [])) }
     ensures values { IfOk result (λ parts. contents_of parts.values.items ≡ rows_in (contents_of_rows rows.items)) }
+    ensures no_memory { arity ≡ 0 → IsOk result }
 {
     let mut types = Vec::new(alloc);
     let mut values = Vec::new(alloc);
@@ -147,7 +148,9 @@ impl ComStmtBulkExecuteRequest {
         bulk_flags: StmtBulkExecuteFlags,
         rows: Vec<Vec<Value>>,
     ) -> Result<Self, BulkExecuteRequestError>
-        ensures { MakesRequest stmt_id bulk_flags (contents_of_rows rows.items) result }
+        ensures makes { MakesRequest stmt_id bulk_flags (contents_of_rows rows.items) result }
+        // Rows without values take no memory.
+        ensures no_memory { EqualLengths 0 (contents_of_rows rows.items) → result ≢ Err BulkExecuteRequestError.Memory }
     {
         if rows.is_empty() {
             return Err(BulkExecuteRequestError::NoParams);

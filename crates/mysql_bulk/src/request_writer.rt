@@ -1,6 +1,6 @@
 //! A writer of bulk requests, which keeps the bytes of the rows that it is offered and not their values.
 
-ghost use Rattle.std.specs.Prelude.{◌≡◌, ◌≢◌, ◌+◌, ◌++◌, ◌<◌, ◌≤◌, ◌-◌, ◌^◌, ◌↔◌, IsTrue, IfOk, IfNone, OnErr, MatchOption, [], length, map, None, Some, true, false, if◌then◌else◌, vec_len, vec_capacity, List};
+ghost use Rattle.std.specs.Prelude.{◌≡◌, ◌≢◌, ◌+◌, ◌++◌, ◌<◌, ◌≤◌, ◌-◌, ◌^◌, ◌↔◌, IsTrue, IfOk, IfSome, IfNone, OnErr, MatchOption, [], length, map, None, Some, true, false, if◌then◌else◌, vec_len, vec_capacity, List};
 ghost use Rattle.std.specs.Bool.{OnTrue, OnFalse};
 ghost use Rattle.mysql_values.specs.Value.{Content};
 ghost use Rattle.mysql_values.specs.ValueRef.{ref_content};
@@ -304,6 +304,7 @@ impl<'a> BulkRequestWriter<'a> {
     pub fn build(&mut self) -> Option<Vec<u8>>
         ensures bytes { MatchOption result (self.old.count ≡ 0) (λ bytes. (self.old.count ≢ 0) × (bytes.items ≡ self.old.bytes)) }
         ensures of_cells { (rows : List (List Cell)) → HoldsCells self.old rows → MatchOption result (rows ≡ []) (λ bytes. IsRequestOf self.old rows bytes.items) }
+        ensures capacity { IfSome result (λ bytes. vec_capacity bytes ≡ self.old.capacity) }
         ensures lets_go { LetsGo self.old self.new }
         ensures stays { IfNone result (self.new ≡ self.old) }
     {

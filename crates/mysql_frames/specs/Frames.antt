@@ -26,6 +26,12 @@ FramedIn size (suc full) number payload after bytes rest =
     (chunk : List ℕ) × (more : List ℕ) × (mid : List ℕ)
     × (length chunk ≡ size) × (payload ≡ chunk ++ more) × (bytes ≡ header size number ++ (chunk ++ mid)) × FramedIn size full (next number) more after mid rest
 
+-- the bytes are so many full frames of a payload, counted from a number on, and then the rest, whose first frame would have the number `after`
+abbrev pub FullFrames : ℕ → ℕ → ℕ → ℕ → List ℕ → List ℕ → Type 0
+FullFrames size zero number after bytes rest = (number ≡ after) × (bytes ≡ rest)
+FullFrames size (suc full) number after bytes rest =
+    (chunk : List ℕ) × (mid : List ℕ) × (length chunk ≡ size) × (bytes ≡ header size number ++ (chunk ++ mid)) × FullFrames size full (next number) after mid rest
+
 -- the bytes are the frames of this payload, and then the rest
 abbrev pub Framed : ℕ → List ℕ → ℕ → List ℕ → List ℕ → Type 0
 Framed number payload after bytes rest = (full : ℕ) × FramedIn most full number payload after bytes rest

@@ -1,5 +1,5 @@
 -- A payload that is not whole yet.
-use Rattle.std.specs.Prelude.{◌≡◌, ℕ, ◌+◌, ◌*◌, ◌%◌, ◌<◌, ◌≤◌, zero, suc, List, ◌++◌, length, take, drop}
+use Rattle.std.specs.Prelude.{◌≡◌, ℕ, ◌+◌, ◌*◌, ◌%◌, ◌<◌, ◌≤◌, zero, suc, List, ◌++◌, length, take, drop, max}
 use Rattle.mysql_frames.specs.FrameHeader.{length_in}
 use Rattle.mysql_frames.specs.FrameReader.{ReaderState}
 use Rattle.mysql_frames.specs.Frames.{most, header, next}
@@ -29,6 +29,7 @@ pub record IsReading (r : Unfinished) : Type 0 where
   pub start : r.full * most ≤ length r.payload.items
   pub nothing_yet : length r.head.items < 4 → length r.payload.items ≡ r.full * most
   pub within : length r.head.items ≡ 4 → length r.payload.items ≤ r.full * most + length_in r.head.items
+  pub bounded : length r.payload.items ≤ r.limit
 
 -- a whole header of a frame of so many bytes is there, which is the one that comes
 pub record IsHeader (r : Unfinished) (len : ℕ) : Type 0 where
@@ -40,3 +41,8 @@ pub record IsHeader (r : Unfinished) (len : ℕ) : Type 0 where
 pub record HasFrame (r : Unfinished) (len : ℕ) : Type 0 where
   pub header : IsHeader r len
   pub body : length r.payload.items ≡ r.full * most + len
+
+-- memory of this capacity holds neither the frame that comes, of so many bytes, nor both what is there and what comes of it, or 65536 bytes where that is less
+pub record LacksCapacity (capacity : ℕ) (r : Unfinished) (len : ℕ) (input : List ℕ) : Type 0 where
+  pub frame : capacity < r.full * most + len
+  pub comes : capacity < length r.payload.items + max 65536 (length input)

@@ -2,7 +2,7 @@
 
 ghost use Rattle.std.specs.Prelude.{◌≡◌, ℕ, List, [], ◌∷◌, ◌++◌};
 ghost use Rattle.mysql_frames.specs.Frames.{Framed, Stream};
-ghost use Rattle.mysql_frames.specs.FrameReader.{NoneWhole};
+ghost use Rattle.mysql_frames.specs.FrameReader.{NoneWhole, ReaderState, ShowsOutOfOrder, ShowsTooLong};
 
 /// Up to a rest in which there is no payload, bytes are the frames of one list of payloads: so it doesn't matter in which
 /// pieces they come.
@@ -18,4 +18,9 @@ pub fn a_stream_goes_on()
     ensures bytes { (number : ℕ) (payloads : List (List ℕ)) (after : ℕ) (bytes rest more : List ℕ) → Stream number payloads after bytes rest → Stream number payloads after (bytes ++ more) (rest ++ more) }
     ensures payload { (number : ℕ) (payloads : List (List ℕ)) (mid : ℕ) (bytes rest payload : List ℕ) (after : ℕ) (left : List ℕ)
         → Stream number payloads mid bytes rest → Framed mid payload after rest left → Stream number (payloads ++ payload ∷ []) after bytes left }
+{}
+
+/// The first header that is wrong says which error it is: what a reader holds never shows both.
+pub fn held_bytes_show_one_fault()
+    ensures { (reader : ReaderState) → ShowsOutOfOrder reader → ShowsTooLong reader → ⊥ }
 {}

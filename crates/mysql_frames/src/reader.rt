@@ -1,9 +1,9 @@
 //! Payloads out of a stream of bytes that comes in any pieces.
 
-ghost use Rattle.std.specs.Prelude.{◌≡◌, ◌↔◌, ◌≤◌, ◌<◌, ◌⊎◌, [], ◌++◌, length, slice_index, IfOk, OnErr, IfSome, IfNone, IsTrue, IsErrOf, IsOk, List, ℕ};
+ghost use Rattle.std.specs.Prelude.{◌≡◌, ◌↔◌, ◌≤◌, ◌<◌, ◌⊎◌, [], ◌++◌, length, slice_index, IfOk, OnErr, IfSome, IfNone, IsTrue, IsErrOf, IsOk, List, ℕ, ◌+◌, ◌*◌, ◌/◌};
 ghost use Rattle.std.specs.Cow.{cow_slice_items};
 ghost use Rattle.mysql_frames.specs.Frames as spec;
-ghost use Rattle.mysql_frames.specs.FrameReader.{AllLonger, BeginsInOrder, HandsOut, HoldsAll, Keeps, NoneWhole};
+ghost use Rattle.mysql_frames.specs.FrameReader.{AllLonger, BeginsInOrder, HandsOut, HoldsAll, Keeps, LacksPart, NoneWhole, ShowsNoFault, ShowsOutOfOrder, ShowsTooLong};
 
 use crate::error::FrameError;
 use crate::unfinished::Unfinished;
@@ -95,6 +95,8 @@ impl FrameReader {
     /// A payload that lies whole in one frame of the input is handed out where it lies, and takes no memory. Any other is joined in the
     /// reader's own memory, which [`give_back`](Self::give_back) takes back. A refusal loses nothing: the call may be made again.
     ///
+    /// `OutOfOrder` and `TooLong` are returned as soon as the header that shows them is complete, and a frame out of order is never `TooLong`.
+    ///
     /// ```
     /// let mut input = bytes_that_came;
     /// while let Some(payload) = reader.read(&mut input)? {
@@ -120,6 +122,17 @@ impl FrameReader {
         // Whatever comes, no payload's frames begin so; or each whose frames do is past the limit.
         ensures order { IsErrOf result FrameError.OutOfOrder → (more : List ℕ) → NoneWhole self.old.number (self.old.held ++ input.old.now ++ more) }
         ensures long { IsErrOf result FrameError.TooLong → (more : List ℕ) → AllLonger self.old.limit self.old.number (self.old.held ++ input.old.now ++ more) }
+
+        // Each of these is the answer as soon as the header that shows it is there; the first header that is wrong says which.
+        ensures no_fault { IfOk result (λ found. IfNone found (ShowsNoFault self.new)) }
+        ensures shown_order { IsErrOf result FrameError.OutOfOrder → ShowsOutOfOrder self.new }
+        ensures shown_long { IsErrOf result FrameError.TooLong → ShowsTooLong self.new }
+
+        // Memory is asked for part of a frame whose header is there, in order and within the limit.
+        ensures lacks_part { IsErrOf result FrameError.Memory → LacksPart self.new }
+
+        // No more is held than a payload of the limit's length and its headers.
+        ensures bounded { length self.new.held ≤ self.new.limit + 4 * (self.new.limit / 0xffffff + 1) }
     {
         self.unfinished.read(input)
     }

@@ -1,6 +1,6 @@
 //! A payload that is not whole yet.
 
-ghost use Rattle.std.specs.Prelude.{◌≡◌, ◌≢◌, ◌↔◌, ◌+◌, ◌*◌, ◌<◌, ◌≤◌, ◌⊎◌, [], ◌++◌, length, slice_index, IfOk, OnErr, IfSome, IfNone, IsTrue, IsErrOf, IsOk, List, ℕ, true, false};
+ghost use Rattle.std.specs.Prelude.{◌≡◌, ◌≢◌, ◌↔◌, ◌+◌, ◌*◌, ◌<◌, ◌≤◌, ◌⊎◌, [], ◌++◌, length, slice_index, IfOk, OnErr, IfSome, IfNone, IsTrue, IsErrOf, IsOk, List, ℕ, true, false, vec_len, vec_capacity, max, ◌/◌};
 ghost use Rattle.std.specs.Cow.{cow_slice_items};
 ghost use Rattle.mysql_frames.specs.Frames as spec;
 
@@ -22,6 +22,10 @@ fn fill(into: &mut Vec<u8>, input: &mut &[u8], missing: usize) -> Result<bool, A
     ensures err { OnErr result (into.new.items ≡ into.old.items) }
     // Where nothing comes it takes no memory.
     ensures some { OnErr result (input.old.now ≢ []) }
+    // Nor where there is capacity for what is missing, or for what comes of it and for `AT_ONCE` bytes: a header alone asks for no more.
+    ensures missing { OnErr result (vec_capacity into.old < vec_len into.old + missing) }
+    ensures comes { OnErr result (vec_capacity into.old < vec_len into.old + max 65536 (length input.old.now)) }
+    ensures capacity { vec_capacity into.old ≤ vec_capacity into.new }
 {
     if input.is_empty() {
         return Ok(missing == 0);
@@ -82,8 +86,8 @@ pub struct Unfinished {
 }
 
 impl Unfinished {
-    ghost use Rattle.mysql_frames.specs.FrameReader.{AllLonger, BeginsInOrder, HandsOut, HoldsAll, Keeps, NoneWhole};
-    ghost use Rattle.mysql_frames.specs.Unfinished.{HasFrame, IsHeader, IsReading, held, number_of, state_of};
+    ghost use Rattle.mysql_frames.specs.FrameReader.{AllLonger, BeginsInOrder, HandsOut, HoldsAll, Keeps, LacksPart, NoneWhole, ShowsNoFault, ShowsOutOfOrder, ShowsTooLong};
+    ghost use Rattle.mysql_frames.specs.Unfinished.{HasFrame, IsHeader, IsReading, LacksCapacity, held, number_of, state_of};
 
     /// Nothing has come. The first frame has the number 0.
     pub(crate) fn new(alloc: Global, limit: usize) -> Self
@@ -157,6 +161,7 @@ impl Unfinished {
         ensures kept { held self.new ++ input.new.now ≡ held self.old ++ input.old.now }
         ensures used { length input.new.now + length self.new.head.items ≡ length input.old.now + length self.old.head.items }
         ensures less { length input.new.now ≤ length input.old.now }
+        ensures payload { self.new.payload ≡ self.old.payload }
         ensures done { (IsTrue result → length self.new.head.items ≡ 4) × (result ≡ false → (length self.new.head.items < 4) × (input.new.now ≡ [])) }
     {
         if self.head.len() == HEADER_LEN {
@@ -173,12 +178,14 @@ impl Unfinished {
         ensures order { IsErrOf result FrameError.OutOfOrder → (more : List ℕ) → NoneWhole self.now.first (held self.now ++ more) }
         ensures limit { IsErrOf result FrameError.TooLong → (more : List ℕ) → AllLonger self.now.limit self.now.first (held self.now ++ more) }
         ensures memory { IsErrOf result FrameError.Memory → ⊥ }
+        ensures shown_order { IsErrOf result FrameError.OutOfOrder → ShowsOutOfOrder (state_of self.now) }
+        ensures shown_long { IsErrOf result FrameError.TooLong → ShowsTooLong (state_of self.now) }
     {
         let head = self.head.as_slice();
+        let len = length_in(head);
         if head[3] != self.number() {
             return Err(FrameError::OutOfOrder);
         }
-        let len = length_in(head);
         let start = self.full * MAX_FRAME_LEN;
         if self.limit < start || self.limit - start < len {
             return Err(FrameError::TooLong);
@@ -199,6 +206,8 @@ impl Unfinished {
             × (done ≡ false → (length self.new.payload.items < self.new.full * 0xffffff + len) × (input.new.now ≡ []))) }
         ensures less { length input.new.now ≤ length input.old.now }
         ensures some { OnErr result (0 < length input.old.now) }
+        ensures lacks { OnErr result ((length self.new.payload.items < self.new.full * 0xffffff + len) × LacksCapacity (vec_capacity self.old.payload) self.new len input.new.now) }
+        ensures capacity { vec_capacity self.old.payload ≤ vec_capacity self.new.payload }
     {
         let missing = len - (self.payload.len() - self.full * MAX_FRAME_LEN);
         fill(&mut self.payload, input, missing)
@@ -218,6 +227,12 @@ impl Unfinished {
         ensures less { length input.new.now ≤ length input.old.now }
         ensures some { IsErrOf result FrameError.Memory → 0 < length input.old.now }
         ensures early { IsErrOf result FrameError.Memory → BeginsInOrder (state_of self.new) (held self.new ++ input.new.now) }
+        ensures no_fault { IfOk result (λ found. IfNone found (ShowsNoFault (state_of self.new))) }
+        ensures shown_order { IsErrOf result FrameError.OutOfOrder → ShowsOutOfOrder (state_of self.new) }
+        ensures shown_long { IsErrOf result FrameError.TooLong → ShowsTooLong (state_of self.new) }
+        ensures lacks_part { IsErrOf result FrameError.Memory → LacksPart (state_of self.new) }
+        ensures lacks_capacity { IsErrOf result FrameError.Memory → (len : ℕ) × LacksCapacity (vec_capacity self.old.payload) self.new len input.new.now }
+        ensures capacity { vec_capacity self.old.payload ≤ vec_capacity self.new.payload }
     {
         if !self.fill_head(input) {
             return Ok(None);
@@ -237,6 +252,7 @@ impl Unfinished {
         ensures same { (self.new.first ≡ self.old.first) × (self.new.limit ≡ self.old.limit) }
         ensures kept { held self.new ≡ held self.old }
         ensures head { self.new.head.items ≡ [] }
+        ensures payload { self.new.payload ≡ self.old.payload }
     {
         self.full += 1;
         self.head.clear();
@@ -271,6 +287,11 @@ impl Unfinished {
         ensures limit { IsErrOf result FrameError.TooLong → (more : List ℕ) → AllLonger self.old.limit self.old.first (held self.old ++ input.old.now ++ more) }
         ensures some { IsErrOf result FrameError.Memory → 0 < length input.old.now }
         ensures early { IsErrOf result FrameError.Memory → BeginsInOrder (state_of self.old) (held self.old ++ input.old.now) }
+        ensures no_fault { IfOk result (λ found. IfNone found (ShowsNoFault (state_of self.new))) }
+        ensures shown_order { IsErrOf result FrameError.OutOfOrder → ShowsOutOfOrder (state_of self.new) }
+        ensures shown_long { IsErrOf result FrameError.TooLong → ShowsTooLong (state_of self.new) }
+        ensures lacks_part { IsErrOf result FrameError.Memory → LacksPart (state_of self.new) }
+        ensures lacks_capacity { IsErrOf result FrameError.Memory → (len : ℕ) × LacksCapacity (vec_capacity self.old.payload) self.new len input.new.now }
     {
         'frames: loop {
             match self.frame(input)? {
@@ -283,6 +304,7 @@ impl Unfinished {
 
     /// The same, and a payload that lies whole in one frame of the input is handed out there.
     #[inline]
+    #[tactic(auto, using(crate::proofs::Shown::held_bounded))]
     pub(crate) fn read<'a>(
         &mut self,
         input: &mut &'a [u8],
@@ -298,6 +320,12 @@ impl Unfinished {
         ensures long { IsErrOf result FrameError.TooLong → (more : List ℕ) → AllLonger self.old.limit self.old.first (held self.old ++ input.old.now ++ more) }
         ensures some { IsErrOf result FrameError.Memory → 0 < length input.old.now }
         ensures early { IsErrOf result FrameError.Memory → BeginsInOrder (state_of self.old) (held self.old ++ input.old.now) }
+        ensures no_fault { IfOk result (λ found. IfNone found (ShowsNoFault (state_of self.new))) }
+        ensures shown_order { IsErrOf result FrameError.OutOfOrder → ShowsOutOfOrder (state_of self.new) }
+        ensures shown_long { IsErrOf result FrameError.TooLong → ShowsTooLong (state_of self.new) }
+        ensures lacks_part { IsErrOf result FrameError.Memory → LacksPart (state_of self.new) }
+        ensures lacks_capacity { IsErrOf result FrameError.Memory → (len : ℕ) × LacksCapacity (vec_capacity self.old.payload) self.new len input.new.now }
+        ensures bounded { length (held self.new) ≤ self.new.limit + 4 * (self.new.limit / 0xffffff + 1) }
     {
         if self.is_between() {
             if let Some((payload, rest)) = whole_at(self.limit, self.first, input) {
@@ -319,6 +347,8 @@ impl Unfinished {
         ensures reading { IsReading self.new }
         ensures held { held self.new ≡ held self.old }
         ensures same { (self.new.first ≡ self.old.first) × (self.new.limit ≡ self.old.limit) }
+        ensures capacity { self.old.payload.items ≡ [] → vec_capacity self.new.payload ≡ vec_capacity buffer }
+        ensures payload { self.old.payload.items ≢ [] → self.new.payload ≡ self.old.payload }
     {
         if self.payload.is_empty() {
             let mut buffer = buffer;

@@ -35,6 +35,8 @@ fn push_frame(out: &mut Vec<u8>, number: u8, part: &[u8])
 fn write_long(out: &mut Vec<u8>, number: u8, payload: &[u8]) -> Result<u8, AllocError>
     ensures framed { IfOk result (λ after. AppendsFrames number payload.now after out.old.items out.new.items) }
     ensures err { OnErr result (out.new.items ≡ out.old.items) }
+    ensures err_capacity { OnErr result (vec_capacity out.new ≡ vec_capacity out.old) }
+    ensures capacity { vec_capacity out.old ≤ vec_capacity out.new }
     ensures no_memory { vec_len out.old + length payload.now + 4 * (length payload.now / 0xffffff + 1) ≤ vec_capacity out.old → IsOk result }
 {
     out.reserve(payload.len() + HEADER_LEN * (payload.len() / MAX_FRAME_LEN + 1))?;
@@ -52,11 +54,13 @@ fn write_long(out: &mut Vec<u8>, number: u8, payload: &[u8]) -> Result<u8, Alloc
 
 /// Appends the frames of a payload, of which the first has this number, and answers the number after them.
 ///
-/// The buffer grows once. A refusal leaves it as it was, and comes only where it lacks capacity.
+/// The buffer grows once, and never shrinks. A refusal leaves it as it was, its capacity too, and comes only where that lacks.
 #[inline]
 pub fn write_frames(out: &mut Vec<u8>, number: u8, payload: &[u8]) -> Result<u8, AllocError>
     ensures framed { IfOk result (λ after. AppendsFrames number payload.now after out.old.items out.new.items) }
     ensures err { OnErr result (out.new.items ≡ out.old.items) }
+    ensures err_capacity { OnErr result (vec_capacity out.new ≡ vec_capacity out.old) }
+    ensures capacity { vec_capacity out.old ≤ vec_capacity out.new }
     ensures no_memory { vec_len out.old + length payload.now + 4 * (length payload.now / 0xffffff + 1) ≤ vec_capacity out.old → IsOk result }
 {
     if payload.len() >= MAX_FRAME_LEN {
@@ -76,6 +80,8 @@ fn write_long_packet<P: MySerialize>(
 ) -> Result<u8, AllocError>
     ensures framed { IfOk result (λ after. AppendsFrames number (P.bytes packet.now) after out.old.items out.new.items) }
     ensures err { OnErr result (out.new.items ≡ out.old.items) }
+    ensures err_capacity { OnErr result (vec_capacity out.new ≡ vec_capacity out.old) }
+    ensures capacity { vec_capacity out.old ≤ vec_capacity out.new }
 {
     let mut payload = Vec::new(*out.allocator());
     packet.serialize(&mut payload)?;
@@ -84,8 +90,8 @@ fn write_long_packet<P: MySerialize>(
 
 /// Appends a packet in its frames, of which the first has this number, and answers the number after them.
 ///
-/// The packet is written after its header, where it stays: nothing is copied, unless it takes several frames. The buffer grows once.
-/// A refusal leaves it as it was; a packet of one frame is refused only where the buffer lacks capacity.
+/// The packet is written after its header, where it stays: nothing is copied, unless it takes several frames. The buffer grows once, and
+/// never shrinks. A refusal leaves it as it was, its capacity too; a packet of one frame is refused only where the buffer lacks capacity.
 #[inline]
 #[tactic(auto, unfolding(mysql_wire::specs::Writing::saturated))]
 pub fn write_packet<P: MySerialize>(
@@ -95,6 +101,8 @@ pub fn write_packet<P: MySerialize>(
 ) -> Result<u8, AllocError>
     ensures framed { IfOk result (λ after. AppendsFrames number (P.bytes packet.now) after out.old.items out.new.items) }
     ensures err { OnErr result (out.new.items ≡ out.old.items) }
+    ensures err_capacity { OnErr result (vec_capacity out.new ≡ vec_capacity out.old) }
+    ensures capacity { vec_capacity out.old ≤ vec_capacity out.new }
     ensures no_memory { length (P.bytes packet.now) < 0xffffff → vec_len out.old + 4 + length (P.bytes packet.now) ≤ vec_capacity out.old → IsOk result }
 {
     let len = packet.defined_len();

@@ -1,6 +1,6 @@
 //! A whole run of a writer over rows of values, DEFAULT and IGNORE.
 
-ghost use Rattle.std.specs.Prelude.{◌≡◌, ◌++◌, ◌∷◌, [], map, IfErr, OnOk, OnErr, Ok, Err, List, if◌then◌else◌};
+ghost use Rattle.std.specs.Prelude.{◌≡◌, ◌≤◌, ◌++◌, ◌∷◌, [], map, IfErr, OnOk, OnErr, Ok, Err, List, if◌then◌else◌};
 ghost use Rattle.mysql_bulk.specs.declared.error.BulkRowRefusal.TheVariants.{TooLarge};
 ghost use Rattle.mysql_bulk.specs.BulkValue.{Cell, cell_of};
 ghost use Rattle.mysql_bulk.specs.ValueRows.{HoldsCells, LetsGo};
@@ -26,6 +26,7 @@ impl<'a> BulkRequestWriter<'a> {
         ensures sent { OnOk result (spec.bytes_of requests.new.items ≡ spec.bytes_of requests.old.items ++ self.old.bytes ∷ []) }
         ensures lets_go { OnOk result (LetsGo self.old self.new) }
         ensures stays { OnErr result ((self.new ≡ self.old) × (spec.bytes_of requests.new.items ≡ spec.bytes_of requests.old.items)) }
+        ensures capacity { self.new.capacity ≡ self.old.capacity }
     {
         let request = Vec::from_slice(alloc, self.bytes.as_slice())?;
         requests.push(request)?;
@@ -42,6 +43,7 @@ impl<'a> BulkRequestWriter<'a> {
     ) -> Result<(), BulkRowRefusal>
         ensures ok { OnOk result (spec.Offered self.old (map cell_of row.now) (spec.bytes_of requests.old.items) self.new (spec.bytes_of requests.new.items)) }
         ensures refused { IfErr result (λ e. spec.OfferRefused self.old (map cell_of row.now) (spec.bytes_of requests.old.items) e self.new (spec.bytes_of requests.new.items)) }
+        ensures capacity { self.old.capacity ≤ self.new.capacity }
     {
         let is_taken = match self.add_row_values(row) {
             Ok(is_taken) => is_taken,
@@ -68,6 +70,7 @@ impl<'a> BulkRequestWriter<'a> {
     ) -> Result<(), BulkRowRefusal>
         requires { requests.old.items ≡ [] }
         ensures gives { (before : List (List Cell)) → HoldsCells self.old before → spec.CellsRunGives self.old before (spec.cells_of_rows rows.now) (spec.bytes_of requests.new.items) (spec.refusal_of result) self.new }
+        ensures capacity { self.old.capacity ≤ self.new.capacity }
     {
         for row in rows {
             match self.offer_values(alloc, row.as_slice(), requests) {
@@ -92,6 +95,8 @@ impl<'a> BulkRequestWriter<'a> {
     /// answer where there is no memory for a request that is due, whose rows wait.
     pub fn build_all_values(&mut self, alloc: Global, rows: &[Vec<BulkValue<'_>>]) -> BulkValuesRun
         ensures gives { (before : List (List Cell)) → HoldsCells self.old before → spec.CellsRunGives self.old before (spec.cells_of_rows rows.now) (spec.bytes_of result.requests.items) result.refusal self.new }
+        // The memory of the buffer stays, whatever is sent.
+        ensures capacity { self.old.capacity ≤ self.new.capacity }
     {
         let mut requests = Vec::new(alloc);
         let refusal = match self.send_all_values(alloc, rows, &mut requests) {

@@ -11,6 +11,7 @@ loop-left-preserved c =
     let more = c.split_at.result.1.now in
     record {
       capacity = omega arith;
+      grown = omega arith;
       written = (
         inv.0 ++ (header (length part) number ++ part),
         c.push_frame.ensures.items ∙ ap (λ (xs : List ℕ). xs ++ (header (length part) number ++ part)) inv.1 ∙ append_assoc c.args.out.now.items inv.0 (header (length part) number ++ part),

@@ -11,6 +11,7 @@ Goes number payload now left done =
 abbrev pub invariant-loop-left : goal.invariant-loop-left
 invariant-loop-left l = record {
   capacity : vec_len l.out + length l.left + 4 * (length l.left / 16777215 + 1) ≤ vec_capacity l.out;
+  grown : vec_capacity l.fn.out ≤ vec_capacity l.out;
   written : (done : List ℕ) × (l.out.items ≡ l.fn.out.items ++ done) × Goes l.fn.number l.payload l.number l.left done;
 }
 

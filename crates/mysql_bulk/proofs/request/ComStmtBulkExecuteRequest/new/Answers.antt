@@ -1,4 +1,4 @@
-use Rattle.std.proofs.Common.{◌≢◌, [], List, rules, if◌then◌else◌, ◌∙◌, ap, subst}
+use Rattle.std.proofs.Common.{◌≡◌, ◌≢◌, false, true, [], List, rules, if◌then◌else◌, ◌∙◌, ap, subst}
 use Rattle.std.specs.Global.{Vec}
 use Rattle.mysql_wire.specs.FlagMasks.{SEND_TYPES_TO_SERVER}
 use Rattle.mysql_values.specs.declared.value.Value.{Value}
@@ -14,11 +14,11 @@ use Rattle.mysql_bulk.specs.Row.{EqualLengths}
 use Rattle.mysql_bulk.specs.Request.{BulkRequest}
 use Rattle.mysql_bulk.specs.Row.{contents_of_rows}
 use Rattle.mysql_bulk.specs.Row.{OneLength}
-use Rattle.mysql_bulk.proofs.RequestNew.{all_types, some_rows, one_length}
+use Rattle.mysql_bulk.proofs.RequestNew.{all_types, some_rows, one_length, no_values}
 use Rattle.mysql_bulk.proofs.request.ComStmtBulkExecuteRequest.new.Goals as goal
 
-pub returns-in-Ok : goal.returns-in-Ok
-returns-in-Ok c =
+pub returns-in-Ok-clause-makes : goal.returns-in-Ok-clause-makes
+returns-in-Ok-clause-makes c =
     let rows = contents_of_rows c.args.rows.items in
     let E : List (Vec Value) → Type 0 = λ l. EqualLengths c.len-arity.result (contents_of_rows l) in
     let equal = subst E c.as_slice.ensures.value (c.equally_long.ensures.0 c.if-not-equally_long.false) in
@@ -34,3 +34,13 @@ returns-in-Ok c =
           ∙ ap (λ (v : List ParamValue). R (if has c.args.bulk_flags.0 SEND_TYPES_TO_SERVER then declared_types rows else []) v)
           (built_values c.new.result.items (contents_of c.in-Ok.parts.values.items) (rows_in rows) (search rules) c.in-Ok.ensures.values),
     )
+
+pub returns-in-Err-clause-no_memory : goal.returns-in-Err-clause-no_memory
+returns-in-Err-clause-no_memory c none e =
+    let rows = c.args.rows.items in
+    let E : List (Vec Value) → Type 0 = λ l. EqualLengths c.len-arity.result (contents_of_rows l) in
+    let equal = subst E c.as_slice.ensures.value (c.equally_long.ensures.0 c.if-not-equally_long.false) in
+    let any : rows ≢ [] = search rules in
+    let is : c.len-arity.result ≡ 0 = no_values c.len-arity.result (contents_of_rows rows) (some_rows rows any) equal none in
+    let none_refused : false ≡ true = c.in-Err.ensures.no_memory is in
+    cc

@@ -3,6 +3,7 @@ use Rattle.mysql_frames.specs.Frames.{most, header}
 use Rattle.mysql_frames.specs.FrameHeader.{length_in}
 use Rattle.mysql_frames.specs.Unfinished.{number_of}
 use Rattle.mysql_frames.proofs.Held.{out_of_order, longer}
+use Rattle.mysql_frames.proofs.Shown.{shown_order, shown_long}
 use Rattle.mysql_frames.proofs.unfinished.Unfinished.length.Goals as goal
 use Rattle.mysql_frames.proofs.unfinished.Unfinished.length.Goals.{then-self-start-via-then-self-start, then-self-start-via-else-self-start+then-self-start-2}
 
@@ -27,3 +28,21 @@ returns-clause-ok c =
     let four : length head ≡ 4 = ap length c.as_slice-head.ensures.value ∙ c.requires.whole in
     let is : head ≡ header c.length_in-len.result (number_of r.full r.first) = c.length_in-len.ensures.header four ∙ ap (header c.length_in-len.result) (c.if-head-number.false ∙ c.number.ensures) in
     record { head = sym c.as_slice-head.ensures.value ∙ is; below = omega arith; no_longer = omega arith }
+
+pub returns-then-head-number-clause-shown_order : goal.returns-then-head-number-clause-shown_order
+returns-then-head-number-clause-shown_order c =
+    let r = c.args.self.now in
+    let head = c.as_slice-head.result.now in
+    let four : length head ≡ 4 = ap length c.as_slice-head.ensures.value ∙ c.requires.whole in
+    let is : r.head.items ≡ header c.length_in-len.result (get_or head 3 0) = sym c.as_slice-head.ensures.value ∙ c.length_in-len.ensures.header four in
+    λ _. shown_order r.full r.first r.limit c.length_in-len.result (get_or head 3 0) r.head.items r.payload.items c.requires.reading.first c.requires.reading.start c.requires.reading.bounded is
+    (λ e. c.if-head-number.true (e ∙ sym c.number.ensures))
+
+pub returns-then-self-start-clause-shown_long : goal.returns-then-self-start-clause-shown_long
+returns-then-self-start-clause-shown_long c =
+    let r = c.args.self.now in
+    let head = c.as_slice-head.result.now in
+    let four : length head ≡ 4 = ap length c.as_slice-head.ensures.value ∙ c.requires.whole in
+    let is : head ≡ header c.length_in-len.result (number_of r.full r.first) = c.length_in-len.ensures.header four ∙ ap (header c.length_in-len.result) (c.if-head-number.false ∙ c.number.ensures) in
+    let past : r.limit < r.full * most + c.length_in-len.result = elim c.then-self-start.branch [ then-self-start-via-then-self-start w ↦ omega arith | then-self-start-via-else-self-start+then-self-start-2 w ↦ omega arith ] in
+    λ _. shown_long r.full r.first r.limit c.length_in-len.result r.head.items r.payload.items c.requires.reading.first c.requires.reading.start c.requires.reading.bounded (sym c.as_slice-head.ensures.value ∙ is) past

@@ -1,6 +1,6 @@
 use Rattle.std.proofs.lemmas.Result.{err_from_is_err_and}
-use Rattle.mysql_frames.specs.declared.error.FrameError.TheVariants.{OutOfOrder, TooLong}
-use Rattle.std.proofs.Common.{◌≡◌, ◌≤◌, ◌<◌, ℕ, List, ◌++◌, length, ap, subst, sym, ◌∙◌, append_assoc, Err}
+use Rattle.mysql_frames.specs.declared.error.FrameError.TheVariants.{Memory, OutOfOrder, TooLong}
+use Rattle.std.proofs.Common.{◌≡◌, ◌≤◌, ◌<◌, ℕ, List, ◌++◌, length, ap, subst, sym, ◌∙◌, append_assoc, arith, Err}
 use Rattle.mysql_frames.specs.Frames.{most, FramedIn}
 use Rattle.mysql_frames.specs.Unfinished.{held}
 use Rattle.mysql_frames.proofs.unfinished.Unfinished.read_on.Goals as goal
@@ -44,3 +44,29 @@ returns-in-Some-2-clause-payload c =
       none_held = c.finish.ensures.held;
       limit = c.finish.ensures.limit ∙ limit;
     }
+
+pub returns-in_err-frame-clause-shown_order : goal.returns-in_err-frame-clause-shown_order
+returns-in_err-frame-clause-shown_order c e =
+    let p = err_from_is_err_and c.from_residual.result c.from_residual.ensures.1 in
+    let same : c.in_err-frame.field-0.0 ≡ OutOfOrder = cc in
+    c.in_err-frame.ensures.shown_order (ap Err same)
+
+pub returns-in_err-frame-clause-shown_long : goal.returns-in_err-frame-clause-shown_long
+returns-in_err-frame-clause-shown_long c e =
+    let p = err_from_is_err_and c.from_residual.result c.from_residual.ensures.1 in
+    let same : c.in_err-frame.field-0.0 ≡ TooLong = cc in
+    c.in_err-frame.ensures.shown_long (ap Err same)
+
+pub returns-in_err-frame-clause-lacks_part : goal.returns-in_err-frame-clause-lacks_part
+returns-in_err-frame-clause-lacks_part c e =
+    let p = err_from_is_err_and c.from_residual.result c.from_residual.ensures.1 in
+    let same : c.in_err-frame.field-0.0 ≡ Memory = cc in
+    c.in_err-frame.ensures.lacks_part (ap Err same)
+
+pub returns-in_err-frame-clause-lacks_capacity : goal.returns-in_err-frame-clause-lacks_capacity
+returns-in_err-frame-clause-lacks_capacity c e =
+    let p = err_from_is_err_and c.from_residual.result c.from_residual.ensures.1 in
+    let same : c.in_err-frame.field-0.0 ≡ Memory = cc in
+    let lacks = c.in_err-frame.ensures.lacks_capacity (ap Err same) in
+    let grown = c.frames.invariant.capacity in
+    (lacks.0, record { frame = omega (arith, lacks.1.frame, grown); comes = omega (arith, lacks.1.comes, grown) })
