@@ -193,12 +193,9 @@ in-place f count len bytes items place h is same =
     (drop len bytes, ap (λ (n : ℕ). (counted n f).reads (place ++ drop len bytes)) many ∙ ap (counted count f).reads whole ∙ h.1 ∙ ap (λ (l : List _). Ok (l, drop len bytes)) same)
 
 -- none stand anywhere
-pub none-stand : {A : Type 0} (f : Form A) (count len : ℕ) (bytes : List ℕ) (items : List A) (place : List ℕ) (g : Form A) → count ≡ 0 → AreThere f count len bytes → items_in f count bytes ≡ items → place ≡ []
-    → StandIn g (length items) place items
+pub none-stand : {A : Type 0} (f : Form A) (items : List A) (place : List ℕ) → items ≡ [] → place ≡ [] → StandIn f (length items) place items
 unfolding counted
-none-stand f count len bytes items place g none h same empty =
-    let no : items ≡ [] = sym same ∙ no-item f count bytes none in
-    rw (no, empty) ([], refl)
+none-stand f items place none empty = rw (none, empty) ([], refl)
 
 -- where some are left there is one
 pub some-left : {A : Type 0} (f : Form A) (count len : ℕ) (bytes : List ℕ) → (count ≡ 0 → ⊥) → AreThere f count len bytes → items_in f count bytes ≡ [] → ⊥
