@@ -8,8 +8,10 @@ mod Scanner
 mod Once
 mod Merging
 mod Options
+pub mod ReadParts
 pub mod NameRead
 mod LastPart
+mod EachKeyOnce
 mod ResponseRead
 mod ChangeRead
 pub mod PairsRead
@@ -18,6 +20,5 @@ pub mod PairsWritten
 pub mod ResponseEnds
 mod WholePackets
 mod ValuesFit
-mod ReadParts
 mod ReadPackets
 pub mod EqualPackets

@@ -2,6 +2,7 @@
 use Rattle.std.proofs.Common.{◌≡◌, ℕ, zero, suc, List, [], ◌∷◌, ◌++◌, Ok, true, false, refl}
 use Rattle.mysql_wire.specs.Null.{HasNoZero, null_Spells, null_string}
 use Rattle.mysql_auth.specs.PluginName.{has_zero, name_to_zero_or_end}
+use Rattle.mysql_auth.proofs.ReadParts.{name-told}
 
 zero-after : (content rest : List ℕ) → has_zero (content ++ 0 ∷ rest) ≡ true
 zero-after [] rest = refl
@@ -28,4 +29,11 @@ pub null-read : (content bytes rest : List ℕ) → null_Spells content bytes re
 unfolding null_string
 null-read content bytes rest s = null_string.only content bytes rest s
 
-pub ruleset names_read = (read-to-zero, read-to-end, null-read)
+pub no_zero-read : (content bytes rest : List ℕ) → null_string.reads bytes ≡ Ok (content, rest) → HasNoZero content
+unfolding null_string
+no_zero-read content bytes rest e = (null_string.found content bytes rest e).0
+
+pub no_zero-spelled : (content bytes rest : List ℕ) → null_Spells content bytes rest → HasNoZero content
+no_zero-spelled content bytes rest s = s.0
+
+pub ruleset names_read = (read-to-zero, read-to-end, null-read, no_zero-read, no_zero-spelled, name-told)

@@ -1,9 +1,6 @@
 -- Pairs are read one after another, and are those that all of the bytes spell.
-use Rattle.std.proofs.Common.{◌≡◌, ◌≢◌, ℕ, List, [], ◌∷◌, ◌++◌, length, Option, None, Result, Ok, Err, Bool, true, false, if◌then◌else◌, refl, sym, ◌∙◌}
-use Rattle.std.specs.Cmp.Lexicographic.{pointwise}
-use Rattle.std.specs.Prelude.{nat_eq}
+use Rattle.std.proofs.Common.{◌≡◌, ◌≢◌, ℕ, List, [], ◌∷◌, ◌++◌, length, Option, None, Result, Ok, Err, false, refl, sym, ◌∙◌}
 use Rattle.std.specs.Result.{result_ok}
-use Rattle.indexmap.specs.IndexMap.{insert_entry, insert_all}
 use Rattle.mysql_wire.proofs.AllRead as all_read
 use Rattle.mysql_wire.proofs.Counted.{with_front}
 use Rattle.mysql_wire.proofs.ReadAll.{one-more, no-more, one-fails}
@@ -44,14 +41,11 @@ whole before total e = rw e refl
 pub passed-all : (rest bytes : List ℕ) → rest ≡ [] → Passed rest bytes → ArePairs bytes
 passed-all rest bytes none so_far = whole so_far.before _ (no-more f so_far.before rest _ so_far.same none)
 
-faults-all : (bytes : List ℕ) (k : FaultKind) → (many f).reads bytes ≡ Err k → pairs.reads bytes ≡ Err k
-faults-all bytes k e = rw e refl
-
-pub passed-fault : (e : FaultOf) (rest bytes : List ℕ) → rest ≢ [] → Faults false e (f.reads rest) → Passed rest bytes → Faults false e (pairs.reads bytes)
+pub passed-fault : (e : FaultOf) (rest bytes : List ℕ) → rest ≢ [] → Faults false e (f.reads rest) → Passed rest bytes → Faults false e ((many f).reads bytes)
 passed-fault fault.Memory rest bytes some h so_far = absurd cc
-passed-fault fault.UnexpectedEof rest bytes some h so_far = faults-all bytes _ (one-fails f so_far.before rest _ so_far.same false fault.UnexpectedEof some h)
-passed-fault (fault.InvalidData text) rest bytes some h so_far = faults-all bytes _ (one-fails f so_far.before rest _ so_far.same false (fault.InvalidData text) some h)
-passed-fault (fault.InvalidInput text) rest bytes some h so_far = faults-all bytes _ (one-fails f so_far.before rest _ so_far.same false (fault.InvalidInput text) some h)
+passed-fault fault.UnexpectedEof rest bytes some h so_far = one-fails f so_far.before rest _ so_far.same false fault.UnexpectedEof some h
+passed-fault (fault.InvalidData text) rest bytes some h so_far = one-fails f so_far.before rest _ so_far.same false (fault.InvalidData text) some h
+passed-fault (fault.InvalidInput text) rest bytes some h so_far = one-fails f so_far.before rest _ so_far.same false (fault.InvalidInput text) some h
 
 -- ---- the first one and the others
 
@@ -81,23 +75,6 @@ merged-read bytes w = merged-of ((many f).reads bytes) (pairs_in bytes) w
 pub merged-found : (bytes : List ℕ) (found : List Attribute) → ArePairs bytes → pairs.reads bytes ≡ Ok (found, []) → found ≡ merged (pairs_in bytes)
 merged-found bytes found w e = done-value found (merged (pairs_in bytes)) [] [] (sym e ∙ merged-read bytes w)
 
--- where some pair is there, it is so in a map too
-entry-some : (b : Bool) (p q : Attribute) (es fs : List Attribute) → (if b then p ∷ es else q ∷ fs) ≡ [] → ⊥
-entry-some true p q es fs h = cc
-entry-some false p q es fs h = cc
-
-inserted-some : (es : List Attribute) (k v : List ℕ) → insert_entry (pointwise nat_eq) es k v ≡ [] → ⊥
-inserted-some [] k v h = cc
-inserted-some (e ∷ es) k v h = entry-some (pointwise nat_eq k e.0) (e.0, v) e es (insert_entry (pointwise nat_eq) es k v) h
-
-all-some : (es ps : List Attribute) → (es ≡ [] → ⊥) → insert_all (pointwise nat_eq) es ps ≡ [] → ⊥
-all-some es [] some h = some h
-all-some es (p ∷ ps) some h = all-some (insert_entry (pointwise nat_eq) es p.0 p.1) ps (inserted-some es p.0 p.1) h
-
-none-merged : (ps : List Attribute) → merged ps ≡ [] → ps ≡ []
-none-merged [] h = refl
-none-merged (p ∷ ps) h = absurd (all-some (insert_entry (pointwise nat_eq) [] p.0 p.1) ps (inserted-some [] p.0 p.1) h)
-
 -- bytes that spell no pair are none
 no-pairs-by : (bytes : List ℕ) (read : Reading Attribute) → f.reads bytes ≡ read → bytes ≢ [] → ArePairs bytes → pairs_in bytes ≡ [] → ⊥
 no-pairs-by bytes (Ok x) e some w none =
@@ -117,8 +94,8 @@ none-refused_again bytes fault.UnexpectedEof w none h = read-once bytes _ w h
 none-refused_again bytes (fault.InvalidData text) w none h = read-once bytes _ w h
 none-refused_again bytes (fault.InvalidInput text) w none h = read-once bytes _ w h
 
-pub no-pairs : (pairs_left : List Attribute) (bytes : List ℕ) (e : FaultOf) → pairs_in bytes ≡ pairs_left → ArePairs bytes → merged pairs_left ≡ []
+pub no-pairs : (pairs_left : List Attribute) (bytes : List ℕ) (e : FaultOf) → pairs_in bytes ≡ pairs_left → ArePairs bytes → pairs_left ≡ []
     → Faults (is_any (pairs_room (length bytes))) e (pairs.reads bytes) → ⊥
-no-pairs pairs_left bytes e same w none h = none-refused_again bytes e w (same ∙ none-merged pairs_left none) h
+no-pairs pairs_left bytes e same w none h = none-refused_again bytes e w (same ∙ none) h
 
 pub ruleset pairs_merged = (merged-read, merged-found)

@@ -1,10 +1,11 @@
 -- A content that is written after its length.
-use Rattle.std.proofs.Common.{◌≡◌, ℕ, ◌+◌, ◌-◌, ◌<◌, ◌≤◌, ◌^◌, List, ◌++◌, length, min, refl, inl, inr, arith}
+use Rattle.std.proofs.Common.{◌≡◌, ℕ, ◌+◌, ◌-◌, ◌<◌, ◌≤◌, ◌^◌, List, [], ◌++◌, length, min, replicate, refl, inl, inr, arith}
 use Rattle.std.proofs.lemmas.Bool.{cases_lt}
 use Rattle.std.proofs.lemmas.List.{length-append}
 use Rattle.mysql_wire.specs.LenEnc.{lenenc_bytes, lenenc_string_bytes}
 use Rattle.mysql_wire.specs.CodecAgain.{some-lenenc}
 use Rattle.mysql_wire.specs.Writing.{saturated}
+use Rattle.mysql_auth.specs.Attributes.{pairs_bytes}
 
 pub string-length : (content : List ℕ) → length (lenenc_string_bytes content) ≡ length (lenenc_bytes (length content)) + length content
 unfolding lenenc_string_bytes
@@ -30,4 +31,11 @@ counted-length content =
           rw (cut, length-append (lenenc_bytes (length content)) content) (omega (arith, long))
     ]
 
+-- an empty list is the byte 0
+pub empty-list : lenenc_string_bytes (pairs_bytes []) ≡ replicate 1 0
+unfolding lenenc_string_bytes lenenc_bytes
+empty-list = refl
+
 pub ruleset counted_lengths = (counted-length)
+
+pub ruleset empty_lists = (empty-list)

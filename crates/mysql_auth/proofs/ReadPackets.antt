@@ -8,7 +8,7 @@ use Rattle.mysql_wire.specs.Form.{when}
 use Rattle.mysql_wire.specs.Null.{HasNoZero, null_string}
 use Rattle.mysql_auth.specs.Attributes.{Attribute, AreShort, AreShortIn, attributes}
 use Rattle.mysql_auth.specs.ComChangeUser as change
-use Rattle.mysql_auth.specs.ComChangeUser.{change_user, last_part, more_data, named_plugin, sent_attributes as change_attributes, NamedFits, MoreDataPartsFit, MoreIsShort, MorePartsFit, ChangeUserIsShort, ChangeUserPartsFit}
+use Rattle.mysql_auth.specs.ComChangeUser.{change_user, last_part, more_data, named_plugin, sent_attributes as change_attributes, GivenFits, NamedFits, MoreDataPartsFit, MoreIsShort, MoreFits, ChangeUserIsShort, ChangeUserPartsFit, SessionMoreDataPartsFit, SessionChangeUserPartsFit}
 use Rattle.mysql_auth.specs.Handshake.{handshake, handshake_head, handshake_block, server_version}
 use Rattle.mysql_auth.specs.HandshakeResponse.{handshake_response, scramble, database, plugin, sent_attributes, counts_by_lenenc, counts_by_byte, sends_database, sends_plugin, sends_attributes, sends_zstd_level, sent_zstd_level, level_codec, LevelFits, LevelIsByte, PartFits, ScrambleFits, ScrambleIsShort, ResponseIsShort, ResponsePartsFit}
 use Rattle.mysql_auth.specs.PluginName.{PluginFits, plugin_null, plugin_null_or_eof}
@@ -89,7 +89,7 @@ named-fits true o bytes rest s = subst (λ (q : Option AuthPlugin). NamedFits tr
 named-fits false o bytes rest s = subst (λ (q : Option AuthPlugin). NamedFits false q) (sym s.0) refl
 
 pub more_data-parts : (c : CapabilityFlags) (p : ComChangeUserMoreData) (bytes rest : List ℕ) → (more_data.form c).Spells p bytes rest
-    → AreShortIn (change.connect_attributes p) → MoreDataPartsFit c p
+    → AreShortIn (change.connect_attributes p) → SessionMoreDataPartsFit c p
 unfolding more_data named_plugin change_attributes
 more_data-parts c p bytes rest s h =
     let named = s.3 in
@@ -104,12 +104,12 @@ more_data-parts c p bytes rest s h =
     }
 
 more-parts : (c : CapabilityFlags) (there : Bool) (o : Option ComChangeUserMoreData) (bytes rest more : List ℕ) → (when there (more_data.form c)).Spells o bytes rest
-    → MoreIsShort o more → MorePartsFit c o more
+    → MoreIsShort o more → MoreFits (SessionMoreDataPartsFit c) o more
 more-parts c true o bytes rest more s =
-    subst (λ (q : Option ComChangeUserMoreData). MoreIsShort q more → MorePartsFit c q more) s.1 (λ short. more_data-parts c s.0 bytes rest s.2 short)
-more-parts c false o bytes rest more s = subst (λ (q : Option ComChangeUserMoreData). MoreIsShort q more → MorePartsFit c q more) (sym s.0) (λ none. none)
+    subst (λ (q : Option ComChangeUserMoreData). MoreIsShort q more → MoreFits (SessionMoreDataPartsFit c) q more) s.1 (λ short. more_data-parts c s.0 bytes rest s.2 short)
+more-parts c false o bytes rest more s = subst (λ (q : Option ComChangeUserMoreData). MoreIsShort q more → MoreFits (SessionMoreDataPartsFit c) q more) (sym s.0) (λ none. none)
 
-pub change-parts : (c : CapabilityFlags) (p : ComChangeUser) (bytes rest more : List ℕ) → (change_user.form c).Spells p bytes rest → ChangeUserIsShort p more → ChangeUserPartsFit c p more
+pub change-parts : (c : CapabilityFlags) (p : ComChangeUser) (bytes rest more : List ℕ) → (change_user.form c).Spells p bytes rest → ChangeUserIsShort p more → SessionChangeUserPartsFit c p more
 unfolding change_user last_part
 change-parts c p bytes rest more s =
     let user = s.3 in
@@ -117,13 +117,44 @@ change-parts c p bytes rest more s =
     let base = answer.3 in
     let given = base.3 in
     let made : ComChangeUser = record { header = s.0; user = user.0; auth_plugin_data = answer.0; database = base.0; more_data = given.0 } in
-    let parts : ChangeUserIsShort made more → ChangeUserPartsFit c made more = λ short. record {
+    let parts : ChangeUserIsShort made more → SessionChangeUserPartsFit c made more = λ short. record {
       user = null-no_zero user.0 s.1 user.1 user.2;
       auth_plugin_data = short.auth_plugin_data;
       database = null-no_zero base.0 answer.1 base.1 base.2;
       more_data = more-parts c _ given.0 base.1 given.1 more given.2 short.more_data;
     } in
     let whole : p ≡ made = given.3.0 in
-    subst (λ (q : ComChangeUser). ChangeUserIsShort q more → ChangeUserPartsFit c q more) (sym whole) parts
+    subst (λ (q : ComChangeUser). ChangeUserIsShort q more → SessionChangeUserPartsFit c q more) (sym whole) parts
 
-pub ruleset read_packets = (version-no_zero, response-parts, more_data-parts, change-parts)
+-- ---- where attributes are sent, they are there
+
+given-there : (sent : Bool) (given : Option (List Attribute)) → sent ≡ true → PartFits AreShort sent given → GivenFits AreShort sent given
+given-there sent None is_sent h = let none : ◌≡◌ {A = Bool} true false = sym is_sent ∙ h in absurd cc
+given-there sent (Some pairs) is_sent h = h
+
+data-there : (c : CapabilityFlags) (p : ComChangeUserMoreData) → change.sends_attributes c ≡ true → SessionMoreDataPartsFit c p → MoreDataPartsFit c p
+data-there c p is_sent h = record {
+  auth_plugin = h.auth_plugin;
+  connect_attributes = given-there (change.sends_attributes c) (change.connect_attributes p) is_sent h.connect_attributes;
+}
+
+more-there : (c : CapabilityFlags) (more : Option ComChangeUserMoreData) (rest : List ℕ) → change.sends_attributes c ≡ true → MoreFits (SessionMoreDataPartsFit c) more rest → MoreFits (MoreDataPartsFit c) more rest
+more-there c None rest is_sent h = h
+more-there c (Some p) rest is_sent h = data-there c p is_sent h
+
+pub more_data-parts_there : (c : CapabilityFlags) (p : ComChangeUserMoreData) (bytes rest : List ℕ) → (more_data.form c).Spells p bytes rest
+    → AreShortIn (change.connect_attributes p) → change.sends_attributes c ≡ true → MoreDataPartsFit c p
+more_data-parts_there c p bytes rest s h is_sent = data-there c p is_sent (more_data-parts c p bytes rest s h)
+
+pub change-parts_there : (c : CapabilityFlags) (p : ComChangeUser) (bytes rest more : List ℕ) → (change_user.form c).Spells p bytes rest → ChangeUserIsShort p more
+    → change.sends_attributes c ≡ true → ChangeUserPartsFit c p more
+change-parts_there c p bytes rest more s h is_sent =
+    let parts = change-parts c p bytes rest more s h in
+    record {
+      user = parts.user;
+      auth_plugin_data = parts.auth_plugin_data;
+      database = parts.database;
+      more_data = more-there c (change.more_data_in p) more is_sent parts.more_data;
+    }
+
+pub ruleset read_packets = (version-no_zero, response-parts, more_data-parts, change-parts, more_data-parts_there, change-parts_there)

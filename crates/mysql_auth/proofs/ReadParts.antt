@@ -1,5 +1,5 @@
 -- The parts of what was read: texts up to a zero have none, and a plugin is that of its name.
-use Rattle.std.proofs.Common.{◌≡◌, ℕ, zero, suc, ◌-◌, ◌<◌, ◌==◌, ◌&&◌, nat_lt, nat_eq, List, [], ◌∷◌, length, get_or, codes, Option, Bool, true, false, if◌then◌else◌, refl, sym, subst, ap, ◌∙◌, arith}
+use Rattle.std.proofs.Common.{◌≡◌, ℕ, zero, suc, ◌-◌, ◌<◌, ◌==◌, nat_lt, nat_eq, List, [], ◌∷◌, length, get_or, codes, Option, Bool, true, false, if◌then◌else◌, refl, sym, subst, ap, ◌∙◌, arith}
 use Rattle.std.proofs.lemmas.Bool.{ne_eqb, and_right}
 use Rattle.std.specs.Cmp.Lexicographic.{pointwise}
 use Rattle.mysql_wire.proofs.Same.{bytes-same}
@@ -55,10 +55,14 @@ name-kept name =
     (step name (codes "mysql_native_password") _ _ refl (step name (codes "mysql_old_password") _ _ refl
     (step name (codes "mysql_clear_password") _ _ refl (step name (codes "client_ed25519") _ _ refl (step name (codes "parsec") _ _ refl refl)))))
 
+-- a name without a zero is that of its plugin
+pub name-told : (content : List ℕ) → HasNoZero content → plugin_name (plugin_of content) ≡ content
+name-told content h = ap (λ (x : List ℕ). plugin_name (plugin_named x)) (stays content h) ∙ name-kept content
+
 -- a plugin of a name without a zero
 plugin-fits : (content : List ℕ) (p : AuthPlugin) → HasNoZero content → plugin_of content ≡ p → PluginFits p
 plugin-fits content p h e =
-    let name : plugin_name p ≡ content = ap plugin_name (sym e) ∙ ap (λ (x : List ℕ). plugin_name (plugin_named x)) (stays content h) ∙ name-kept content in
+    let name : plugin_name p ≡ content = ap plugin_name (sym e) ∙ name-told content h in
     record { no_zero = subst HasNoZero (sym name) h; named = ap plugin_of name ∙ e }
 
 pub to-zero-fits : (p : AuthPlugin) (bytes rest : List ℕ) → (plugin_null.form tt).Spells p bytes rest → PluginFits p

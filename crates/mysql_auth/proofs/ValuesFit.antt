@@ -3,7 +3,7 @@ use Rattle.std.proofs.Common.{◌≡◌, ℕ, ◌<◌, ◌^◌, List, ◌++◌, 
 use Rattle.mysql_wire.specs.Flags.{CapabilityFlags}
 use Rattle.mysql_auth.specs.Attributes.{Attribute, AreShort, AttributesFit, merged}
 use Rattle.mysql_auth.specs.ComChangeUser as change
-use Rattle.mysql_auth.specs.ComChangeUser.{change_user, more_data, MoreDataPartsFit, MoreDataFits, MorePartsFit, MoreFits, ChangeUserPartsFit, ChangeUserFits}
+use Rattle.mysql_auth.specs.ComChangeUser.{change_user, more_data, session_change_user, session_more_data, ChangeFits, GivenFits, MoreFieldsFit, MoreFits, MoreDataPartsFit, ChangeUserPartsFit, SessionMoreDataPartsFit, SessionChangeUserPartsFit}
 use Rattle.mysql_auth.specs.Handshake as greeting
 use Rattle.mysql_auth.specs.Handshake.{handshake, HalvesFit, HandshakePartsFit}
 use Rattle.mysql_auth.specs.HandshakeResponse as response
@@ -13,7 +13,7 @@ use Rattle.mysql_auth.specs.declared.com_change_user.ComChangeUser.{ComChangeUse
 use Rattle.mysql_auth.specs.declared.com_change_user_more_data.ComChangeUserMoreData.{ComChangeUserMoreData}
 use Rattle.mysql_auth.specs.declared.handshake.HandshakePacket.{HandshakePacket}
 use Rattle.mysql_auth.specs.declared.handshake_response.HandshakeResponse.{HandshakeResponse}
-use Rattle.mysql_auth.proofs.ChangeUserFits.{more_data-fits, change-fits}
+use Rattle.mysql_auth.proofs.ChangeUserFits.{more_data-fits, change-fits, session_data-again, session_change-again}
 use Rattle.mysql_auth.proofs.HandshakeFits.{handshake-fits}
 use Rattle.mysql_auth.proofs.HandshakeResponseFits.{response-fits}
 
@@ -65,32 +65,58 @@ response-spelled p rest widths once h =
 
 -- ---- the change of user
 
-more_data-fit : (c : CapabilityFlags) (p : ComChangeUserMoreData) → change.character_set p < 2 ^ 16 → Once (change.connect_attributes p) → MoreDataPartsFit c p → MoreDataFits c p
-more_data-fit c p width once h = record {
-  character_set = width;
-  auth_plugin = h.auth_plugin;
-  connect_attributes = given-fit (change.sends_attributes c) (change.connect_attributes p) once h.connect_attributes;
-}
+given-full : (sent : Bool) (given : Option (List Attribute)) → Once given → GivenFits AreShort sent given → GivenFits AttributesFit sent given
+given-full sent None once h = h
+given-full sent (Some pairs) once h = (h.0, record { once = once pairs refl; short = h.1 })
+
+-- the characters' set has two bytes, and each key stands once
+record IsWhole (p : ComChangeUserMoreData) : Type 0 where
+  width : change.character_set p < 2 ^ 16
+  once : Once (change.connect_attributes p)
+
+abbrev Given : Type 1
+Given = (List Attribute → Type 0) → Bool → Option (List Attribute) → Type 0
+
+-- where the attributes fit, the fields do
+module _ (G : Given) (fit : (sent : Bool) (given : Option (List Attribute)) → Once given → G AreShort sent given → G AttributesFit sent given) (c : CapabilityFlags) where
+  abbrev Parts : ComChangeUserMoreData → Type 0
+  Parts = MoreFieldsFit G AreShort c
+
+  abbrev Fits : ComChangeUserMoreData → Type 0
+  Fits p = (change.character_set p < 2 ^ 16) × MoreFieldsFit G AttributesFit c p
+
+  data-fit : (p : ComChangeUserMoreData) → IsWhole p → Parts p → Fits p
+  data-fit p whole h = (whole.width, record { auth_plugin = h.auth_plugin; connect_attributes = fit (change.sends_attributes c) (change.connect_attributes p) whole.once h.connect_attributes })
+
+  more-fit : (more : Option ComChangeUserMoreData) (rest : List ℕ) → ((given : ComChangeUserMoreData) → more ≡ Some given → IsWhole given) → MoreFits Parts more rest → MoreFits Fits more rest
+  more-fit None rest whole h = h
+  more-fit (Some given) rest whole h = data-fit given (whole given refl) h
+
+  change-fit : (p : ComChangeUser) (rest : List ℕ) → ((given : ComChangeUserMoreData) → change.more_data_in p ≡ Some given → IsWhole given) → ChangeFits Parts p rest → ChangeFits Fits p rest
+  change-fit p rest whole h = record {
+    user = h.user;
+    auth_plugin_data = h.auth_plugin_data;
+    database = h.database;
+    more_data = more-fit (change.more_data_in p) rest whole h.more_data;
+  }
 
 pub more_data-spelled : (c : CapabilityFlags) (p : ComChangeUserMoreData) (rest : List ℕ) → change.character_set p < 2 ^ 16 → Once (change.connect_attributes p) → MoreDataPartsFit c p
     → (more_data.form c).Spells p (more_data.bytes p ++ rest) rest
-more_data-spelled c p rest width once h = more_data.again c p rest (more_data-fits c p rest (more_data-fit c p width once h))
+more_data-spelled c p rest width once h = more_data.again c p rest (more_data-fits c p rest (data-fit GivenFits given-full c p (record { width = width; once = once }) h))
 
-more-fit : (c : CapabilityFlags) (more : Option ComChangeUserMoreData) (rest : List ℕ) → ((given : ComChangeUserMoreData) → more ≡ Some given → change.character_set given < 2 ^ 16)
-    → ((given : ComChangeUserMoreData) (pairs : List Attribute) → more ≡ Some given → change.connect_attributes given ≡ Some pairs → merged pairs ≡ pairs)
-    → MorePartsFit c more rest → MoreFits c more rest
-more-fit c None rest width once h = h
-more-fit c (Some given) rest width once h = more_data-fit c given (width given refl) (λ pairs e. once given pairs refl e) h
+pub session_data-spelled : (c : CapabilityFlags) (p : ComChangeUserMoreData) (rest : List ℕ) → change.character_set p < 2 ^ 16 → Once (change.connect_attributes p) → SessionMoreDataPartsFit c p
+    → (more_data.form c).Spells p ((session_more_data c).bytes p ++ rest) rest
+session_data-spelled c p rest width once h = session_data-again c p rest (data-fit PartFits given-fit c p (record { width = width; once = once }) h)
 
-pub change-spelled : (c : CapabilityFlags) (p : ComChangeUser) (rest : List ℕ) → ((given : ComChangeUserMoreData) → change.more_data_in p ≡ Some given → change.character_set given < 2 ^ 16)
-    → ((given : ComChangeUserMoreData) (pairs : List Attribute) → change.more_data_in p ≡ Some given → change.connect_attributes given ≡ Some pairs → merged pairs ≡ pairs)
-    → ChangeUserPartsFit c p rest → (change_user.form c).Spells p (change_user.bytes p ++ rest) rest
-change-spelled c p rest width once h =
-    change_user.again c p rest (change-fits c p rest (record {
-      user = h.user;
-      auth_plugin_data = h.auth_plugin_data;
-      database = h.database;
-      more_data = more-fit c (change.more_data_in p) rest width once h.more_data;
-    }))
+module _ (c : CapabilityFlags) (p : ComChangeUser) (rest : List ℕ) (width : (given : ComChangeUserMoreData) → change.more_data_in p ≡ Some given → change.character_set given < 2 ^ 16)
+    (once : (given : ComChangeUserMoreData) (pairs : List Attribute) → change.more_data_in p ≡ Some given → change.connect_attributes given ≡ Some pairs → merged pairs ≡ pairs) where
+  whole : (given : ComChangeUserMoreData) → change.more_data_in p ≡ Some given → IsWhole given
+  whole given e = record { width = width given e; once = λ pairs there. once given pairs e there }
 
-pub ruleset values_fit = (handshake-spelled, response-spelled, more_data-spelled, change-spelled)
+  pub change-spelled : ChangeUserPartsFit c p rest → (change_user.form c).Spells p (change_user.bytes p ++ rest) rest
+  change-spelled h = change_user.again c p rest (change-fits c p rest (change-fit GivenFits given-full c p rest whole h))
+
+  pub session_change-spelled : SessionChangeUserPartsFit c p rest → (change_user.form c).Spells p ((session_change_user c).bytes p ++ rest) rest
+  session_change-spelled h = session_change-again c p rest (change-fit PartFits given-fit c p rest whole h)
+
+pub ruleset values_fit = (handshake-spelled, response-spelled, more_data-spelled, session_data-spelled, change-spelled, session_change-spelled)

@@ -104,12 +104,17 @@ each-short (p ∷ attributes) short =
       each-short attributes (omega (arith, short, pair, all)),
     )
 
+inside-again : (attributes : List Attribute) → AreShort attributes → (many (attribute.form tt)).Spells attributes (pairs_bytes attributes) []
+inside-again attributes short = rw append-nil at (many-again attribute some-attribute tt attributes [] (refl, each-short attributes short))
+
 pub attributes-again : (attributes : List Attribute) (rest : List ℕ) → AttributesFit attributes
     → (form.within lenenc_string pairs).Spells attributes (lenenc_string_bytes (pairs_bytes attributes) ++ rest) rest
 attributes-again attributes rest h =
-    let inside : (many (attribute.form tt)).Spells attributes (pairs_bytes attributes) [] =
-    rw append-nil at (many-again attribute some-attribute tt attributes [] (refl, each-short attributes h.short)) in
-    (pairs_bytes attributes, lenenc_string-again (pairs_bytes attributes) h.short rest, (attributes, h.once, inside))
+    (pairs_bytes attributes, lenenc_string-again (pairs_bytes attributes) h.short rest, (attributes, h.once, inside-again attributes h.short))
+
+pub as_sent-again : (attributes : List Attribute) (rest : List ℕ) → AreShort attributes
+    → (form.within lenenc_string (many (attribute.form tt))).Spells attributes (lenenc_string_bytes (pairs_bytes attributes) ++ rest) rest
+as_sent-again attributes rest short = (pairs_bytes attributes, lenenc_string-again (pairs_bytes attributes) short rest, inside-again attributes short)
 
 -- the length of all pairs, length-encoded, and the pairs in that many bytes
 unfoldable pub attributes : Codec (Unit {0}) (List Attribute)
@@ -120,6 +125,17 @@ attributes = record {
   fits = λ c attributes rest. AttributesFit attributes;
   exact = λ c attributes rest h. refl;
   again = λ c attributes rest h. attributes-again attributes rest h;
+}
+
+-- the same, each pair as it was sent: a key may come again
+unfoldable pub attributes_as_sent : Codec (Unit {0}) (List Attribute)
+attributes_as_sent = record {
+  form = λ c. form.within lenenc_string (many (attribute.form tt));
+  bytes = λ attributes. lenenc_string_bytes (pairs_bytes attributes);
+  len = λ attributes. length (lenenc_string_bytes (pairs_bytes attributes));
+  fits = λ c attributes rest. AreShort attributes;
+  exact = λ c attributes rest h. refl;
+  again = λ c attributes rest h. as_sent-again attributes rest h;
 }
 
 pub size-attributes : (attributes.form tt).size ≡ None

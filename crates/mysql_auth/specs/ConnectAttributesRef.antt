@@ -1,10 +1,9 @@
 -- Attributes of a connection, where they lie.
-use Rattle.std.specs.Prelude.{◌≡◌, ℕ, List, [], ◌∷◌, Option, Some, None, Result, Ok, Err, false, option_map}
+use Rattle.std.specs.Prelude.{◌≡◌, ℕ, List, [], ◌∷◌, Option, Some, None, Ok, Err}
 use Rattle.mysql_wire.specs.Form.{Form}
 use Rattle.mysql_wire.specs.Many.{many}
-use Rattle.mysql_wire.specs.Reading.{Reading, Faults}
-use Rattle.mysql_wire.specs.declared.fault.FaultOf.{FaultOf}
-use Rattle.mysql_auth.specs.Attributes.{Attribute, attribute, merged}
+use Rattle.mysql_wire.specs.Reading.{Reading}
+use Rattle.mysql_auth.specs.Attributes.{Attribute, attribute}
 
 -- pairs to the end, as they were sent: a key may come again
 abbrev pub sent_pairs : Form (List Attribute)
@@ -27,13 +26,3 @@ ArePairs bytes = sent_pairs.reads bytes ≡ Ok (pairs_in bytes, [])
 abbrev pub NextPair : List Attribute → Option Attribute → List Attribute → Type 0
 NextPair pairs None others = (pairs ≡ []) × (others ≡ [])
 NextPair pairs (Some pair) others = pairs ≡ pair ∷ others
-
--- the attributes are these pairs, each key once
-abbrev pub AnswersPairs : Result (List Attribute) FaultOf → List ℕ → Reading (List Attribute) → Type 0
-AnswersPairs (Ok pairs) rest read = read ≡ Ok (merged pairs, rest)
-AnswersPairs (Err e) rest read = Faults false e read
-
--- the same where they may be left out
-abbrev pub AnswersGiven : Result (Option (List Attribute)) FaultOf → List ℕ → Reading (Option (List Attribute)) → Type 0
-AnswersGiven (Ok given) rest read = read ≡ Ok (option_map merged given, rest)
-AnswersGiven (Err e) rest read = Faults false e read

@@ -10,7 +10,7 @@ use Rattle.mysql_wire.specs.Null.{HasNoZero}
 use Rattle.mysql_wire.specs.Optional.{optional_bytes}
 use Rattle.mysql_wire.specs.Writing.{le_bytes}
 use Rattle.mysql_wire.specs.declared.int.RawInt.{RawInt}
-use Rattle.mysql_auth.specs.Attributes.{Attribute, AreShort, AreShortIn, AttributesFit, attributes}
+use Rattle.mysql_auth.specs.Attributes.{Attribute, AreShort, AreShortIn, AttributesFit, attributes, attributes_as_sent, merged}
 use Rattle.mysql_auth.specs.PluginName.{PluginFits, plugin_null_or_eof}
 use Rattle.mysql_auth.specs.SslRequest as ssl
 use Rattle.mysql_auth.specs.SslRequest.{ssl_request}
@@ -46,6 +46,10 @@ auth_plugin p = p.auth_plugin
 
 abbrev pub connect_attributes : HandshakeResponse → Option (List Attribute)
 connect_attributes p = p.connect_attributes
+
+-- the response with each key once among its attributes, at its first place and with its last value
+abbrev pub with_each_key_once : HandshakeResponse → HandshakeResponse
+with_each_key_once p = record p { connect_attributes = option_map merged (connect_attributes p) }
 
 -- the level of its compression by zstd
 abbrev pub zstd_level : HandshakeResponse → Option ℕ
@@ -106,6 +110,10 @@ plugin head = when (λ c. sends_plugin head) plugin_null_or_eof
 unfoldable pub sent_attributes : SslRequest → Codec (Unit {0}) (Option (List Attribute))
 sent_attributes head = when (λ c. sends_attributes head) attributes
 
+-- the attributes as they were sent: a key may come again
+unfoldable pub pairs_as_sent : SslRequest → Codec (Unit {0}) (Option (List Attribute))
+pairs_as_sent head = when (λ c. sends_attributes head) attributes_as_sent
+
 -- the level of compression in a byte, where it is sent and a byte is left
 pub some-byte : (level : RawInt ℕ ℕ) → 0 < 1
 some-byte level = omega arith
@@ -118,14 +126,14 @@ sent_zstd_level head = level_codec (sends_zstd_level head)
 
 -- 32 bytes as of a request for TLS; the user; the scramble; the database, the plugin's name, the attributes and the level
 -- of compression, each under its flag
-abbrev pub handshake_response_fields : Fields (Unit {0}) HandshakeResponse HandshakeResponse
-handshake_response_fields = do
+abbrev pub handshake_response_fields : (SslRequest → Codec (Unit {0}) (Option (List Attribute))) → Fields (Unit {0}) HandshakeResponse HandshakeResponse
+handshake_response_fields given = do
   head ← field (λ p. p.head) ssl_request
   user ← field user string_null
   scramble_buf ← field scramble_buf (scramble head)
   db_name ← field db_name (database head)
   auth_plugin ← field auth_plugin (plugin head)
-  connect_attributes ← field connect_attributes (sent_attributes head)
+  connect_attributes ← field connect_attributes (given head)
   zstd_level ← field (λ p. p.zstd_level) (sent_zstd_level head)
   give (
       record {
@@ -140,7 +148,11 @@ handshake_response_fields = do
       )
 
 unfoldable pub handshake_response : Codec (Unit {0}) HandshakeResponse
-handshake_response = packet handshake_response_fields (λ p. refl)
+handshake_response = packet (handshake_response_fields sent_attributes) (λ p. refl)
+
+-- the response as it was sent: a key may come again among its attributes
+unfoldable pub handshake_response_as_sent : Codec (Unit {0}) HandshakeResponse
+handshake_response_as_sent = packet (handshake_response_fields pairs_as_sent) (λ p. refl)
 
 -- what is written of a level, where one is given
 abbrev pub level_bytes : Option (RawInt ℕ ℕ) → List ℕ
@@ -153,6 +165,10 @@ before_attributes p = handshake_response.bytes (record p { connect_attributes = 
 pub size-handshake_response : (handshake_response.form tt).size ≡ None
 unfolding handshake_response
 size-handshake_response = refl
+
+pub size-handshake_response_as_sent : (handshake_response_as_sent.form tt).size ≡ None
+unfolding handshake_response_as_sent
+size-handshake_response_as_sent = refl
 
 -- ---- when a response is read again, in plain words
 

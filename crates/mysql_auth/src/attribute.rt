@@ -1,7 +1,7 @@
 //! One attribute of a connection.
 #![tactic(auto, using(mysql_wire::proofs::Packets::packets), unfolding(crate::specs::Attributes::attribute))]
 
-ghost use Rattle.std.specs.Prelude.{false, ◌≡◌, nat_eq, string_bytes, ℕ, List, IfOk};
+ghost use Rattle.std.specs.Prelude.{false, [], ◌≡◌, nat_eq, string_bytes, ℕ, List, IfOk};
 ghost use Rattle.std.specs.Cmp.Lexicographic.{pointwise};
 ghost use Rattle.std.specs.List.{list_any};
 ghost use Rattle.mysql_wire.specs.Reading.{Answers};
@@ -86,6 +86,8 @@ pub(crate) fn has_key(attributes: &[Attribute<'_>], key: &[u8]) -> bool
 
 impl Clone for Attribute<'_> {
     ghost is_clone = { λ a copy. copy ≡ a };
+
+    ghost is_infallible = { λ a. (a.0 ≡ []) × (a.1 ≡ []) };
 
     fn clone(&self) -> Result<Self, AllocError> {
         Ok(Attribute {

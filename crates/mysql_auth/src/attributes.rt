@@ -2,7 +2,7 @@
 #![tactic(auto, using(mysql_wire::proofs::Packets::packets), unfolding(crate::specs::Attributes::attributes, crate::specs::Attributes::attribute))]
 
 ghost use Rattle.std.specs.Prelude.{true, drop, ◌≡◌, ◌≢◌, ◌+◌, ◌++◌, ◌≤◌, [], List, ℕ, length, map, option_map, IfOk, IsOk, refl};
-ghost use Rattle.std.specs.Option.{option_map_or};
+ghost use Rattle.std.specs.Option.{option_map_or, unwrap_or};
 ghost use Rattle.mysql_wire.specs.Reading.{Answers};
 ghost use Rattle.mysql_wire.specs.Seq.{counts_any, is_any};
 ghost use Rattle.mysql_wire.specs.Writing.{saturated};
@@ -14,7 +14,7 @@ use crate::merged::read_merged;
 use indexmap::IndexMap;
 use mysql_wire::{
     AnyWidth, Buffer, BytesRepr, FaultOf, IntRepr, LenEnc, MyDeserialize, MySerialize, ParseBuf,
-    RawBytes, RawInt, append_items, items_len,
+    Parts, RawBytes, RawInt, Sink, Skip, append_items, items_len, parts,
 };
 use std::alloc::{AllocError, Global};
 use std::borrow::CowSlice;
@@ -161,6 +161,31 @@ impl<'a> Attributes<'a> {
         ensures value { result ≡ saturated (length (spec.pairs_bytes self.now)) }
     {
         items_len(self.list.as_slice())
+    }
+}
+
+/// The attributes that are written where they may be left out: none are an empty list.
+#[derive(Drop)]
+pub(crate) struct GivenAttributes<'b, 'a>(pub(crate) &'b Option<Attributes<'a>>);
+
+impl<'b, 'a> Model for GivenAttributes<'b, 'a> {
+    ghost use Rattle.std.specs.Prelude.{ℕ, List, Option};
+
+    ghost Value = { Option (List (List ℕ × List ℕ)) };
+
+    ghost view = { λ given. given.0.now };
+}
+
+#[tactic(auto, using(mysql_wire::proofs::Packets::packets, crate::proofs::PairsWritten::empty_lists), unfolding(crate::specs::Attributes::attributes))]
+impl Parts for GivenAttributes<'_, '_> {
+    ghost bytes = { λ given. spec.attributes.bytes (unwrap_or given []) };
+
+    #[inline(always)]
+    fn put<S: Sink>(&self, sink: &mut S) {
+        match self.0 {
+            Some(attributes) => sink.part(attributes),
+            None => sink.part(&parts!(Skip::<1>)),
+        }
     }
 }
 

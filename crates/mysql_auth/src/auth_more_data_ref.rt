@@ -1,7 +1,7 @@
 //! Further data of an authentication, where it lies.
 #![tactic(auto, using(mysql_wire::proofs::Packets::packets), unfolding(crate::specs::AuthMoreData::auth_more_data))]
 
-ghost use Rattle.std.specs.Prelude.{◌≡◌};
+ghost use Rattle.std.specs.Prelude.{◌≡◌, ⊤};
 ghost use Rattle.mysql_auth.specs.AuthMoreData as spec;
 ghost use Rattle.mysql_auth.specs.declared.auth_more_data.AuthMoreData.{AuthMoreData};
 ghost use Rattle.mysql_auth.specs.AuthMoreData.{more_data_of};
@@ -49,6 +49,8 @@ impl<'a> AuthMoreDataRef<'a> {
 
 impl Clone for AuthMoreDataRef<'_> {
     ghost is_clone = { λ p copy. copy ≡ p };
+
+    ghost is_infallible = { λ _. ⊤ };
 
     fn clone(&self) -> Result<Self, AllocError> {
         Ok(AuthMoreDataRef {

@@ -14,6 +14,7 @@ ghost use Rattle.mysql_auth.specs.declared.com_change_user_more_data.ComChangeUs
 use crate::com_change_user_more_data::ComChangeUserMoreData;
 use crate::com_change_user_ref::ComChangeUserRef;
 use crate::faults::InvalidComChangeUserHeader;
+use crate::for_session::ForSession;
 use mysql_wire::{
     AnyWidth, CapabilityFlags, ConstU8, FaultOf, MyDeserialize, NullBytes, ParseBuf, Parts,
     RawBytes, Sink, U8Bytes, parts,
@@ -118,6 +119,16 @@ impl<'a> ComChangeUser<'a> {
     {
         self.more_data = more_data;
         self
+    }
+
+    /// The same, written by the flags that both sides agreed on: the plugin and the attributes exactly if these ask for them.
+    ///
+    /// A proxy writes a change as it was read so, and a client that agreed to no attributes its own.
+    #[inline]
+    pub fn for_session(&self, capabilities: CapabilityFlags) -> ForSession<'_, Self>
+        ensures value { result ≡ (capabilities, self.now) }
+    {
+        ForSession::new(self, capabilities)
     }
 
     /// The character set of more data has two bytes, and each key stands once among its attributes.

@@ -9,9 +9,10 @@ ghost use Rattle.mysql_auth.specs.AttributeBytes.{in_more_data, sent_room};
 ghost use Rattle.mysql_auth.specs.Attributes.{Attribute, merged, text_pair};
 ghost use Rattle.mysql_auth.specs.ComChangeUser as spec;
 
-use crate::attributes::{Attributes, attributes_of};
+use crate::attributes::{Attributes, GivenAttributes, attributes_of};
 use crate::auth_plugin::AuthPlugin;
 use crate::com_change_user_more_data_ref::ComChangeUserMoreDataRef;
+use crate::for_session::ForSession;
 use bitflags::Flags;
 use indexmap::IndexMap;
 use mysql_wire::{
@@ -23,8 +24,9 @@ use std::alloc::{AllocError, Global};
 /// `CLIENT_PLUGIN_AUTH` the plugin's name, which ends in a zero; under `CLIENT_CONNECT_ATTRS` the attributes, as in a
 /// [`HandshakeResponse`](crate::HandshakeResponse).
 ///
-/// A writer isn't passed the flags: it writes a plugin and attributes where they are given. Where both sides agreed to
-/// `CLIENT_CONNECT_ATTRS`, a server wants attributes, if only empty ones. Reading takes memory for the attributes alone.
+/// A writer isn't passed the flags: it writes a plugin where one is given, and always attributes, an empty list if none are
+/// given. [`for_session`](ComChangeUserMoreData::for_session) writes what the flags ask for. Reading takes memory for the
+/// attributes alone.
 #[derive(Clone, Debug, PartialEq, Eq)]
 pub struct ComChangeUserMoreData<'a> {
     pub(crate) character_set: RawInt<LeU16>,
@@ -77,6 +79,14 @@ impl<'a> ComChangeUserMoreData<'a> {
         Ok(self)
     }
 
+    /// The same, written by the flags that both sides agreed on: the plugin and the attributes exactly if these ask for them.
+    #[inline]
+    pub fn for_session(&self, capabilities: CapabilityFlags) -> ForSession<'_, Self>
+        ensures value { result ≡ (capabilities, self.now) }
+    {
+        ForSession::new(self, capabilities)
+    }
+
     /// The same, on memory of its own.
     pub fn into_owned(self, alloc: Global) -> Result<ComChangeUserMoreData<'static>, AllocError>
         ensures value { IfOk result (λ owned. owned ≡ self.entry) }
@@ -104,7 +114,15 @@ impl<'a> ComChangeUserMoreData<'a> {
     }
 }
 
-impl ComChangeUserMoreData<'_> {
+impl<'a> ComChangeUserMoreData<'a> {
+    /// The attributes as they are written.
+    #[inline(always)]
+    pub(crate) fn given_attributes(&self) -> GivenAttributes<'_, 'a>
+        ensures value { result ≡ spec.connect_attributes self.now }
+    {
+        GivenAttributes(&self.connect_attributes)
+    }
+
     /// The character set has two bytes.
     pub(crate) fn width(&self)
         ensures value { spec.character_set self.now < 2 ^ 16 }
@@ -166,10 +184,7 @@ impl Parts for ComChangeUserMoreData<'_> {
 
     #[inline(always)]
     fn put<S: Sink>(&self, sink: &mut S) {
-        sink.part(&parts!(
-            self.character_set,
-            self.auth_plugin,
-            self.connect_attributes
-        ));
+        let connect_attributes = self.given_attributes();
+        sink.part(&parts!(self.character_set, self.auth_plugin, connect_attributes));
     }
 }

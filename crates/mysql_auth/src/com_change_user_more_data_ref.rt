@@ -1,14 +1,12 @@
 //! What a change of a session's user tells besides, where it lies.
 #![tactic(auto, using(mysql_wire::proofs::Packets::packets))]
 
-ghost use Rattle.std.specs.Prelude.{false, [], ◌≡◌, IfOk, IsOk, option_map};
+ghost use Rattle.std.specs.Prelude.{false, [], ◌≡◌, IfOk, IsOk, option_map, ⊤};
 ghost use Rattle.std.specs.Option.{unwrap_or};
 ghost use Rattle.mysql_wire.specs.Reading.{Answers};
-ghost use Rattle.mysql_auth.specs.Attributes.{merged};
-ghost use Rattle.mysql_auth.specs.AuthPlugin.{plugin_of};
+ghost use Rattle.mysql_auth.specs.AuthPlugin.{plugin_name, plugin_of};
 ghost use Rattle.mysql_auth.specs.ComChangeUser as spec;
 ghost use Rattle.mysql_auth.specs.ComChangeUserRef.{before_attributes};
-ghost use Rattle.mysql_auth.specs.ConnectAttributesRef.{AnswersGiven};
 ghost use Rattle.mysql_auth.specs.declared.com_change_user_more_data.ComChangeUserMoreData.{ComChangeUserMoreData};
 
 use crate::attributes::Attributes;
@@ -26,7 +24,8 @@ use std::marker::Model;
 /// What a change of a session's user tells besides, whose texts stay in the packet: a [`ComChangeUserMoreData`] for as
 /// long as the packet lives, without memory.
 ///
-/// It is read of the same bytes with the same faults but for `Memory`, and in a clause it is that data.
+/// It is read of the same bytes with the same faults but for `Memory`. In a clause it is that data, with its attributes as
+/// they were sent.
 #[derive(Drop)]
 pub struct ComChangeUserMoreDataRef<'a> {
     character_set: RawInt<LeU16>,
@@ -40,7 +39,7 @@ impl<'a> Model for ComChangeUserMoreDataRef<'a> {
     ghost view = { λ p. record {
       character_set = p.character_set;
       auth_plugin = p.auth_plugin;
-      connect_attributes = option_map merged p.connect_attributes;
+      connect_attributes = p.connect_attributes;
     } };
 }
 
@@ -64,6 +63,7 @@ impl<'a> ComChangeUserMoreDataRef<'a> {
     #[inline]
     pub fn auth_plugin_name(&self) -> Option<&'a [u8]>
         ensures value { option_map (λ s. plugin_of s.now) result ≡ spec.auth_plugin self.now }
+        ensures bytes { option_map (λ s. s.now) result ≡ option_map plugin_name (spec.auth_plugin self.now) }
     {
         name_given(&self.auth_plugin)
     }
@@ -71,14 +71,14 @@ impl<'a> ComChangeUserMoreDataRef<'a> {
     /// As [`HandshakeResponseRef::connect_attributes`](crate::HandshakeResponseRef::connect_attributes).
     #[inline]
     pub fn connect_attributes(&self) -> Option<ConnectAttributesRef<'a>>
-        ensures value { option_map merged result ≡ spec.connect_attributes self.now }
+        ensures value { result ≡ spec.connect_attributes self.now }
     {
         iter_given(&self.connect_attributes)
     }
 
-    /// The data in its other form, which borrows the texts still. It takes memory for the attributes alone.
+    /// The data in its other form, which borrows the texts still. It takes memory for the attributes alone, each key once.
     pub fn to_more_data(&self, alloc: Global) -> Result<ComChangeUserMoreData<'a>, AllocError>
-        ensures value { IfOk result (λ more. more ≡ self.now) }
+        ensures value { IfOk result (λ more. more ≡ spec.more_with_each_key_once self.now) }
         // Without attributes it takes no memory.
         ensures no_memory { unwrap_or (spec.connect_attributes self.now) [] ≡ [] → IsOk result }
     {
@@ -120,6 +120,8 @@ impl<'a> ComChangeUserMoreDataRef<'a> {
 impl Clone for ComChangeUserMoreDataRef<'_> {
     ghost is_clone = { λ p copy. copy ≡ p };
 
+    ghost is_infallible = { λ _. ⊤ };
+
     fn clone(&self) -> Result<Self, AllocError> {
         Ok(ComChangeUserMoreDataRef {
             character_set: RawInt::new(self.character_set.0),
@@ -155,12 +157,12 @@ fn read_plugin<'s, 'a>(
 }
 
 /// The attributes, where the flags say that they are there.
-#[tactic(auto, unfolding(crate::specs::ComChangeUser::sent_attributes))]
+#[tactic(auto, unfolding(crate::specs::ComChangeUser::pairs_as_sent))]
 fn read_attributes<'s, 'a>(
     capabilities: CapabilityFlags,
     buf: &mut ParseBuf<'a>,
 ) -> Result<Option<ConnectAttributesRef<'a>>, FaultOf<'s>>
-    ensures value { AnswersGiven result buf.new ((spec.sent_attributes.form capabilities).reads buf.old) }
+    ensures value { Answers false result buf.new ((spec.pairs_as_sent.form capabilities).reads buf.old) }
 {
     if !capabilities.contains(CapabilityFlags::CLIENT_CONNECT_ATTRS) {
         return Ok(None);
@@ -177,7 +179,7 @@ impl<'de> MyDeserialize<'de> for ComChangeUserMoreDataRef<'de> {
     /// What both sides can do.
     type Ctx = CapabilityFlags;
 
-    ghost form = { spec.more_data.form };
+    ghost form = { spec.more_data_as_sent.form };
 
     #[tactic(auto, using(crate::proofs::ChangeRead::more_data_parts))]
     fn deserialize<'s>(agreed: Self::Ctx, buf: &mut ParseBuf<'de>) -> Result<Self, FaultOf<'s>> {
@@ -188,5 +190,5 @@ impl<'de> MyDeserialize<'de> for ComChangeUserMoreDataRef<'de> {
         Ok(more)
     }
 
-    ghost size_is = { spec.size-more_data };
+    ghost size_is = { spec.size-more_data_as_sent };
 }

@@ -1,7 +1,7 @@
 //! The change of a session's user, where it lies.
 #![tactic(auto, using(mysql_wire::proofs::Packets::packets))]
 
-ghost use Rattle.std.specs.Prelude.{false, [], ◌≡◌, IfOk, IfSome, IsOk, option_map};
+ghost use Rattle.std.specs.Prelude.{false, [], ◌≡◌, IfOk, IfSome, IsOk, option_map, ⊤};
 ghost use Rattle.std.specs.Option.{unwrap_or};
 ghost use Rattle.mysql_wire.specs.Reading.{Answers};
 ghost use Rattle.mysql_auth.specs.ComChangeUser as spec;
@@ -26,7 +26,8 @@ use std::marker::Model;
 /// The change of a session's user, whose texts stay in the packet: a [`ComChangeUser`] for as long as the packet lives,
 /// without memory.
 ///
-/// It is read of the same bytes with the same faults but for `Memory`, and in a clause it is that change.
+/// It is read of the same bytes with the same faults but for `Memory`. In a clause it is that change, with its attributes as
+/// they were sent.
 #[derive(Drop)]
 pub struct ComChangeUserRef<'a> {
     user: ParseBuf<'a>,
@@ -91,9 +92,9 @@ impl<'a> ComChangeUserRef<'a> {
         }
     }
 
-    /// The change in its other form, which borrows the texts still. It takes memory for the attributes alone.
+    /// The change in its other form, which borrows the texts still. It takes memory for the attributes alone, each key once.
     pub fn to_change(&self, alloc: Global) -> Result<ComChangeUser<'a>, AllocError>
-        ensures value { IfOk result (λ change. change ≡ self.now) }
+        ensures value { IfOk result (λ change. change ≡ spec.with_each_key_once self.now) }
         // Without attributes it takes no memory.
         ensures no_memory { IfSome (spec.more_data_in self.now) (λ more. unwrap_or (spec.connect_attributes more) [] ≡ []) → IsOk result }
     {
@@ -126,6 +127,8 @@ impl<'a> ComChangeUserRef<'a> {
 impl Clone for ComChangeUserRef<'_> {
     ghost is_clone = { λ p copy. copy ≡ p };
 
+    ghost is_infallible = { λ _. ⊤ };
+
     fn clone(&self) -> Result<Self, AllocError> {
         let more_data = match &self.more_data {
             Some(more) => Some(more.clone()?),
@@ -153,12 +156,12 @@ impl Debug for ComChangeUserRef<'_> {
 }
 
 /// More data, where bytes are left.
-#[tactic(auto, unfolding(crate::specs::ComChangeUser::last_part))]
+#[tactic(auto, unfolding(crate::specs::ComChangeUser::last_part_as_sent))]
 fn read_more_data<'s, 'a>(
     capabilities: CapabilityFlags,
     buf: &mut ParseBuf<'a>,
 ) -> Result<Option<ComChangeUserMoreDataRef<'a>>, FaultOf<'s>>
-    ensures value { Answers false result buf.new ((spec.last_part.form capabilities).reads buf.old) }
+    ensures value { Answers false result buf.new ((spec.last_part_as_sent.form capabilities).reads buf.old) }
 {
     if buf.is_empty() {
         return Ok(None);
@@ -175,7 +178,7 @@ impl<'de> MyDeserialize<'de> for ComChangeUserRef<'de> {
     /// What both sides can do.
     type Ctx = CapabilityFlags;
 
-    ghost form = { spec.change_user.form };
+    ghost form = { spec.change_user_as_sent.form };
 
     #[tactic(auto, using(crate::proofs::ChangeRead::change_parts))]
     fn deserialize<'s>(agreed: Self::Ctx, buf: &mut ParseBuf<'de>) -> Result<Self, FaultOf<'s>> {
@@ -186,5 +189,5 @@ impl<'de> MyDeserialize<'de> for ComChangeUserRef<'de> {
         Ok(change)
     }
 
-    ghost size_is = { spec.size-change_user };
+    ghost size_is = { spec.size-change_user_as_sent };
 }

@@ -1,7 +1,7 @@
 //! One attribute of a connection, where it lies.
 #![tactic(auto, using(mysql_wire::proofs::Packets::packets), unfolding(crate::specs::Attributes::attribute))]
 
-ghost use Rattle.std.specs.Prelude.{◌≡◌, refl};
+ghost use Rattle.std.specs.Prelude.{◌≡◌, refl, ⊤};
 ghost use Rattle.mysql_auth.specs.Attributes as spec;
 
 use crate::handshake_head_ref::shown;
@@ -48,6 +48,8 @@ impl<'a> ConnectAttributeRef<'a> {
 
 impl Clone for ConnectAttributeRef<'_> {
     ghost is_clone = { λ p copy. copy ≡ p };
+
+    ghost is_infallible = { λ _. ⊤ };
 
     fn clone(&self) -> Result<Self, AllocError> {
         Ok(ConnectAttributeRef {

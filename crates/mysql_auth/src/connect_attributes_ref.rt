@@ -4,10 +4,10 @@
 ghost use Rattle.std.specs.Prelude.{false, [], ◌≡◌, List, IfErr, IfOk, IsOk, OnOk, option_map, length, ⊤};
 ghost use Rattle.std.specs.Cmp.Lexicographic.{pointwise};
 ghost use Rattle.std.specs.Option.{unwrap_or};
-ghost use Rattle.mysql_wire.specs.Reading.{Faults};
+ghost use Rattle.mysql_wire.specs.Reading.{Answers, Faults};
 ghost use Rattle.mysql_auth.specs.Attributes as spec;
 ghost use Rattle.mysql_auth.specs.Attributes.{Attribute};
-ghost use Rattle.mysql_auth.specs.ConnectAttributesRef.{AnswersPairs, ArePairs, NextPair, pairs_in, sent_pairs};
+ghost use Rattle.mysql_auth.specs.ConnectAttributesRef.{ArePairs, NextPair, pairs_in, sent_pairs};
 ghost use Rattle.std.specs.Iterator.{at_most};
 
 use crate::attributes::{Attributes, read_pairs};
@@ -40,7 +40,7 @@ impl<'a> Model for ConnectAttributesRef<'a> {
 /// Reads pairs to the end, and keeps none.
 fn check_pairs<'s>(pairs: ParseBuf<'_>) -> Result<(), FaultOf<'s>>
     ensures ok { OnOk result (ArePairs pairs.entry) }
-    ensures err { IfErr result (λ e. Faults {A = List Attribute} false e (spec.pairs.reads pairs.entry)) }
+    ensures err { IfErr result (λ e. Faults {A = List Attribute} false e (sent_pairs.reads pairs.entry)) }
 {
     let mut rest = pairs;
     while !rest.is_empty() {
@@ -64,9 +64,9 @@ fn next_pair<'a>(pairs: &mut ParseBuf<'a>) -> Option<ConnectAttributeRef<'a>>
 
 impl<'a> ConnectAttributesRef<'a> {
     /// Reads the attributes after the length of all.
-    #[tactic(auto, using(mysql_wire::proofs::Packets::packets, crate::proofs::PairsPassed::pairs_merged), unfolding(crate::specs::Attributes::attributes))]
+    #[tactic(auto, using(mysql_wire::proofs::Packets::packets), unfolding(crate::specs::Attributes::attributes_as_sent))]
     pub(crate) fn read<'s>(buf: &mut ParseBuf<'a>) -> Result<ConnectAttributesRef<'a>, FaultOf<'s>>
-        ensures value { AnswersPairs result buf.new ((spec.attributes.form tt).reads buf.old) }
+        ensures value { Answers false result buf.new ((spec.attributes_as_sent.form tt).reads buf.old) }
     {
         let pairs = <LenEnc as BytesRepr>::deserialize((), buf)?;
         check_pairs(pairs.rest())?;
@@ -97,7 +97,7 @@ impl<'a> ConnectAttributesRef<'a> {
     #[tactic(auto, using(crate::proofs::PairsPassed::pairs_merged))]
     pub(crate) fn to_attributes(&self, alloc: Global) -> Result<Attributes<'a>, AllocError>
         ensures value { IfOk result (λ attributes. attributes ≡ spec.merged self.now) }
-        ensures no_memory { spec.merged self.now ≡ [] → IsOk result }
+        ensures no_memory { self.now ≡ [] → IsOk result }
     {
         let bytes = self.as_bytes();
         match read_pairs(ParseBuf::new(alloc, bytes)) {
@@ -127,7 +127,7 @@ pub(crate) fn attributes_given<'a>(
     alloc: Global,
 ) -> Result<Option<Attributes<'a>>, AllocError>
     ensures value { IfOk result (λ given. given ≡ option_map spec.merged attributes.now) }
-    ensures no_memory { unwrap_or (option_map spec.merged attributes.now) [] ≡ [] → IsOk result }
+    ensures no_memory { unwrap_or attributes.now [] ≡ [] → IsOk result }
 {
     match attributes {
         Some(attributes) => Ok(Some(attributes.to_attributes(alloc)?)),
@@ -155,6 +155,8 @@ fn give_the_same(one: &ConnectAttributesRef<'_>, other: &ConnectAttributesRef<'_
 
 impl Clone for ConnectAttributesRef<'_> {
     ghost is_clone = { λ p copy. copy ≡ p };
+
+    ghost is_infallible = { λ _. ⊤ };
 
     fn clone(&self) -> Result<Self, AllocError> {
         Ok(self.iter())

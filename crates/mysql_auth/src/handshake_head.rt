@@ -73,6 +73,8 @@ impl<'a> HandshakeHead<'a> {
 impl Clone for HandshakeHead<'_> {
     ghost is_clone = { λ head copy. copy ≡ head };
 
+    ghost is_infallible = { λ head. head.server_version ≡ [] };
+
     fn clone(&self) -> Result<Self, AllocError> {
         let server_version = self.server_version.clone()?;
         Ok(HandshakeHead {

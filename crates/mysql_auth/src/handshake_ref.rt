@@ -1,7 +1,7 @@
 //! The initial handshake, where it lies.
 #![tactic(auto, using(mysql_wire::proofs::Packets::packets), unfolding(crate::specs::Handshake::handshake, crate::specs::Handshake::handshake_head, crate::specs::Handshake::handshake_block))]
 
-ghost use Rattle.std.specs.Prelude.{◌≡◌, length, option_map};
+ghost use Rattle.std.specs.Prelude.{◌≡◌, length, option_map, ⊤};
 ghost use Rattle.mysql_auth.specs.Handshake as spec;
 ghost use Rattle.mysql_auth.specs.declared.handshake.HandshakePacket.{HandshakePacket};
 
@@ -158,6 +158,8 @@ impl<'a> HandshakePacketRef<'a> {
 
 impl Clone for HandshakePacketRef<'_> {
     ghost is_clone = { λ p copy. copy ≡ p };
+
+    ghost is_infallible = { λ _. ⊤ };
 
     fn clone(&self) -> Result<Self, AllocError> {
         Ok(HandshakePacketRef {

@@ -1,12 +1,10 @@
 //! The answer to a handshake, where it lies.
 #![tactic(auto, using(mysql_wire::proofs::Packets::packets))]
 
-ghost use Rattle.std.specs.Prelude.{false, [], ◌≡◌, IfOk, IsOk, Ok, option_map};
+ghost use Rattle.std.specs.Prelude.{false, [], ◌≡◌, IfOk, IsOk, Ok, option_map, ⊤};
 ghost use Rattle.std.specs.Option.{unwrap_or};
 ghost use Rattle.mysql_wire.specs.Reading.{Answers};
-ghost use Rattle.mysql_auth.specs.Attributes.{merged};
-ghost use Rattle.mysql_auth.specs.AuthPlugin.{plugin_of};
-ghost use Rattle.mysql_auth.specs.ConnectAttributesRef.{AnswersGiven};
+ghost use Rattle.mysql_auth.specs.AuthPlugin.{plugin_name, plugin_of};
 ghost use Rattle.mysql_auth.specs.HandshakeResponse as spec;
 ghost use Rattle.mysql_auth.specs.HandshakeResponseRef.{before_attributes, with_last};
 ghost use Rattle.mysql_auth.specs.declared.handshake_response.HandshakeResponse.{HandshakeResponse};
@@ -32,7 +30,8 @@ use std::marker::Model;
 /// A client's answer to a handshake, whose texts stay in the packet: a [`HandshakeResponse`] for as long as the packet
 /// lives, without memory.
 ///
-/// It is read of the same bytes with the same faults but for `Memory`, and in a clause it is that response.
+/// It is read of the same bytes with the same faults but for `Memory`. In a clause it is that response, with its attributes
+/// as they were sent.
 #[derive(Drop)]
 pub struct HandshakeResponseRef<'a> {
     pub(crate) head: SslRequest,
@@ -53,7 +52,7 @@ impl<'a> Model for HandshakeResponseRef<'a> {
       scramble_buf = p.scramble_buf;
       db_name = p.db_name;
       auth_plugin = p.auth_plugin;
-      connect_attributes = option_map merged p.connect_attributes;
+      connect_attributes = p.connect_attributes;
       zstd_level = p.zstd_level;
     } };
 }
@@ -122,6 +121,7 @@ impl<'a> HandshakeResponseRef<'a> {
     #[inline]
     pub fn auth_plugin_name(&self) -> Option<&'a [u8]>
         ensures value { option_map (λ s. plugin_of s.now) result ≡ spec.auth_plugin self.now }
+        ensures bytes { option_map (λ s. s.now) result ≡ option_map plugin_name (spec.auth_plugin self.now) }
     {
         name_given(&self.auth_plugin)
     }
@@ -133,10 +133,11 @@ impl<'a> HandshakeResponseRef<'a> {
         plugin_given(&self.auth_plugin)
     }
 
-    /// The attributes, where they were sent: each as it was sent. Where a key comes again, its last value counts.
+    /// The attributes, where they were sent: each as it was sent, one after another. Where a key comes again, its last value
+    /// counts.
     #[inline]
     pub fn connect_attributes(&self) -> Option<ConnectAttributesRef<'a>>
-        ensures value { option_map merged result ≡ spec.connect_attributes self.now }
+        ensures value { result ≡ spec.connect_attributes self.now }
     {
         iter_given(&self.connect_attributes)
     }
@@ -185,9 +186,9 @@ impl<'a> HandshakeResponseRef<'a> {
         }
     }
 
-    /// The response in its other form, which borrows the texts still. It takes memory for the attributes alone.
+    /// The response in its other form, which borrows the texts still. It takes memory for the attributes alone, each key once.
     pub fn to_response(&self, alloc: Global) -> Result<HandshakeResponse<'a>, AllocError>
-        ensures value { IfOk result (λ response. response ≡ self.now) }
+        ensures value { IfOk result (λ response. response ≡ spec.with_each_key_once self.now) }
         // Without attributes it takes no memory.
         ensures no_memory { unwrap_or (spec.connect_attributes self.now) [] ≡ [] → IsOk result }
     {
@@ -269,12 +270,12 @@ fn read_plugin<'a>(head: &SslRequest, buf: &mut ParseBuf<'a>) -> Option<AuthPlug
 }
 
 /// The attributes, where they were sent.
-#[tactic(auto, unfolding(crate::specs::HandshakeResponse::sent_attributes))]
+#[tactic(auto, unfolding(crate::specs::HandshakeResponse::pairs_as_sent))]
 fn read_attributes<'s, 'a>(
     head: &SslRequest,
     buf: &mut ParseBuf<'a>,
 ) -> Result<Option<ConnectAttributesRef<'a>>, FaultOf<'s>>
-    ensures value { AnswersGiven result buf.new (((spec.sent_attributes head.now).form tt).reads buf.old) }
+    ensures value { Answers false result buf.new (((spec.pairs_as_sent head.now).form tt).reads buf.old) }
 {
     if !head
         .capabilities()
@@ -287,6 +288,8 @@ fn read_attributes<'s, 'a>(
 
 impl Clone for HandshakeResponseRef<'_> {
     ghost is_clone = { λ p copy. copy ≡ p };
+
+    ghost is_infallible = { λ _. ⊤ };
 
     fn clone(&self) -> Result<Self, AllocError> {
         Ok(HandshakeResponseRef {
@@ -328,7 +331,7 @@ impl<'de> MyDeserialize<'de> for HandshakeResponseRef<'de> {
 
     type Ctx = ();
 
-    ghost form = { spec.handshake_response.form };
+    ghost form = { spec.handshake_response_as_sent.form };
 
     #[tactic(auto, using(crate::proofs::ResponseRead::response_parts))]
     fn deserialize<'s>(_ctx: (), buf: &mut ParseBuf<'de>) -> Result<Self, FaultOf<'s>> {
@@ -340,5 +343,5 @@ impl<'de> MyDeserialize<'de> for HandshakeResponseRef<'de> {
         Ok(response)
     }
 
-    ghost size_is = { λ _. spec.size-handshake_response };
+    ghost size_is = { λ _. spec.size-handshake_response_as_sent };
 }

@@ -4,7 +4,7 @@
 //! with `this` speak of the value at hand.
 #![tactic(auto, using(mysql_wire::proofs::Packets::packets, crate::proofs::WholePackets::whole_packets, crate::proofs::HandshakeFits::handshakes, crate::proofs::HandshakeResponseFits::responses, crate::proofs::ChangeUserFits::changes))]
 
-ghost use Rattle.std.specs.Prelude.{◌≡◌, ◌++◌, ℕ, List, [], Some, None};
+ghost use Rattle.std.specs.Prelude.{◌≡◌, ◌++◌, ℕ, List, [], Some, None, true};
 ghost use Rattle.mysql_auth.specs.declared.auth_more_data.AuthMoreData.{AuthMoreData};
 ghost use Rattle.mysql_auth.specs.AuthNextFactor.{AuthNextFactor};
 ghost use Rattle.mysql_auth.specs.AuthSwitchRequest.{AuthSwitchRequest};
@@ -17,7 +17,7 @@ ghost use Rattle.mysql_auth.specs.declared.com_change_user.ComChangeUser.{ComCha
 ghost use Rattle.mysql_auth.specs.declared.com_change_user_more_data.ComChangeUserMoreData.{ComChangeUserMoreData};
 ghost use Rattle.mysql_auth.specs.declared.handshake_response.HandshakeResponse.{HandshakeResponse};
 ghost use Rattle.mysql_wire.specs.Flags.{CapabilityFlags};
-ghost use Rattle.mysql_auth.specs.ComChangeUser.{change_user, connect_attributes, more_data, ChangeUserFits, ChangeUserIsShort, ChangeUserPartsFit, MoreDataFits, MoreDataPartsFit};
+ghost use Rattle.mysql_auth.specs.ComChangeUser.{change_user, connect_attributes, more_data, sends_attributes, session_change_user, session_more_data, ChangeUserFits, ChangeUserIsShort, ChangeUserPartsFit, MoreDataFits, MoreDataPartsFit, SessionChangeUserFits, SessionChangeUserPartsFit, SessionMoreDataFits, SessionMoreDataPartsFit};
 ghost use Rattle.mysql_auth.specs.HandshakeResponse.{handshake_response, HandshakeResponseFits, ResponseIsShort, ResponsePartsFit};
 ghost use Rattle.mysql_auth.specs.Version.{HasVersion, HasMariadbVersion};
 ghost use Rattle.mysql_auth.specs.Handshake.{handshake, server_version, HandshakeFits};
@@ -110,14 +110,17 @@ pub fn handshake_response_round_trips()
     ensures spelled { (p : HandshakeResponse) (rest : List ℕ) → HandshakeResponseFits p rest → (handshake_response.form tt).Spells p (handshake_response.bytes p ++ rest) rest }
 {}
 
-/// What is written of a change of user is read again, under the flags that both sides know.
+/// What is written of a change of user is read again, under the flags that both sides know. So is what a session writes.
 pub fn change_user_round_trips()
     ensures spelled { (c : CapabilityFlags) (p : ComChangeUser) (rest : List ℕ) → ChangeUserFits c p rest → (change_user.form c).Spells p (change_user.bytes p ++ rest) rest }
+    ensures session { (c : CapabilityFlags) (p : ComChangeUser) (rest : List ℕ) → SessionChangeUserFits c p rest → (change_user.form c).Spells p ((session_change_user c).bytes p ++ rest) rest }
 {}
 
-/// What is written of a change of user's more data is read again, under the flags that both sides know.
+/// What is written of a change of user's more data is read again, under the flags that both sides know. So is what a session
+/// writes.
 pub fn more_data_round_trips()
     ensures spelled { (c : CapabilityFlags) (p : ComChangeUserMoreData) (rest : List ℕ) → MoreDataFits c p → (more_data.form c).Spells p (more_data.bytes p ++ rest) rest }
+    ensures session { (c : CapabilityFlags) (p : ComChangeUserMoreData) (rest : List ℕ) → SessionMoreDataFits c p → (more_data.form c).Spells p ((session_more_data c).bytes p ++ rest) rest }
 {}
 
 /// No zero is in the version of a handshake that was read.
@@ -132,15 +135,19 @@ pub fn read_handshake_response_fits()
     ensures fits { (p : HandshakeResponse) (bytes rest more : List ℕ) → (handshake_response.form tt).Spells p bytes rest → ResponseIsShort p more → ResponsePartsFit p more }
 {}
 
-/// The parts of more data that was read fit, where the length of its attributes does.
+/// The parts of more data that was read fit for the session, where the length of its attributes does. With attributes they
+/// fit for each writer.
 #[tactic(auto, using(crate::proofs::ReadPackets::read_packets))]
 pub fn read_more_data_fits()
-    ensures fits { (c : CapabilityFlags) (p : ComChangeUserMoreData) (bytes rest : List ℕ) → (more_data.form c).Spells p bytes rest → AreShortIn (connect_attributes p) → MoreDataPartsFit c p }
+    ensures fits { (c : CapabilityFlags) (p : ComChangeUserMoreData) (bytes rest : List ℕ) → (more_data.form c).Spells p bytes rest → AreShortIn (connect_attributes p) → SessionMoreDataPartsFit c p }
+    ensures attributes { (c : CapabilityFlags) (p : ComChangeUserMoreData) (bytes rest : List ℕ) → (more_data.form c).Spells p bytes rest → AreShortIn (connect_attributes p) → sends_attributes c ≡ true → MoreDataPartsFit c p }
 {}
 
-/// The parts of a change of user that was read fit, where its lengths do. Without more data nothing may follow it.
+/// The parts of a change of user that was read fit for the session, where its lengths do. With attributes they fit for each
+/// writer. Without more data nothing may follow it.
 pub fn read_change_user_fits()
-    ensures fits { (c : CapabilityFlags) (p : ComChangeUser) (bytes rest more : List ℕ) → (change_user.form c).Spells p bytes rest → ChangeUserIsShort p more → ChangeUserPartsFit c p more }
+    ensures fits { (c : CapabilityFlags) (p : ComChangeUser) (bytes rest more : List ℕ) → (change_user.form c).Spells p bytes rest → ChangeUserIsShort p more → SessionChangeUserPartsFit c p more }
+    ensures attributes { (c : CapabilityFlags) (p : ComChangeUser) (bytes rest more : List ℕ) → (change_user.form c).Spells p bytes rest → ChangeUserIsShort p more → sends_attributes c ≡ true → ChangeUserPartsFit c p more }
 {}
 
 /// A text begins with at most one version.

@@ -19,6 +19,7 @@ mod connect_attribute_ref;
 mod connect_attributes_ref;
 mod eof_name;
 mod faults;
+mod for_session;
 mod handshake;
 mod handshake_head;
 mod handshake_head_ref;
@@ -57,6 +58,7 @@ pub use faults::{
     InvalidAuthMoreDataHeader, InvalidAuthNextFactorHeader, InvalidAuthSwitchRequestHeader,
     InvalidComChangeUserHeader, InvalidPublicKeyRequest, InvalidPublicKeyResponse,
 };
+pub use for_session::ForSession;
 pub use handshake::HandshakePacket;
 pub use handshake_ref::HandshakePacketRef;
 pub use handshake_response::{HandshakeResponse, ResponseBeforeAttributes};

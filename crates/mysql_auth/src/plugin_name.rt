@@ -2,8 +2,9 @@
 #![tactic(auto, using(crate::proofs::NameRead::names_read, mysql_wire::proofs::Packets::packets), unfolding(crate::specs::PluginName::plugin_null, crate::specs::PluginName::plugin_null_or_eof))]
 
 ghost use Rattle.std.specs.Prelude.{false, ◌≡◌, Ok, option_map};
+ghost use Rattle.mysql_wire.specs.Null.{HasNoZero};
 ghost use Rattle.mysql_wire.specs.Reading.{Answers};
-ghost use Rattle.mysql_auth.specs.AuthPlugin.{plugin_of};
+ghost use Rattle.mysql_auth.specs.AuthPlugin.{plugin_name, plugin_of};
 ghost use Rattle.mysql_auth.specs.PluginName as spec;
 ghost use Rattle.mysql_auth.specs.declared.auth_plugin.AuthPlugin.{AuthPlugin};
 
@@ -11,7 +12,7 @@ use crate::auth_plugin::AuthPlugin;
 use mysql_wire::{BytesRepr, FaultOf, NullBytes, ParseBuf};
 use std::marker::Model;
 
-/// A plugin's name, where it lies. In a clause it is the plugin.
+/// A plugin's name, where it lies: no zero is in it. In a clause it is the plugin.
 #[derive(Drop)]
 pub(crate) struct AuthPluginRef<'a> {
     name: &'a [u8],
@@ -21,6 +22,8 @@ impl<'a> Model for AuthPluginRef<'a> {
     ghost Value = { AuthPlugin };
 
     ghost view = { λ p. plugin_of p.name.now };
+
+    ghost invariant = { λ p. HasNoZero p.name.now };
 }
 
 impl<'a> AuthPluginRef<'a> {
@@ -57,6 +60,7 @@ impl<'a> AuthPluginRef<'a> {
     #[inline]
     pub(crate) fn name(&self) -> &'a [u8]
         ensures value { plugin_of result.now ≡ self.now }
+        ensures bytes { result.now ≡ plugin_name self.now }
     {
         self.name
     }
@@ -85,6 +89,7 @@ pub(crate) fn again_given<'a>(plugin: &Option<AuthPluginRef<'a>>) -> Option<Auth
 #[inline]
 pub(crate) fn name_given<'a>(plugin: &Option<AuthPluginRef<'a>>) -> Option<&'a [u8]>
     ensures value { option_map (λ s. plugin_of s.now) result ≡ plugin.now }
+    ensures bytes { option_map (λ s. s.now) result ≡ option_map plugin_name plugin.now }
 {
     match plugin {
         Some(plugin) => Some(plugin.name()),

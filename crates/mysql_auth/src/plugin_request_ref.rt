@@ -1,7 +1,7 @@
 //! What asks a client for a plugin, where it lies.
 #![tactic(auto, using(mysql_wire::proofs::Packets::packets), unfolding(crate::specs::PluginRequest::plugin_request))]
 
-ghost use Rattle.std.specs.Prelude.{◌≡◌};
+ghost use Rattle.std.specs.Prelude.{◌≡◌, ⊤};
 ghost use Rattle.mysql_auth.specs.AuthPlugin.{plugin_of};
 ghost use Rattle.mysql_auth.specs.EofName.{without_last_zero};
 ghost use Rattle.mysql_auth.specs.PluginRequest as spec;
@@ -83,6 +83,8 @@ impl<'a, T, const HEADER: u8> PluginRequestRef<'a, T, HEADER> {
 
 impl<T, const HEADER: u8> Clone for PluginRequestRef<'_, T, HEADER> {
     ghost is_clone = { λ p copy. copy ≡ p };
+
+    ghost is_infallible = { λ _. ⊤ };
 
     fn clone(&self) -> Result<Self, AllocError> {
         Ok(PluginRequestRef {

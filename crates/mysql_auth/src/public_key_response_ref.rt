@@ -1,7 +1,7 @@
 //! A server's public key, where it lies.
 #![tactic(auto, using(mysql_wire::proofs::Packets::packets), unfolding(crate::specs::PublicKeyResponse::public_key_response))]
 
-ghost use Rattle.std.specs.Prelude.{◌≡◌};
+ghost use Rattle.std.specs.Prelude.{◌≡◌, ⊤};
 ghost use Rattle.mysql_auth.specs.PublicKeyResponse as spec;
 ghost use Rattle.mysql_auth.specs.declared.public_key_response.PublicKeyResponse.{PublicKeyResponse};
 ghost use Rattle.mysql_auth.specs.PublicKeyResponse.{response_of};
@@ -48,6 +48,8 @@ impl<'a> PublicKeyResponseRef<'a> {
 
 impl Clone for PublicKeyResponseRef<'_> {
     ghost is_clone = { λ p copy. copy ≡ p };
+
+    ghost is_infallible = { λ _. ⊤ };
 
     fn clone(&self) -> Result<Self, AllocError> {
         Ok(PublicKeyResponseRef {

@@ -12,7 +12,7 @@ use Rattle.mysql_wire.specs.declared.codes.server_command.ServerCommand.TheVaria
 use Rattle.mysql_wire.specs.Writing.{le_bytes}
 use Rattle.mysql_wire.specs.declared.int.RawInt.{RawInt}
 use Rattle.mysql_wire.specs.declared.little_endian.LeU32.{LeU32}
-use Rattle.mysql_auth.specs.ComChangeUser.{change_user}
+use Rattle.mysql_auth.specs.ComChangeUser.{change_user_as_sent}
 use Rattle.mysql_repl.specs.BinlogDumpGtid.{gtid_dump}
 use Rattle.mysql_commands.specs.After.{after_form, byte_left, code_bytes}
 use Rattle.mysql_commands.specs.AsSent.{as_sent_form}
@@ -97,7 +97,7 @@ named-exact c (Some name.COM_DEBUG) v b bs rest e h s = rw (← s.1) (after-exac
 named-exact c (Some name.COM_PING) v b bs rest e h s = rw (← s.1) (after-exact (give {A = Unit {0}} tt) (λ u. []) nothing-exact name.COM_PING b bs e s.0 rest h s.2)
 named-exact c (Some name.COM_TIME) v b bs rest e h s = rw (← s.1) (unknown-exact s.0 (b ∷ bs) rest h s.2)
 named-exact c (Some name.COM_DELAYED_INSERT) v b bs rest e h s = rw (← s.1) (unknown-exact s.0 (b ∷ bs) rest h s.2)
-named-exact c (Some name.COM_CHANGE_USER) v b bs rest e h s = rw (← s.1) (sent-exact (change_user.form c) s.0 (b ∷ bs) rest s.2)
+named-exact c (Some name.COM_CHANGE_USER) v b bs rest e h s = rw (← s.1) (sent-exact (change_user_as_sent.form c) s.0 (b ∷ bs) rest s.2)
 named-exact c (Some name.COM_BINLOG_DUMP) v b bs rest e h s = rw (← s.1) (binlog_dump-exact s.0 (b ∷ bs) rest h s.2)
 named-exact c (Some name.COM_TABLE_DUMP) v b bs rest e h s = rw (← s.1) (table_dump-exact s.0 (b ∷ bs) rest h s.2)
 named-exact c (Some name.COM_CONNECT_OUT) v b bs rest e h s = rw (← s.1) (unknown-exact s.0 (b ∷ bs) rest h s.2)

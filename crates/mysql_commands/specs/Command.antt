@@ -8,7 +8,7 @@ use Rattle.mysql_wire.specs.Int.{raw_int}
 use Rattle.mysql_wire.specs.ServerCommand.{server_command_of}
 use Rattle.mysql_wire.specs.declared.codes.server_command.ServerCommand.{ServerCommand}
 use Rattle.mysql_wire.specs.declared.codes.server_command.ServerCommand.TheVariants as name
-use Rattle.mysql_auth.specs.ComChangeUser.{change_user}
+use Rattle.mysql_auth.specs.ComChangeUser.{change_user_as_sent}
 use Rattle.mysql_prepared.specs.Close.{close}
 use Rattle.mysql_prepared.specs.LongData.{long_data}
 use Rattle.mysql_repl.specs.BinlogDump.{binlog_dump}
@@ -48,7 +48,7 @@ command_named c (Some name.COM_PROCESS_INFO) = reads_as (fixed name.COM_PROCESS_
 command_named c (Some name.COM_PROCESS_KILL) = reads_as (one_number name.COM_PROCESS_KILL) c (λ id. variant.ProcessKill id.0)
 command_named c (Some name.COM_DEBUG) = reads_as (fixed name.COM_DEBUG) c (λ u. variant.Debug)
 command_named c (Some name.COM_PING) = reads_as (fixed name.COM_PING) c (λ u. variant.Ping)
-command_named c (Some name.COM_CHANGE_USER) = reads_as (command_as_sent name.COM_CHANGE_USER change_user.form) c variant.ChangeUser
+command_named c (Some name.COM_CHANGE_USER) = reads_as (command_as_sent name.COM_CHANGE_USER change_user_as_sent.form) c variant.ChangeUser
 command_named c (Some name.COM_BINLOG_DUMP) = reads_as (without_context binlog_dump) c variant.BinlogDump
 command_named c (Some name.COM_TABLE_DUMP) = reads_as (without_context table_dump) c variant.TableDump
 command_named c (Some name.COM_REGISTER_SLAVE) = reads_as (without_context register_slave) c variant.RegisterSlave
@@ -98,7 +98,7 @@ written variant.ProcessInfo = written_by (fixed name.COM_PROCESS_INFO) tt
 written (variant.ProcessKill id) = written_by (one_number name.COM_PROCESS_KILL) (raw_int id)
 written variant.Debug = written_by (fixed name.COM_DEBUG) tt
 written variant.Ping = written_by (fixed name.COM_PING) tt
-written (variant.ChangeUser p) = written_by (command_as_sent name.COM_CHANGE_USER change_user.form) p
+written (variant.ChangeUser p) = written_by (command_as_sent name.COM_CHANGE_USER change_user_as_sent.form) p
 written (variant.BinlogDump p) = written_by (without_context binlog_dump) p
 written (variant.TableDump p) = written_by (without_context table_dump) p
 written (variant.RegisterSlave p) = written_by (without_context register_slave) p

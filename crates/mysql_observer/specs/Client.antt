@@ -1,7 +1,7 @@
 -- A packet of the client: which grammar reads it, by its kind.
 use Rattle.std.specs.Prelude.{Option}
 use Rattle.mysql_wire.specs.Form.{Form, all_left, give, map}
-use Rattle.mysql_auth.specs.HandshakeResponse.{handshake_response}
+use Rattle.mysql_auth.specs.HandshakeResponse.{handshake_response_as_sent}
 use Rattle.mysql_auth.specs.SslRequest.{ssl_request}
 use Rattle.mysql_commands.specs.Command.{command}
 use Rattle.mysql_repl.specs.SemiSyncAck.{semi_sync_ack}
@@ -14,7 +14,7 @@ use Rattle.mysql_observer.specs.declared.client.ClientPacket.TheVariants as vari
 
 abbrev pub client_packet : Option SessionCapabilities → Kind → Form ClientPacket
 client_packet agreed kind.SslRequest = map variant.SslRequest (ssl_request.form tt)
-client_packet agreed kind.Login = map variant.Login (handshake_response.form tt)
+client_packet agreed kind.Login = map variant.Login (handshake_response_as_sent.form tt)
 client_packet agreed kind.AuthData = map variant.AuthData all_left
 client_packet agreed (kind.Command code) = map variant.Command (command (agreed_or_none agreed).mysql)
 client_packet agreed kind.InfileContent = map variant.InfileContent all_left

@@ -4,7 +4,6 @@ use Rattle.std.specs.List.{list_all, list_any}
 use Rattle.std.specs.Prelude.{List, [], ◌∷◌, ◌++◌, ℕ, Bool, ◌&&◌, drop, if◌then◌else◌, map, nat_eq, take, ◌≡◌, Ok, Err, Option, None, Some}
 use Rattle.std.specs.Str.{is_utf8}
 use Rattle.mysql_auth.specs.Attributes.{Attribute, merged}
-use Rattle.mysql_auth.specs.ConnectAttributesRef.{pairs_in}
 use Rattle.mysql_wire.specs.Reading.{Reading}
 use Rattle.mysql_packets_c.specs.Code.{kind_code}
 use Rattle.mysql_packets_c.specs.declared.attributes.CAttribute.{CAttribute}
@@ -55,10 +54,6 @@ firsts_from place attributes = firsts (pairs_of (take place attributes)) (pairs_
 abbrev pub with_pair : Option Attribute → List Attribute → List Attribute
 with_pair None pairs = pairs
 with_pair (Some p) pairs = p ∷ pairs
-
--- the attributes that stand in these bytes
-abbrev pub attributes_in : List ℕ → List Attribute
-attributes_in bytes = merged (pairs_in bytes)
 
 -- the first pair, and the bytes after it; or the code of the first fault, and all is as it was
 abbrev pub NextInto : Reading Attribute → (code : ℕ) (rest_old rest_new name_old name_new value_old value_new : CBytes) → Type 0

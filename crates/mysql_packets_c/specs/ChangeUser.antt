@@ -4,11 +4,12 @@ use Rattle.mysql_wire.specs.FlagMasks.{CLIENT_CONNECT_ATTRS, CLIENT_PLUGIN_AUTH}
 use Rattle.mysql_wire.specs.Flags.{has}
 use Rattle.mysql_auth.specs.Attributes.{Attribute}
 use Rattle.mysql_auth.specs.AuthPlugin.{plugin_of}
+use Rattle.mysql_auth.specs.ConnectAttributesRef.{pairs_in}
 use Rattle.mysql_auth.specs.declared.auth_plugin.AuthPlugin.{AuthPlugin}
 use Rattle.mysql_auth.specs.ComChangeUser as change
 use Rattle.mysql_auth.specs.declared.com_change_user.ComChangeUser.{ComChangeUser}
 use Rattle.mysql_auth.specs.declared.com_change_user_more_data.ComChangeUserMoreData.{ComChangeUserMoreData}
-use Rattle.mysql_packets_c.specs.Attributes.{are_texts, attributes_in, merged_pairs}
+use Rattle.mysql_packets_c.specs.Attributes.{are_texts, merged_pairs}
 use Rattle.mysql_packets_c.specs.Given.{SaysSent, if_set}
 use Rattle.mysql_packets_c.specs.Input.{used_of}
 use Rattle.mysql_packets_c.specs.declared.attributes.CAttribute.{CAttribute}
@@ -44,7 +45,7 @@ change_texts capabilities given c = not (sends_attributes capabilities c) || are
 abbrev pub more_held : CChangeUser → Option ComChangeUserMoreData
 more_held out =
     if out.has_character_set == 0 then None
-    else Some (change.more_data_of out.character_set (option_map plugin_of (if_set out.has_auth_plugin_name out.auth_plugin_name.now)) (option_map attributes_in (if_set out.has_attributes out.attributes.now)))
+    else Some (change.more_data_of out.character_set (option_map plugin_of (if_set out.has_auth_plugin_name out.auth_plugin_name.now)) (option_map pairs_in (if_set out.has_attributes out.attributes.now)))
 
 -- 1 beside what was sent; or 0, beside nothing
 pub record SaysMore (out : CChangeUser) : Type 0 where

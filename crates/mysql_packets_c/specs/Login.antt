@@ -2,11 +2,12 @@
 use Rattle.std.specs.Int.{bit_at}
 use Rattle.std.specs.Prelude.{◌≡◌, ◌≢◌, ◌<◌, ℕ, Bool, ◌==◌, ◌||◌, List, option_map}
 use Rattle.mysql_auth.specs.AuthPlugin.{plugin_of}
+use Rattle.mysql_auth.specs.ConnectAttributesRef.{pairs_in}
 use Rattle.mysql_auth.specs.HandshakeResponse as response
 use Rattle.mysql_auth.specs.declared.handshake_response.HandshakeResponse.{HandshakeResponse}
 use Rattle.mysql_wire.specs.FlagMasks.{CLIENT_CONNECT_WITH_DB, CLIENT_PLUGIN_AUTH, CLIENT_CONNECT_ATTRS}
 use Rattle.mysql_wire.specs.Flags.{has}
-use Rattle.mysql_packets_c.specs.Attributes.{attributes_in, are_texts, merged_pairs}
+use Rattle.mysql_packets_c.specs.Attributes.{are_texts, merged_pairs}
 use Rattle.mysql_packets_c.specs.Given.{SaysSent, if_set, is_set}
 use Rattle.mysql_packets_c.specs.Input.{used_of}
 use Rattle.mysql_packets_c.specs.declared.attributes.CAttribute.{CAttribute}
@@ -44,7 +45,7 @@ pub record HoldsLogin (packet : List ℕ) (p : HandshakeResponse) (rest : List �
   pub has_database : SaysSent out.has_database out.database.now
   pub auth_plugin_name : option_map plugin_of (if_set out.has_auth_plugin_name out.auth_plugin_name.now) ≡ response.auth_plugin p
   pub has_auth_plugin_name : SaysSent out.has_auth_plugin_name out.auth_plugin_name.now
-  pub attributes : option_map attributes_in (if_set out.has_attributes out.attributes.now) ≡ response.connect_attributes p
+  pub attributes : option_map pairs_in (if_set out.has_attributes out.attributes.now) ≡ response.connect_attributes p
   pub has_attributes : SaysSent out.has_attributes out.attributes.now
   pub zstd_level : if_set out.has_zstd_level out.zstd_level ≡ response.zstd_level p
   pub capabilities : out.capabilities ≡ (response.capabilities p).0

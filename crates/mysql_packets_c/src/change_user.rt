@@ -3,7 +3,9 @@
 
 ghost use Rattle.std.specs.Prelude.{false, ◌≡◌, true, option_map, None};
 ghost use Rattle.mysql_auth.specs.ComChangeUser as change;
-ghost use Rattle.mysql_auth.specs.ComChangeUser.{change_user};
+ghost use Rattle.mysql_auth.specs.ComChangeUser.{change_user_as_sent, session_change_user};
+ghost use Rattle.mysql_wire.specs.FlagMasks.{CLIENT_CONNECT_ATTRS, CLIENT_PLUGIN_AUTH};
+ghost use Rattle.mysql_wire.specs.Flags.{has};
 ghost use Rattle.mysql_packets_c.specs.ChangeUser as spec;
 ghost use Rattle.mysql_packets_c.specs.ChangeUser.{change_of};
 ghost use Rattle.mysql_packets_c.specs.Code.{ReadsInto};
@@ -72,7 +74,7 @@ pub extern "C" fn myp_read_change_user<'a>(
     capabilities: u32,
     out: &mut CChangeUser<'a>,
 ) -> u32
-    ensures value { ReadsInto (spec.HoldsChange packet.now) ((change_user.form (record { 0 = capabilities; 1 = record {} })).reads packet.now) result out.old out.new }
+    ensures value { ReadsInto (spec.HoldsChange packet.now) ((change_user_as_sent.form (record { 0 = capabilities; 1 = record {} })).reads packet.now) result out.old out.new }
 {
     let capabilities = CapabilityFlags::from_bits_retain(capabilities);
     match read::<ComChangeUserRef<'a>>(alloc, packet, capabilities) {
@@ -117,6 +119,16 @@ fn sends_texts(
     !sends_attributes(capabilities, change) || are_texts(attributes)
 }
 
+/// The same flags, without that of attributes.
+#[tactic(auto)]
+fn without_attributes(mut capabilities: CapabilityFlags) -> CapabilityFlags
+    ensures plugin { has result.0 CLIENT_PLUGIN_AUTH ≡ has capabilities.0 CLIENT_PLUGIN_AUTH }
+    ensures attributes { has result.0 CLIENT_CONNECT_ATTRS ≡ false }
+{
+    capabilities.set(CapabilityFlags::CLIENT_CONNECT_ATTRS, false);
+    capabilities
+}
+
 /// What follows the schema, without attributes.
 fn more_data_of<'a>(
     capabilities: CapabilityFlags,
@@ -154,7 +166,7 @@ pub extern "C" fn myp_write_change_user(
     written: &mut usize,
 ) -> u32
     ensures refused { spec.change_texts capabilities attributes.now change.now ≡ false → (result ≡ 3) × (out.new ≡ out.old) × (written.new ≡ 0) }
-    ensures value { spec.change_texts capabilities attributes.now change.now ≡ true → PutsUnlessTooLong (change_user.bytes (change_of capabilities attributes.now change.now)) result out.old out.new written.new }
+    ensures value { spec.change_texts capabilities attributes.now change.now ≡ true → PutsUnlessTooLong ((session_change_user (record { 0 = capabilities; 1 = record {} })).bytes (change_of capabilities attributes.now change.now)) result out.old out.new written.new }
 {
     let capabilities = capabilities_of(capabilities);
     if !sends_texts(capabilities, change, attributes) {
@@ -163,8 +175,9 @@ pub extern "C" fn myp_write_change_user(
     }
     let before = packet_of(capabilities, change);
     if !sends_attributes(capabilities, change) {
-        return put_packet(&before, out, written);
+        return put_packet(&before.for_session(capabilities), out, written);
     }
+    let before = before.for_session(without_attributes(capabilities));
     let attributes = WrittenAttributes(attributes);
     put_packet(&parts!(before, attributes), out, written)
 }

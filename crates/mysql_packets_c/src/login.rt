@@ -4,11 +4,11 @@
 ghost use Rattle.std.specs.Cow.{cow_slice_items};
 ghost use Rattle.std.specs.Option.{option_map_or};
 ghost use Rattle.std.specs.Prelude.{false, ◌≡◌, map, option_map, true, [], List};
-ghost use Rattle.mysql_auth.specs.Attributes.{merged, text_pair};
+ghost use Rattle.mysql_auth.specs.Attributes.{text_pair};
 ghost use Rattle.mysql_auth.specs.AuthPlugin.{plugin_of};
-ghost use Rattle.mysql_auth.specs.HandshakeResponse.{connect_attributes, handshake_response};
+ghost use Rattle.mysql_auth.specs.ConnectAttributesRef.{pairs_in};
+ghost use Rattle.mysql_auth.specs.HandshakeResponse.{connect_attributes, handshake_response, handshake_response_as_sent};
 ghost use Rattle.mysql_auth.specs.declared.handshake_response.HandshakeResponse.{HandshakeResponse};
-ghost use Rattle.mysql_packets_c.specs.Attributes.{attributes_in};
 ghost use Rattle.mysql_packets_c.specs.Code.{ReadsInto};
 ghost use Rattle.mysql_packets_c.specs.Given.{SaysSent, if_set};
 ghost use Rattle.mysql_packets_c.specs.Login.{HoldsLogin, IsLogin, login_texts, with_attributes};
@@ -60,7 +60,7 @@ pub(crate) fn sent<'a>(bytes: Option<&'a [u8]>) -> (u8, &'a [u8])
 
 /// Whether attributes were sent, and their bytes.
 pub(crate) fn sent_attributes<'a>(attributes: Option<ConnectAttributesRef<'a>>) -> (u8, &'a [u8])
-    ensures value { option_map attributes_in (if_set result.0 result.1.now) ≡ option_map merged attributes.entry }
+    ensures value { option_map pairs_in (if_set result.0 result.1.now) ≡ attributes.entry }
     ensures says { SaysSent result.0 result.1.now }
 {
     match attributes {
@@ -104,7 +104,7 @@ fn written_level(login: &CLogin<'_>) -> Option<RawInt<u8>>
 /// Reads `Protocol::HandshakeResponse41`: 0; or 1 or 2, and the struct is as it was.
 #[unsafe(no_mangle)]
 pub extern "C" fn myp_read_login<'a>(alloc: Global, packet: &'a [u8], out: &mut CLogin<'a>) -> u32
-    ensures value { ReadsInto (HoldsLogin packet.now) ((handshake_response.form tt).reads packet.now) result out.old out.new }
+    ensures value { ReadsInto (HoldsLogin packet.now) ((handshake_response_as_sent.form tt).reads packet.now) result out.old out.new }
 {
     match read::<HandshakeResponseRef<'a>>(alloc, packet, ()) {
         Ok((found, used)) => {

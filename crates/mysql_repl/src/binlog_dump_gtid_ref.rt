@@ -1,7 +1,7 @@
 //! The request for a binary log without the transactions of a GTID set, where it lies.
 #![tactic(auto, using(mysql_wire::proofs::Packets::packets), unfolding(crate::specs::BinlogDumpGtid::gtid_dump))]
 
-ghost use Rattle.std.specs.Prelude.{false, ◌≡◌, [], IfOk, IsOk};
+ghost use Rattle.std.specs.Prelude.{false, ◌≡◌, [], IfOk, IsOk, ⊤};
 ghost use Rattle.mysql_repl.specs.BinlogDumpGtid as spec;
 
 use crate::binlog_dump_gtid::{ComBinlogDumpGtid, of_parts, read_head};
@@ -91,6 +91,8 @@ impl<'a> ComBinlogDumpGtidRef<'a> {
 
 impl Clone for ComBinlogDumpGtidRef<'_> {
     ghost is_clone = { λ p copy. copy ≡ p };
+
+    ghost is_infallible = { λ _. ⊤ };
 
     fn clone(&self) -> Result<Self, AllocError> {
         Ok(ComBinlogDumpGtidRef {

@@ -1,7 +1,7 @@
 //! The request for a binary log from a position, where it lies.
 #![tactic(auto, using(mysql_wire::proofs::Packets::packets), unfolding(crate::specs::BinlogDump::binlog_dump, mysql_wire::specs::Int::raw, mysql_wire::specs::ConstantValue::coded))]
 
-ghost use Rattle.std.specs.Prelude.{◌≡◌};
+ghost use Rattle.std.specs.Prelude.{◌≡◌, ⊤};
 ghost use Rattle.mysql_repl.specs.BinlogDump as spec;
 
 use crate::binlog_dump::{ComBinlogDump, ComBinlogDumpHeader};
@@ -82,6 +82,8 @@ impl<'a> ComBinlogDumpRef<'a> {
 
 impl Clone for ComBinlogDumpRef<'_> {
     ghost is_clone = { λ p copy. copy ≡ p };
+
+    ghost is_infallible = { λ _. ⊤ };
 
     fn clone(&self) -> Result<Self, AllocError> {
         Ok(ComBinlogDumpRef {

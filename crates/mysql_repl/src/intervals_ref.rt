@@ -1,7 +1,7 @@
 //! The intervals of a sid, where they lie.
 #![tactic(auto, using(mysql_wire::proofs::Packets::packets))]
 
-ghost use Rattle.std.specs.Prelude.{false, [], ◌≡◌, length, option_map, refl, IfOk, IsOk};
+ghost use Rattle.std.specs.Prelude.{false, [], ◌≡◌, length, option_map, refl, IfOk, IsOk, ⊤};
 ghost use Rattle.std.specs.Cmp.Lexicographic.{pointwise};
 ghost use Rattle.mysql_wire.specs.Int.{le_u64, number_of};
 ghost use Rattle.mysql_wire.specs.Reading.{Answers};
@@ -147,6 +147,8 @@ fn give_the_same(one: &IntervalsRef<'_>, other: &IntervalsRef<'_>) -> bool
 
 impl Clone for IntervalsRef<'_> {
     ghost is_clone = { λ p copy. copy ≡ p };
+
+    ghost is_infallible = { λ _. ⊤ };
 
     fn clone(&self) -> Result<Self, AllocError> {
         Ok(self.iter())

@@ -1,7 +1,7 @@
 //! The registration of a replica, where it lies.
 #![tactic(auto, using(mysql_wire::proofs::Packets::packets), unfolding(crate::specs::RegisterSlave::register_slave))]
 
-ghost use Rattle.std.specs.Prelude.{false, ◌≡◌, OnErr};
+ghost use Rattle.std.specs.Prelude.{false, ◌≡◌, OnErr, ⊤};
 ghost use Rattle.mysql_wire.specs.Reading.{Answers, IsTail};
 ghost use Rattle.mysql_repl.specs.RegisterSlave as spec;
 
@@ -149,6 +149,8 @@ fn read_end<'s>(
 
 impl Clone for ComRegisterSlaveRef<'_> {
     ghost is_clone = { λ p copy. copy ≡ p };
+
+    ghost is_infallible = { λ _. ⊤ };
 
     fn clone(&self) -> Result<Self, AllocError> {
         Ok(ComRegisterSlaveRef {

@@ -1,7 +1,7 @@
 //! A server's transactions, where they lie.
 #![tactic(auto, using(mysql_wire::proofs::Packets::packets), unfolding(crate::specs::Sid::sid, crate::specs::Sid::tagged_sid))]
 
-ghost use Rattle.std.specs.Prelude.{false, ◌≡◌, [], option_map, IfOk, IsOk, OnErr};
+ghost use Rattle.std.specs.Prelude.{false, ◌≡◌, [], option_map, IfOk, IsOk, OnErr, ⊤};
 ghost use Rattle.mysql_wire.specs.Reading.{Answers};
 ghost use Rattle.mysql_repl.specs.Sid as spec;
 
@@ -109,6 +109,8 @@ pub(crate) fn read_sid_ref<'s, 'a>(
 
 impl Clone for SidRef<'_> {
     ghost is_clone = { λ p copy. copy ≡ p };
+
+    ghost is_infallible = { λ _. ⊤ };
 
     fn clone(&self) -> Result<Self, AllocError> {
         let tag = match &self.tag {

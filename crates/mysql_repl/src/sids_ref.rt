@@ -1,7 +1,7 @@
 //! The sids of a dump, where they lie.
 #![tactic(auto, using(mysql_wire::proofs::Packets::packets))]
 
-ghost use Rattle.std.specs.Prelude.{false, [], ◌≡◌, length, option_map, IfOk, IsOk};
+ghost use Rattle.std.specs.Prelude.{false, [], ◌≡◌, length, option_map, IfOk, IsOk, ⊤};
 ghost use Rattle.std.specs.Cmp.Lexicographic.{pointwise};
 ghost use Rattle.mysql_wire.specs.Reading.{Answers};
 ghost use Rattle.mysql_wire.specs.Seq.{counted};
@@ -125,11 +125,17 @@ impl<'a> SidsRef<'a> {
         self.count
     }
 
-    /// The bytes of those that are left, after their head, and whether they are in the form with tags.
+    /// The bytes of those that are left, after their head, and whether they are in the form with tags. Where none is left, the
+    /// form is the one without.
     #[inline]
+    #[tactic(auto, using(mysql_wire::proofs::Packets::packets, crate::proofs::InPlace::standing))]
     pub fn as_bytes(&self) -> (&'a [u8], bool)
         ensures value { StandIn ((sid_as result.1).form tt) (length self.now) result.0.now self.now }
+        ensures none { self.now ≡ [] → result.1 ≡ false }
     {
+        if self.count == 0 {
+            return (&[], false);
+        }
         let mut bytes = self.bytes.rest();
         (bytes.eat(self.len), self.tagged)
     }
@@ -180,6 +186,8 @@ fn give_the_same(one: &SidsRef<'_>, other: &SidsRef<'_>) -> bool
 
 impl Clone for SidsRef<'_> {
     ghost is_clone = { λ p copy. copy ≡ p };
+
+    ghost is_infallible = { λ _. ⊤ };
 
     fn clone(&self) -> Result<Self, AllocError> {
         Ok(self.iter())

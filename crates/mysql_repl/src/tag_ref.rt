@@ -1,6 +1,6 @@
 //! A tag that stays in its packet.
 
-ghost use Rattle.std.specs.Prelude.{◌≡◌, Some, None, IfOk, IfErr};
+ghost use Rattle.std.specs.Prelude.{◌≡◌, Some, None, IfOk, IfErr, ⊤};
 ghost use Rattle.mysql_repl.specs.Tag.{IsTag, tag_fault};
 
 use crate::tag::{InvalidTag, Tag, fault_in};
@@ -59,6 +59,8 @@ impl<'a> TagRef<'a> {
 
 impl Clone for TagRef<'_> {
     ghost is_clone = { λ p copy. copy ≡ p };
+
+    ghost is_infallible = { λ _. ⊤ };
 
     fn clone(&self) -> Result<Self, AllocError> {
         Ok(TagRef { text: self.text })

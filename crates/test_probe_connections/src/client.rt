@@ -163,6 +163,60 @@ pub fn make_change_user(out: &mut Out, request: &Request<'_>) -> Result {
     Ok(())
 }
 
+/// Writes a record as its session does, and reads that again.
+fn write_in_session<'a, T, S>(out: &mut Out, record: &T, session: &S, request: &'a Request<'_>)
+where
+    T: MyDeserialize<'a, Ctx = CapabilityFlags> + PartialEq + Drop,
+    S: MySerialize,
+{
+    if let Some(written) = write(out, session, request.bytes.as_slice()) {
+        again(
+            out,
+            record,
+            request.keep(written),
+            request.capabilities(),
+        );
+    }
+}
+
+/// A change of user that is read and written by the same flags.
+pub fn session_change_user(out: &mut Out, request: &Request<'_>) {
+    let capabilities = request.capabilities();
+    if let Some(change) = record::<ComChangeUser<'_>>(out, request, capabilities) {
+        out.word("read");
+        write_in_session(out, &change, &change.for_session(capabilities), request);
+    }
+}
+
+/// What a change of user tells besides, read and written by the same flags.
+pub fn session_more_data(out: &mut Out, request: &Request<'_>) {
+    let capabilities = request.capabilities();
+    if let Some(more) = record::<ComChangeUserMoreData<'_>>(out, request, capabilities) {
+        out.word("read");
+        write_in_session(out, &more, &more.for_session(capabilities), request);
+    }
+}
+
+/// A change of user that is made of words, written by the flags and read again.
+pub fn make_session_change(out: &mut Out, request: &Request<'_>) -> Result {
+    let alloc = out.alloc();
+    let attributes = words::attributes(alloc, request.word(7))?;
+    let more = counted!(alloc; more_of(alloc, request, attributes));
+    if let Some(more) = out.made(more) {
+        let change = change_of(request, more);
+        let session = change.for_session(request.capabilities());
+        if let Some(written) = write(out, &session, b"") {
+            again(
+                out,
+                &change,
+                request.keep(written),
+                request.capabilities(),
+            );
+        }
+    }
+    Ok(())
+}
+
 fn change_of<'a>(request: &Request<'a>, more: More<'a>) -> ComChangeUser<'a> {
     ComChangeUser::new()
         .with_user(words::borrowed(request.word(2)))

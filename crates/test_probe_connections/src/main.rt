@@ -37,6 +37,8 @@ fn of_authentication(out: &mut Out, request: &Request<'_>) -> bool {
             "more_data": ComChangeUserMoreData<'_>, ComChangeUserMoreDataRef<'_>,
         call "version": handshake::version, "make_handshake": handshake::make, "supported": handshake::supported,
             "make_response": client::make_response, "make_change_user": client::make_change_user, "tls_of": client::tls_of,
+            "make_session_change": client::make_session_change, "session_change_user": client::session_change_user,
+            "session_more_data": client::session_more_data,
             "make_switch": plugins::make_switch, "make_factor": plugins::make_factor, "auth_reply": reply::read_reply,
             "debug_response": borrowed::debug_response, "make_tls": plugins::make_tls, "add_data": plugins::add_data,
             "parsec": plugins::parsec, "plugin_data": plugins::plugin_data,)

@@ -1,5 +1,5 @@
 //! Records that stay in their packet are read as the records that they are forms of.
-#![tactic(auto)]
+#![tactic(auto, using(crate::proofs::ChangeRead::changes_once, crate::proofs::ResponseRead::responses_once))]
 
 ghost use Rattle.std.specs.Prelude.{◌≡◌, ℕ, List};
 ghost use Rattle.mysql_wire.specs.Flags.{CapabilityFlags};
@@ -7,9 +7,11 @@ ghost use Rattle.mysql_auth.specs.Attributes.{attribute};
 ghost use Rattle.mysql_auth.specs.AuthMoreData.{auth_more_data};
 ghost use Rattle.mysql_auth.specs.AuthNextFactor.{auth_next_factor};
 ghost use Rattle.mysql_auth.specs.AuthSwitchRequest.{auth_switch_request};
-ghost use Rattle.mysql_auth.specs.ComChangeUser.{change_user, more_data};
+ghost use Rattle.mysql_auth.specs.ComChangeUser.{change_user, more_data, more_with_each_key_once};
+ghost use Rattle.mysql_auth.specs.ComChangeUser.{with_each_key_once as change_with_each_key_once};
 ghost use Rattle.mysql_auth.specs.Handshake.{handshake};
-ghost use Rattle.mysql_auth.specs.HandshakeResponse.{handshake_response};
+ghost use Rattle.mysql_auth.specs.HandshakeResponse.{handshake_response, with_each_key_once};
+ghost use Rattle.mysql_wire.specs.Form.{map};
 ghost use Rattle.mysql_auth.specs.PublicKeyResponse.{public_key_response};
 
 use mysql_wire::MyDeserialize;
@@ -19,19 +21,19 @@ pub fn borrowed_handshakes_read_handshakes()
     ensures read { (bytes : List ℕ) → (⟦<crate::handshake_ref::HandshakePacketRef<'static> as MyDeserialize<'static>>⟧.form tt).reads bytes ≡ (handshake.form tt).reads bytes }
 {}
 
-/// So is a response to a handshake.
+/// So is a response to a handshake, with each key once among its attributes.
 pub fn borrowed_handshake_responses_read_handshake_responses()
-    ensures read { (bytes : List ℕ) → (⟦<crate::handshake_response_ref::HandshakeResponseRef<'static> as MyDeserialize<'static>>⟧.form tt).reads bytes ≡ (handshake_response.form tt).reads bytes }
+    ensures read { (bytes : List ℕ) → (map with_each_key_once (⟦<crate::handshake_response_ref::HandshakeResponseRef<'static> as MyDeserialize<'static>>⟧.form tt)).reads bytes ≡ (handshake_response.form tt).reads bytes }
 {}
 
-/// So is a change of user.
+/// So is a change of user, with each key once among its attributes.
 pub fn borrowed_changes_of_user_read_changes_of_user()
-    ensures read { (c : CapabilityFlags) (bytes : List ℕ) → (⟦<crate::com_change_user_ref::ComChangeUserRef<'static> as MyDeserialize<'static>>⟧.form c).reads bytes ≡ (change_user.form c).reads bytes }
+    ensures read { (c : CapabilityFlags) (bytes : List ℕ) → (map change_with_each_key_once (⟦<crate::com_change_user_ref::ComChangeUserRef<'static> as MyDeserialize<'static>>⟧.form c)).reads bytes ≡ (change_user.form c).reads bytes }
 {}
 
-/// So is what a change of user tells besides.
+/// So is what a change of user tells besides, with each key once among its attributes.
 pub fn borrowed_more_data_reads_more_data()
-    ensures read { (c : CapabilityFlags) (bytes : List ℕ) → (⟦<crate::com_change_user_more_data_ref::ComChangeUserMoreDataRef<'static> as MyDeserialize<'static>>⟧.form c).reads bytes ≡ (more_data.form c).reads bytes }
+    ensures read { (c : CapabilityFlags) (bytes : List ℕ) → (map more_with_each_key_once (⟦<crate::com_change_user_more_data_ref::ComChangeUserMoreDataRef<'static> as MyDeserialize<'static>>⟧.form c)).reads bytes ≡ (more_data.form c).reads bytes }
 {}
 
 /// So is a switch to another plugin.

@@ -5,7 +5,7 @@
 
 ghost use Rattle.std.specs.Prelude.{◌≡◌, ◌++◌, ℕ, List, Some};
 ghost use Rattle.mysql_auth.specs.Attributes.{Attribute, merged};
-ghost use Rattle.mysql_auth.specs.ComChangeUser.{change_user, connect_attributes, more_data, ChangeUserPartsFit, MoreDataPartsFit};
+ghost use Rattle.mysql_auth.specs.ComChangeUser.{change_user, connect_attributes, more_data, session_change_user, session_more_data, ChangeUserPartsFit, MoreDataPartsFit, SessionChangeUserPartsFit, SessionMoreDataPartsFit};
 ghost use Rattle.mysql_auth.specs.Handshake.{handshake, HandshakePartsFit};
 ghost use Rattle.mysql_auth.specs.HandshakeResponse.{handshake_response, ResponsePartsFit};
 ghost use Rattle.mysql_auth.specs.SslRequest.{ssl_request};
@@ -52,17 +52,21 @@ pub fn more_data_keys_stand_once(given: &ComChangeUserMoreData<'_>)
     given.keys_stand_once();
 }
 
-/// What is written of this more data is read again, under the flags that both sides know, where its parts fit.
+/// What is written of this more data is read again, under the flags that both sides know, where its parts fit. So is what a
+/// session writes.
 pub fn this_more_data_round_trips(capabilities: CapabilityFlags, given: &ComChangeUserMoreData<'_>)
     ensures spelled { (rest : List ℕ) → MoreDataPartsFit capabilities given.now → (more_data.form capabilities).Spells given.now (more_data.bytes given.now ++ rest) rest }
+    ensures session { (rest : List ℕ) → SessionMoreDataPartsFit capabilities given.now → (more_data.form capabilities).Spells given.now ((session_more_data capabilities).bytes given.now ++ rest) rest }
 {
     given.width();
     given.keys_stand_once();
 }
 
-/// What is written of this change of user is read again, under the flags that both sides know, where its parts fit.
+/// What is written of this change of user is read again, under the flags that both sides know, where its parts fit. So is
+/// what a session writes.
 pub fn this_change_user_round_trips(capabilities: CapabilityFlags, change: &ComChangeUser<'_>)
     ensures spelled { (rest : List ℕ) → ChangeUserPartsFit capabilities change.now rest → (change_user.form capabilities).Spells change.now (change_user.bytes change.now ++ rest) rest }
+    ensures session { (rest : List ℕ) → SessionChangeUserPartsFit capabilities change.now rest → (change_user.form capabilities).Spells change.now ((session_change_user capabilities).bytes change.now ++ rest) rest }
 {
     change.more_data_is_one();
 }
