@@ -23,6 +23,7 @@ pub use mysql_auth::ComChangeUserMoreDataRef;
 pub use mysql_auth::ComChangeUserRef;
 pub use mysql_auth::ConnectAttributeRef;
 pub use mysql_auth::ConnectAttributesRef;
+pub use mysql_auth::ForSession;
 pub use mysql_auth::HandshakePacket;
 pub use mysql_auth::HandshakePacketRef;
 pub use mysql_auth::HandshakeResponse;

@@ -1,11 +1,16 @@
 -- A login and a change of user end in their attributes.
-use Rattle.std.proofs.Common.{◌≡◌, ◌≢◌, ◌==◌, ◌&&◌, ℕ, Bool, true, false, not, List, [], ◌++◌, Option, Some, None, if◌then◌else◌, append_assoc, refl, subst, sym, ap, ◌∙◌}
+use Rattle.std.proofs.Common.{◌≡◌, ◌≢◌, ◌==◌, ◌&&◌, ℕ, Bool, true, false, not, List, [], ◌∷◌, ◌++◌, Option, Some, None, if◌then◌else◌, append_assoc, refl, subst, sym, ap, ◌∙◌}
 use Rattle.std.proofs.lemmas.Bool.{ne_eqb}
 use Rattle.std.proofs.lemmas.List.{append-nil}
 use Rattle.std.specs.Option.{option_map}
 use Rattle.mysql_auth.proofs.ResponseEnds.{response-ends}
 use Rattle.mysql_auth.specs.Attributes.{Attribute, attributes}
-use Rattle.mysql_auth.specs.ComChangeUser.{change_of, more_data_of, session_change_user, session_last_part, session_more_data}
+use Rattle.mysql_auth.specs.AuthPlugin.{plugin_of}
+use Rattle.mysql_auth.specs.PluginName.{plugin_null}
+use Rattle.mysql_wire.specs.CountedBytes.{u8_string_bytes}
+use Rattle.mysql_wire.specs.Null.{null_bytes}
+use Rattle.mysql_wire.specs.Writing.{le_bytes}
+use Rattle.mysql_auth.specs.ComChangeUser.{asked_bytes, change_of, more_data_of, session_change_user, session_last_part, session_more_data}
 use Rattle.mysql_auth.specs.declared.com_change_user.ComChangeUser.{ComChangeUser}
 use Rattle.mysql_auth.specs.HandshakeResponse.{before_attributes, connect_attributes, handshake_response, level_bytes, zstd_level}
 use Rattle.mysql_auth.specs.declared.auth_plugin.AuthPlugin.{AuthPlugin}
@@ -27,12 +32,17 @@ use Rattle.mysql_packets_c.specs.declared.login.CLogin.{CLogin}
 abbrev session : CapabilityFlags → ComChangeUser → List ℕ
 session flags p = (session_change_user flags).bytes p
 
+joined : (h u a d c n p : List ℕ) → (h ++ (u ++ (a ++ (d ++ ((c ++ (n ++ ([] ++ []))) ++ []))))) ++ (p ++ []) ≡ h ++ (u ++ (a ++ (d ++ ((c ++ (n ++ (p ++ []))) ++ []))))
+joined h u a d c n p = simp (append-nil, append_assoc)
+
 -- What follows the schema ends in the attributes. The other flags are those of a session without attributes.
 more-ends : (flags others : CapabilityFlags) (user auth database : List ℕ) (set : ℕ) (plugin : Option AuthPlugin) (pairs : List Attribute) → has others.0 CLIENT_PLUGIN_AUTH ≡ has flags.0 CLIENT_PLUGIN_AUTH
     → has others.0 CLIENT_CONNECT_ATTRS ≡ false → has flags.0 CLIENT_CONNECT_ATTRS ≡ true
     → session others (change_of user auth database (Some (more_data_of set plugin None))) ++ (attributes.bytes pairs ++ []) ≡ session flags (change_of user auth database (Some (more_data_of set plugin (Some pairs))))
 unfolding session_change_user session_last_part session_more_data
-more-ends flags others user auth database set plugin pairs named none sent = rw (named, none, sent) (simp (append-nil, append_assoc))
+more-ends flags others user auth database set plugin pairs named none sent =
+    rw (named, none, sent)
+    (joined (17 ∷ []) (null_bytes user) (u8_string_bytes auth) (null_bytes database) (le_bytes 2 set) (asked_bytes (has flags.0 CLIENT_PLUGIN_AUTH) (plugin_of []) plugin_null.bytes plugin) (attributes.bytes pairs))
 
 -- attributes are sent after a character set
 has-set : (none has : Bool) → not none && has ≡ true → (none ≡ false) × (has ≡ true)

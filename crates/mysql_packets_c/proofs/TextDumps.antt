@@ -1,5 +1,5 @@
 -- The bytes of a request whose sids a text spells.
-use Rattle.std.proofs.Common.{◌≡◌, ℕ, ◌+◌, ◌-◌, ◌^◌, ◌<◌, List, [], ◌∷◌, ◌++◌, drop, length, map, min, Bool, true, false, refl, sym, ap, ◌∙◌, arith, append_assoc, length-append}
+use Rattle.std.proofs.Common.{◌≡◌, ℕ, ◌+◌, ◌-◌, ◌^◌, ◌<◌, List, [], ◌∷◌, ◌++◌, drop, length, map, min, Option, Some, None, Bool, true, false, refl, sym, ap, ◌∙◌, arith, append_assoc, length-append}
 use Rattle.std.specs.Char.{to_ascii_lowercase}
 use Rattle.std.specs.List.{flat_map}
 use Rattle.std.proofs.lemmas.List.{append-nil, drop-drop, length-map}
@@ -8,14 +8,18 @@ use Rattle.mysql_repl.specs.TagString.{tag_bytes}
 use Rattle.mysql_wire.specs.LittleEndian.{length-le_bytes}
 use Rattle.mysql_wire.specs.Varlen.{varlen_string_bytes}
 use Rattle.mysql_wire.specs.Writing.{le_bytes, saturated}
-use Rattle.mysql_repl.specs.GtidSetEntries.{Entry}
+use Rattle.mysql_repl.specs.GtidSetEntries.{Entry, lower_tag}
 use Rattle.mysql_packets_c.specs.GtidEntries.{entries_block, entries_content, entry_bytes, head_bytes}
 
 pub lower-each : (text : List ℕ) → flat_map (λ c. to_ascii_lowercase c ∷ []) text ≡ map to_ascii_lowercase text
 lower-each [] = refl
 lower-each (c ∷ cs) = ap (λ (l : List ℕ). to_ascii_lowercase c ∷ l) (lower-each cs)
 
-pub ruleset parts = (append-nil, length-map, lower-each)
+pub lower-tag : (tag : Option (List ℕ)) → map to_ascii_lowercase (tag_bytes tag) ≡ tag_bytes (lower_tag tag)
+lower-tag None = refl
+lower-tag (Some text) = refl
+
+pub ruleset parts = (append-nil, length-map, lower-each, lower-tag)
 
 pub block-written : (list : List Entry) (tagged : Bool) (count len head : ℕ) → head ≡ head_for tagged count → len ≡ min (min (saturated (length (flat_map (entry_bytes tagged) list)) + 8) (2 ^ 64 - 1)) 4294967295
     → le_bytes 4 len ++ (le_bytes 8 head ++ (flat_map (entry_bytes tagged) list ++ [])) ≡ entries_block tagged count list

@@ -1,12 +1,12 @@
 -- A request whose sids a text spells is written as that of the sids which are read.
-use Rattle.std.proofs.Common.{◌≡◌, ℕ, ◌+◌, ◌%◌, ◌^◌, List, [], ◌∷◌, ◌++◌, length, map, Option, Result, Ok, Err, Bool, true, false, not, nat_lt, ◌==◌, refl, sym, ap, subst, ◌∙◌, arith, append_assoc}
+use Rattle.std.proofs.Common.{◌≡◌, ℕ, ◌+◌, ◌%◌, ◌^◌, List, [], ◌∷◌, ◌++◌, length, map, Option, Some, None, is_some, Result, Ok, Err, Bool, true, false, not, nat_lt, ◌==◌, refl, sym, ap, subst, ◌∙◌, arith, append_assoc}
 use Rattle.std.specs.List.{flat_map, list_any}
 use Rattle.std.proofs.lemmas.Bool.Decides.{nat_tests}
 use Rattle.std.proofs.lemmas.List.{append-nil}
 use Rattle.mysql_repl.proofs.GtidEntriesRead.{entries-counted, entries-read}
 use Rattle.mysql_repl.specs.BinlogDumpGtid.{gtid_dump, gtid_dump_head}
 use Rattle.mysql_repl.specs.GnoInterval.{interval}
-use Rattle.mysql_repl.specs.GtidSetEntries.{Entry, alone, counts, sids_of, text_entries, with_entry}
+use Rattle.mysql_repl.specs.GtidSetEntries.{Entry, alone, counts, lower_tag, sids_of, text_entries, with_entry}
 use Rattle.mysql_repl.specs.GtidSetText.{Found, read_sids}
 use Rattle.mysql_repl.specs.Sid as sids
 use Rattle.mysql_repl.specs.Sid.{intervals, sid_as}
@@ -53,6 +53,10 @@ sid-first t s n more count =
     ∙ sym (append_assoc (head_bytes t (sids.uuid s) (sids.tag s) (length (intervals s))) (flat_map interval.bytes (intervals s)) more)
     ∙ ap (λ (l : List ℕ). l ++ more) (sym (sid-bytes t s))
 
+there-lower : (tag : Option (List ℕ)) → is_some (lower_tag tag) ≡ is_some tag
+there-lower None = refl
+there-lower (Some text) = refl
+
 step : (x : GtidSetEntry) (more : List Entry) (r : Result Found InvalidSid) → Shown more r → Shown (Ok x ∷ more) (with_entry x r)
 unfolding block.any_tag
 step x more (Err e) h = h
@@ -70,12 +74,12 @@ step (entry.Sid s) more (Ok found) h =
     let its : s.intervals ≡ length found.0 = cc in
     let others : counts more ≡ lengths found.1 = cc in
     let m = h others in
-    let one : Sid = record { uuid = s.uuid; tag = s.tag; intervals = found.0 } in
+    let one : Sid = record { uuid = s.uuid; tag = lower_tag s.tag; intervals = found.0 } in
     record {
       read = m.read;
       many = omega (arith, m.many);
-      tags = rw m.tags refl;
-      bytes = λ t. ap (λ (l : List ℕ). head_bytes t s.uuid s.tag s.intervals ++ l) (m.bytes t) ∙ sid-first t one s.intervals (flat_map (sid_as t).bytes found.1) its;
+      tags = rw (m.tags, there-lower s.tag) refl;
+      bytes = λ t. ap (λ (l : List ℕ). head_bytes t s.uuid (lower_tag s.tag) s.intervals ++ l) (m.bytes t) ∙ sid-first t one s.intervals (flat_map (sid_as t).bytes found.1) its;
     }
 
 shown : (list : List Entry) → Shown list (sids_of list)

@@ -8,7 +8,7 @@ use Rattle.mysql_wire.specs.Varlen.{varlen_string_bytes}
 use Rattle.mysql_wire.specs.Writing.{le_bytes}
 use Rattle.mysql_repl.specs.BinlogDumpGtid.{through_gtid}
 use Rattle.mysql_repl.specs.GnoInterval as gno
-use Rattle.mysql_repl.specs.GtidSetEntries.{Entry}
+use Rattle.mysql_repl.specs.GtidSetEntries.{Entry, lower_tag}
 use Rattle.mysql_repl.specs.SidBlock.{head_for}
 use Rattle.mysql_repl.specs.TagString.{tag_bytes}
 use Rattle.mysql_repl.specs.declared.gtid_set_entries.GtidSetEntry.TheVariants as entry
@@ -20,7 +20,7 @@ head_bytes false id tag count = id ++ le_bytes 8 count
 
 abbrev pub entry_bytes : (tagged : Bool) → Entry → List ℕ
 entry_bytes tagged (Err e) = []
-entry_bytes tagged (Ok (entry.Sid s)) = head_bytes tagged s.uuid s.tag s.intervals
+entry_bytes tagged (Ok (entry.Sid s)) = head_bytes tagged s.uuid (lower_tag s.tag) s.intervals
 entry_bytes tagged (Ok (entry.Interval i)) = gno.interval.bytes i
 
 abbrev pub entries_content : (tagged : Bool) (count : ℕ) → List Entry → List ℕ

@@ -1,9 +1,8 @@
 //! The request for a binary log, with the sids that a text spells: they are written as they are read.
 #![tactic(auto, using(mysql_wire::proofs::Packets::packets, crate::proofs::TextDumps::parts))]
 
-ghost use Rattle.std.specs.Char.{to_ascii_lowercase};
 ghost use Rattle.std.specs.List.{list_any};
-ghost use Rattle.std.specs.Prelude.{◌≡◌, MatchOption, map, true};
+ghost use Rattle.std.specs.Prelude.{◌≡◌, MatchOption, true};
 ghost use Rattle.mysql_repl.specs.GtidSetEntries.{text_entries};
 ghost use Rattle.mysql_repl.specs.TagString.{tag_bytes};
 ghost use Rattle.mysql_packets_c.specs.GtidEntries as spec;
@@ -90,7 +89,7 @@ impl ItemForm<u8> for InLowerCase {
 
 /// The text of a tag, or none where there is no tag.
 fn tag_text<'a>(tag: &Option<TagText<'a>>) -> &'a str
-    ensures value { map to_ascii_lowercase result.now ≡ tag_bytes tag.now }
+    ensures value { result.now ≡ tag_bytes tag.now }
 {
     match tag {
         Some(tag) => tag.as_str(),
@@ -104,9 +103,10 @@ struct WrittenTag<'b, 'a>(&'b Option<TagText<'a>>);
 
 impl Parts for WrittenTag<'_, '_> {
     ghost use Rattle.mysql_repl.specs.TagString.{tag_bytes};
+    ghost use Rattle.mysql_repl.specs.GtidSetEntries.{lower_tag};
     ghost use Rattle.mysql_wire.specs.Varlen.{varlen_string_bytes};
 
-    ghost bytes = { λ t. varlen_string_bytes (tag_bytes t.0.now) };
+    ghost bytes = { λ t. varlen_string_bytes (tag_bytes (lower_tag t.0.now)) };
 
     fn put<S: Sink>(&self, sink: &mut S) {
         let text = tag_text(self.0);
@@ -128,8 +128,9 @@ struct WrittenHead<'b, 'a> {
 
 impl Parts for WrittenHead<'_, '_> {
     ghost use Rattle.mysql_packets_c.specs.GtidEntries.{head_bytes};
+    ghost use Rattle.mysql_repl.specs.GtidSetEntries.{lower_tag};
 
-    ghost bytes = { λ s. head_bytes s.tagged s.sid.now.uuid s.sid.now.tag s.sid.now.intervals };
+    ghost bytes = { λ s. head_bytes s.tagged s.sid.now.uuid (lower_tag s.sid.now.tag) s.sid.now.intervals };
 
     fn put<S: Sink>(&self, sink: &mut S) {
         let id = RawBytes::<EofBytes>::new(CowSlice::Borrowed(&self.sid.uuid));

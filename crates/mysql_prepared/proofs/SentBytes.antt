@@ -2,6 +2,7 @@
 use Rattle.std.proofs.Common.{◌≡◌, ℕ, ◌+◌, ◌*◌, Bool, true, false, not, if◌then◌else◌, List, [], ◌∷◌, ◌++◌, length, map, position, Option, Some, is_some, cond, refl, ap, ◌∙◌, arith}
 use Rattle.std.specs.List.{flat_map, position_or_len}
 use Rattle.std.proofs.lemmas.List.{append-nil, length-append, length-map}
+use Rattle.std.proofs.lemmas.List.Folds.{flat_map-map}
 use Rattle.mysql_wire.specs.LenEnc.{lenenc_string_bytes}
 use Rattle.mysql_wire.specs.Writing.{le_bytes}
 use Rattle.mysql_values.specs.ParamType.{param_type, type_of}
@@ -108,3 +109,5 @@ pub ruleset plain = (plain-spelled, plain-bytes)
 pub ruleset written = (plain-bytes, append-nil, length-typed, length-named, length-types, types-sent, length-sent)
 
 pub ruleset first_of = (first-sent)
+
+pub ruleset cells = (flat_map-map)

@@ -1,5 +1,5 @@
 -- Rows: values beside their columns, and the place that a name has.
-use Rattle.std.specs.Prelude.{◌≡◌, ℕ, List, [], ◌∷◌, Option, Some, None, Result, Ok, Err, nat_eq, slice_index_or, slice_set}
+use Rattle.std.specs.Prelude.{◌≡◌, ℕ, List, [], ◌∷◌, Option, Some, None, Result, Ok, Err, IsFalse, nat_eq, slice_index_or, slice_set}
 use Rattle.std.specs.List.{position}
 use Rattle.std.specs.Cmp.Lexicographic.{pointwise}
 use Rattle.mysql_replies.specs.declared.column.Column.{Column}
@@ -8,6 +8,7 @@ use Rattle.mysql_values.specs.ByContent.{IsConvertible}
 use Rattle.mysql_values.specs.declared.from_value.FromValueError.{FromValueError}
 use Rattle.mysql_values.specs.declared.value.Value.{Value}
 use Rattle.mysql_values.specs.Value.{content_of}
+use Rattle.mysql_values.specs.ValueDeserializer.{has_bytes}
 
 -- a row: a value for each column, if it is there
 pub record Cells : Type 0 where
@@ -61,6 +62,10 @@ module _ {X : Type 0} (Converts : Value → X → Type 0) where
 -- each value that may be found converts
 abbrev pub FoundConverts : {X : Type 0} → (Finds : Option ℕ → Type 0) → List (Option Value) → (Value → X → Type 0) → Type 0
 FoundConverts Finds cells Converts = (place : Option ℕ) (value : Value) → Finds place → value_at cells place ≡ Some value → IsConvertible Converts value
+
+-- no value that may be found is a string of at least one byte, whose copy alone takes memory
+abbrev pub FindsNoBytes : (Finds : Option ℕ → Type 0) → List (Option Value) → Type 0
+FindsNoBytes Finds cells = (place : Option ℕ) (value : Value) → Finds place → value_at cells place ≡ Some value → IsFalse (has_bytes (content_of value))
 
 -- the answer is made of the value at a place that is found, and there is none where there is no value
 abbrev pub AnswersFound : {Y : Type 0} → (Finds : Option ℕ → Type 0) → List (Option Value) → (Value → Y → Type 0) → Option Y → Type 0

@@ -1,7 +1,7 @@
 //! The attributes of a query or an execution, where they lie.
 #![tactic(auto, using(mysql_wire::proofs::Packets::packets))]
 
-ghost use Rattle.std.specs.Prelude.{false, ◌≡◌, ◌<◌, ◌≤◌, ◌*◌, ◌+◌, ◌++◌, [], Ok, length, IsTrue, ◌↔◌};
+ghost use Rattle.std.specs.Prelude.{false, ◌≡◌, ◌<◌, ◌≤◌, ◌*◌, ◌+◌, ◌++◌, [], ⊤, Ok, length, IsTrue, ◌↔◌};
 ghost use Rattle.mysql_wire.specs.Reading.{Answers, IsTail};
 ghost use Rattle.mysql_values.specs.ParamValue.{param_contents};
 ghost use Rattle.mysql_prepared.specs.Bitmap.{cell};
@@ -78,6 +78,8 @@ impl<'a> Model for QueryAttributesView<'a> {
 
 impl Clone for QueryAttributesView<'_> {
     ghost is_clone = { λ v copy. copy ≡ v };
+
+    ghost is_infallible = { λ _. ⊤ };
 
     fn clone(&self) -> Result<Self, AllocError> {
         Ok(self.again())

@@ -266,7 +266,7 @@ fn put_row<C: TypedColumn, V: AsExecuteParam>(columns: &[C], values: &[V], out: 
 ///
 /// What is written is read again as the same values; but a negative span of no time is read without its sign. After a refusal
 /// the buffer is as it was. `Count` comes before `Value`, which has the first place, and `Memory` comes last; it does not come
-/// where the buffer has the capacity.
+/// where the buffer has the capacity. The capacity never shrinks.
 pub fn write_binary_row<C: TypedColumn>(
     columns: &[C],
     values: &[ValueRef<'_>],
@@ -277,6 +277,7 @@ pub fn write_binary_row<C: TypedColumn>(
     ensures refused { IfErr result (λ e. spec.RefusesRow C.type_of C.unsigned ref_param columns.now values.now e) }
     ensures err { OnErr result (out.new.items ≡ out.old.items) }
     ensures no_memory { vec_len out.old + spec.row_len C.type_of C.unsigned columns.now (refs_held values.now) ≤ vec_capacity out.old → result ≢ Err BinaryRowError.Memory }
+    ensures capacity { vec_capacity out.old ≤ vec_capacity out.new }
 {
     if columns.len() != values.len() {
         return Err(BinaryRowError::Count);

@@ -1,7 +1,7 @@
 //! One execution of a prepared statement.
 #![tactic(auto, using(crate::proofs::ParamLengths::whole))]
 
-ghost use Rattle.std.specs.Prelude.{◌≡◌, ◌≤◌, ◌<◌, ◌↔◌, IsTrue, IfOk, length};
+ghost use Rattle.std.specs.Prelude.{◌≡◌, ◌≤◌, ◌<◌, ◌↔◌, IsTrue, IfOk, IsOk, [], length};
 ghost use Rattle.mysql_values.specs.Value.{contents_of};
 ghost use Rattle.mysql_prepared.specs.ExecuteParams.{whole_size};
 ghost use Rattle.mysql_prepared.specs.NullMarks.{MarksNulls};
@@ -64,7 +64,7 @@ impl ComStmtExecuteRequestBuilder {
     ///
     /// They are where the request with all its values, of which there are some, is past 16,777,215 bytes. The request
     /// leaves them out then: each is to be sent ahead of it by `ComStmtSendLongData`. With at most 65,535 values the
-    /// request itself fits 16,777,215 bytes in any case.
+    /// request itself fits 16,777,215 bytes in any case. Without values it takes no memory.
     pub fn build<'a>(
         self,
         alloc: Global,
@@ -78,6 +78,7 @@ impl ComStmtExecuteRequestBuilder {
         ensures as_long_data { IfOk result (λ made. IsTrue (request.as_long_data made.0) ↔ (max_payload < whole_size params.now)) }
         ensures answer { IfOk result (λ made. made.1 ≡ request.as_long_data made.0) }
         ensures fits { IfOk result (λ made. length params.now ≤ 65535 → length (request.execute_bytes made.0) ≤ max_payload) }
+        ensures no_memory { params.now ≡ [] → IsOk result }
     {
         let params = ExecuteParams::new(alloc, params)?;
         let as_long_data = params.as_long_data;

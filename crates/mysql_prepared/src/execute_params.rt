@@ -1,6 +1,6 @@
 //! The parameters of an execution.
 
-ghost use Rattle.std.specs.Prelude.{◌≡◌, ◌+◌, ◌≤◌, ◌<◌, ◌↔◌, IsTrue, IfOk, length};
+ghost use Rattle.std.specs.Prelude.{◌≡◌, ◌+◌, ◌≤◌, ◌<◌, ◌↔◌, IsTrue, IfOk, IsOk, [], length};
 ghost use Rattle.mysql_wire.specs.Writing.{saturated};
 ghost use Rattle.mysql_values.specs.Value.{contents_of};
 ghost use Rattle.mysql_prepared.specs.ExecuteParams.{whole_size, params_bytes};
@@ -54,6 +54,7 @@ impl<'a> ExecuteParams<'a> {
         ensures flags { IfOk result (λ p. p.flags.0.0 ≡ 1) }
         ensures as_long_data { IfOk result (λ p. IsTrue p.as_long_data ↔ (max_payload < whole_size values.now)) }
         ensures fits { IfOk result (λ p. length values.now ≤ 65535 → 10 + length (params_bytes p) ≤ max_payload) }
+        ensures no_memory { values.now ≡ [] → IsOk result }
     {
         Ok(ExecuteParams {
             bitmap: nulls_of(alloc, values)?,

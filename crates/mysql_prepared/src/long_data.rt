@@ -1,7 +1,7 @@
 //! The data of one parameter, sent ahead of an execution.
 #![tactic(auto, using(mysql_wire::proofs::Packets::packets), unfolding(crate::specs::LongData::long_data))]
 
-ghost use Rattle.std.specs.Prelude.{◌≡◌, IfOk, refl};
+ghost use Rattle.std.specs.Prelude.{◌≡◌, [], IfOk, IsOk, refl};
 ghost use Rattle.std.specs.Cow.{cow_slice_items};
 ghost use Rattle.mysql_prepared.specs.LongData as spec;
 
@@ -85,9 +85,10 @@ impl<'a> ComStmtSendLongData<'a> {
 
     /// The same packet, on memory of its own.
     ///
-    /// Where that is refused, the packet is given up, and the bytes that it borrowed stay.
+    /// Where that is refused, the packet is given up, and the bytes that it borrowed stay. Empty data takes no memory.
     pub fn into_owned(self, alloc: Global) -> Result<ComStmtSendLongData<'static>, AllocError>
         ensures value { IfOk result (λ owned. owned ≡ self.entry) }
+        ensures no_memory { spec.content self.entry ≡ [] → IsOk result }
     {
         Ok(ComStmtSendLongData {
             header: self.header,

@@ -1,7 +1,7 @@
 //! The data of one parameter, sent ahead of an execution, where it lies.
 #![tactic(auto, using(mysql_wire::proofs::Packets::packets), unfolding(crate::specs::LongData::long_data))]
 
-ghost use Rattle.std.specs.Prelude.{◌≡◌, refl};
+ghost use Rattle.std.specs.Prelude.{◌≡◌, ⊤, refl};
 ghost use Rattle.mysql_prepared.specs.LongData as spec;
 
 use crate::long_data::{ComStmtSendLongData, ComStmtSendLongDataHeader};
@@ -68,6 +68,8 @@ impl<'a> ComStmtSendLongDataRef<'a> {
 
 impl Clone for ComStmtSendLongDataRef<'_> {
     ghost is_clone = { λ p copy. copy ≡ p };
+
+    ghost is_infallible = { λ _. ⊤ };
 
     fn clone(&self) -> Result<Self, AllocError> {
         Ok(ComStmtSendLongDataRef {

@@ -47,13 +47,14 @@ impl<'a, T> Model for NullBitmap<'a, T> {
 impl<T: SerializationSide> NullBitmap<'static, T> {
     /// The bitmap of so many values, none of which is NULL.
     ///
-    /// The count, with seven and the side's offset, fits `usize`.
+    /// The count, with seven and the side's offset, fits `usize`. A bitmap without bytes takes no memory.
     pub fn new(alloc: Global, num_columns: usize) -> Result<Self, AllocError>
         requires { num_columns + 7 + T.BIT_OFFSET < 2 ^ 64 }
         ensures value { IfOk result (λ bitmap. bitmap.bytes ≡ replicate (bytes_for T.BIT_OFFSET num_columns) 0) }
         ensures owned { IfOk result (λ bitmap. IsTrue bitmap.owned) }
+        ensures no_memory { bytes_for T.BIT_OFFSET num_columns ≡ 0 → IsOk result }
     {
-        let bytes = vec![in alloc; 0; Self::bitmap_len(num_columns)]?;
+        let bytes = clear_bits(alloc, Self::bitmap_len(num_columns))?;
         Ok(NullBitmap::from_bytes(CowSlice::Owned(bytes)))
     }
 
@@ -68,12 +69,35 @@ impl<T: SerializationSide> NullBitmap<'static, T> {
         ensures owned { IfOk result (λ bitmap. IsTrue bitmap.owned) }
         ensures rest { OnOk result (input.new.now ≡ drop (bytes_for T.BIT_OFFSET num_columns) input.old.now) }
         ensures err { OnErr result (input.new.now ≡ input.old.now) }
+        ensures no_memory { bytes_for T.BIT_OFFSET num_columns ≡ 0 → IsOk result }
     {
         let (front, rest) = input.split_at(Self::bitmap_len(num_columns));
-        let bytes = Vec::from_slice(alloc, front)?;
+        let bytes = copy_of(alloc, front)?;
         *input = rest;
         Ok(NullBitmap::from_bytes(CowSlice::Owned(bytes)))
     }
+}
+
+/// So many bytes without a bit that is set. None takes no memory.
+pub(crate) fn clear_bits(alloc: Global, len: usize) -> Result<Vec<u8>, AllocError>
+    ensures value { IfOk result (λ bytes. bytes.items ≡ replicate len 0) }
+    ensures no_memory { len ≡ 0 → IsOk result }
+{
+    if len == 0 {
+        return Ok(Vec::new(alloc));
+    }
+    vec![in alloc; 0; len]
+}
+
+/// A copy of the bytes. Where there is none, it takes no memory.
+fn copy_of(alloc: Global, bytes: &[u8]) -> Result<Vec<u8>, AllocError>
+    ensures value { IfOk result (λ copy. copy.items ≡ bytes.now) }
+    ensures no_memory { bytes.now ≡ [] → IsOk result }
+{
+    if bytes.is_empty() {
+        return Ok(Vec::new(alloc));
+    }
+    Vec::from_slice(alloc, bytes)
 }
 
 impl<'a, T> NullBitmap<'a, T> {
@@ -186,11 +210,13 @@ impl<T> AsSlice<u8> for NullBitmap<'_, T> {
 impl<T> Clone for NullBitmap<'_, T> {
     ghost is_clone = { λ b copy. copy ≡ b };
 
-    /// The same bytes, copied where the bitmap owns them.
+    ghost is_infallible = { λ b. IsTrue b.owned → b.bytes ≡ [] };
+
+    /// The same bytes, copied where the bitmap owns them. Borrowed bytes, and none, take no memory.
     fn clone(&self) -> Result<Self, AllocError> {
         let bytes = match &self.bytes {
             CowSlice::Borrowed(bytes) => CowSlice::Borrowed(bytes),
-            CowSlice::Owned(bytes) => CowSlice::Owned(bytes.clone()?),
+            CowSlice::Owned(bytes) => CowSlice::Owned(copy_of(*bytes.allocator(), bytes)?),
         };
         Ok(NullBitmap::from_bytes(bytes))
     }

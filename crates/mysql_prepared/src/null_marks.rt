@@ -1,12 +1,12 @@
 //! The bits of NULLs in a bitmap that is written.
 
-ghost use Rattle.std.specs.Prelude.{◌≡◌, ◌+◌, ◌*◌, ◌<◌, ◌≤◌, ◌^◌, ◌++◌, ℕ, List, length, map, get_or, replicate, vec_len, vec_capacity, IfOk};
+ghost use Rattle.std.specs.Prelude.{◌≡◌, ◌+◌, ◌*◌, ◌<◌, ◌≤◌, ◌^◌, ◌++◌, ℕ, List, length, map, get_or, replicate, vec_len, vec_capacity, IfOk, IsOk, []};
 ghost use Rattle.mysql_prepared.specs.Bitmap.{bytes_for, cell};
 ghost use Rattle.mysql_prepared.specs.ExecuteParam.{contents};
 ghost use Rattle.mysql_prepared.specs.NullMarks.{AppendsNulls, MarksNulls, null_bit};
 
 use crate::execute_param::AsExecuteParam;
-use crate::null_bitmap::{NullBitmap, put};
+use crate::null_bitmap::{NullBitmap, clear_bits, put};
 use mysql_values::{ClientSide, SerializationSide};
 use std::alloc::{AllocError, Global};
 use std::borrow::CowSlice;
@@ -71,15 +71,16 @@ pub(crate) fn put_nulls<S: SerializationSide, V: AsExecuteParam>(values: &[V], n
     mark_side::<S, V>(nulls, values);
 }
 
-/// The bitmap in which the bit of each value that is NULL is set.
+/// The bitmap in which the bit of each value that is NULL is set. Of no value it takes no memory.
 pub(crate) fn nulls_of<V: AsExecuteParam>(
     alloc: Global,
     values: &[V],
 ) -> Result<NullBitmap<'static, ClientSide>, AllocError>
     requires { length values.now + 7 < 2 ^ 64 }
-    ensures { IfOk result (λ bitmap. MarksNulls 0 (contents V.param values.now) bitmap.bytes) }
+    ensures value { IfOk result (λ bitmap. MarksNulls 0 (contents V.param values.now) bitmap.bytes) }
+    ensures no_memory { values.now ≡ [] → IsOk result }
 {
-    let mut nulls = vec![in alloc; 0; NullBitmap::<ClientSide>::bitmap_len(values.len())]?;
+    let mut nulls = clear_bits(alloc, NullBitmap::<ClientSide>::bitmap_len(values.len()))?;
     mark_side::<ClientSide, V>(&mut nulls, values);
     Ok(NullBitmap::from_bytes(CowSlice::Owned(nulls)))
 }

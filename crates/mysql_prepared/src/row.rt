@@ -5,7 +5,7 @@ ghost use Rattle.std.specs.Option.{option_copied};
 ghost use Rattle.std.specs.Rc.{rc_slice_items};
 ghost use Rattle.mysql_values.specs.declared.value.Value.{Value};
 ghost use Rattle.mysql_values.specs.Cells.{held};
-ghost use Rattle.mysql_prepared.specs.Row.{AllThere, AnswersFound, ConvertsTo, CopyConvertsTo, FoundConverts, IsCopyAs, TakesFound, place_of_name, value_at};
+ghost use Rattle.mysql_prepared.specs.Row.{AllThere, AnswersFound, ConvertsTo, CopyConvertsTo, FindsNoBytes, FoundConverts, IsCopyAs, TakesFound, place_of_name, value_at};
 
 use crate::column_index::ColumnIndex;
 use mysql_replies::Column;
@@ -115,13 +115,15 @@ impl Row {
 
     /// A copy of the value that the index finds, converted. `None` where it finds no value.
     ///
-    /// The value converts, as [`get_opt`](Self::get_opt) tells.
+    /// The value converts, as [`get_opt`](Self::get_opt) tells. The copy of a string of at least one byte takes memory, and nothing
+    /// else does.
     pub fn get<T: FromValue, I: ColumnIndex + Drop>(
         &self,
         index: I,
     ) -> Result<Option<T>, AllocError>
         requires converts { FoundConverts (I.Finds index self.now.columns) self.now.cells T.Converts }
         ensures value { IfOk result (λ answer. AnswersFound (I.Finds index self.now.columns) self.now.cells (IsCopyAs T.Converts) answer) }
+        ensures no_memory { FindsNoBytes (I.Finds index self.now.columns) self.now.cells → IsOk result }
     {
         let Some(place) = index.idx(&self.columns) else {
             return Ok(None);
@@ -134,12 +136,13 @@ impl Row {
     }
 
     /// A copy of the value that the index finds, converted, or the copy where it does not convert. `None` where the
-    /// index finds no value.
+    /// index finds no value. The copy of a string of at least one byte takes memory, and nothing else does.
     pub fn get_opt<T: FromValue, I: ColumnIndex + Drop>(
         &self,
         index: I,
     ) -> Result<Option<Result<T, FromValueError>>, AllocError>
         ensures value { IfOk result (λ answer. AnswersFound (I.Finds index self.now.columns) self.now.cells (CopyConvertsTo T.Converts) answer) }
+        ensures no_memory { FindsNoBytes (I.Finds index self.now.columns) self.now.cells → IsOk result }
     {
         let Some(place) = index.idx(&self.columns) else {
             return Ok(None);

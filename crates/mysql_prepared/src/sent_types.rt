@@ -1,7 +1,7 @@
 //! The types of parameters and attributes with their names, where they lie.
 #![tactic(auto, using(mysql_wire::proofs::Packets::packets))]
 
-ghost use Rattle.std.specs.Prelude.{false, ◌≡◌, ◌≤◌, [], length, IfOk};
+ghost use Rattle.std.specs.Prelude.{false, ◌≡◌, ◌≤◌, [], length, IfOk, OnErr};
 ghost use Rattle.mysql_wire.specs.Reading.{Answers};
 ghost use Rattle.mysql_prepared.specs.SentTypes as spec;
 
@@ -91,7 +91,8 @@ impl<'a> SentParamTypes<'a> {
         }
     }
 
-    /// Reads so many types. Missing bytes are `UnexpectedEof`, and a type that is none is `InvalidData`.
+    /// Reads so many types. Missing bytes are `UnexpectedEof`, and a type that is none is `InvalidData`. On an error the buffer is
+    /// unchanged.
     #[tactic(auto, using(crate::proofs::SentTypes::places))]
     pub fn read<'s>(
         has_names: bool,
@@ -100,9 +101,12 @@ impl<'a> SentParamTypes<'a> {
     ) -> Result<Self, FaultOf<'s>>
         ensures value { Answers false result buf.new ((spec.types has_names count).reads buf.old) }
         ensures many { IfOk result (λ types. length types ≡ count) }
+        ensures stays { OnErr result (buf.new ≡ buf.old) }
     {
         let bytes = buf.rest();
-        skip_types(has_names, count, buf)?;
+        let mut rest = buf.rest();
+        skip_types(has_names, count, &mut rest)?;
+        *buf = rest;
         Ok(SentParamTypes {
             has_names,
             left: count,

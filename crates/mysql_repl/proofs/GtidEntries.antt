@@ -21,35 +21,35 @@ follows [] = refl
 follows (word ∷ more) = follows-step (is_interval word) (lead more)
 
 tag-word : (id word : List ℕ) (more : List (List ℕ)) (o : Option InvalidTag) (n : ℕ) → (length word ≡ 0 → ⊥) → n ≡ lead more → tag_fault (map to_ascii_lowercase word) ≡ o
-    → tag_entry id (server_tag word more) n ≡ tag_entry id (tag_or o (map to_ascii_lowercase word) (nat_lt 0 n)) n
+    → tag_entry id word (server_tag word more) n ≡ tag_entry id word (tag_or o (map to_ascii_lowercase word) (nat_lt 0 n)) n
 unfolding server_tag
 tag-word id [] more o n some is e = absurd (some refl)
 tag-word id (c ∷ cs) more o n some is e =
     let lower = map to_ascii_lowercase (c ∷ cs) in
-    ap (λ (b : Bool). tag_entry id (tag_or (tag_fault lower) lower b) n) (follows more ∙ ap (nat_lt 0) (sym is)) ∙ ap (λ (f : Option InvalidTag). tag_entry id (tag_or f lower (nat_lt 0 n)) n) e
+    ap (λ (b : Bool). tag_entry id (c ∷ cs) (tag_or (tag_fault lower) lower b) n) (follows more ∙ ap (nat_lt 0) (sym is)) ∙ ap (λ (f : Option InvalidTag). tag_entry id (c ∷ cs) (tag_or f lower (nat_lt 0 n)) n) e
 
 -- nothing is no tag
-pub tag-empty : (id word : List ℕ) (more : List (List ℕ)) (n : ℕ) → length word ≡ 0 → Err fault.Empty ≡ tag_entry id (server_tag word more) n
+pub tag-empty : (id word : List ℕ) (more : List (List ℕ)) (n : ℕ) → length word ≡ 0 → Err fault.Empty ≡ tag_entry id word (server_tag word more) n
 unfolding server_tag
 tag-empty id [] more n none = refl
 tag-empty id (c ∷ cs) more n none = absurd (omega (arith, none))
 
 pub tag-refused : (id word : List ℕ) (more : List (List ℕ)) (e : InvalidTag) → (length word ≡ 0 → ⊥) → tag_fault (map to_ascii_lowercase word) ≡ Some e
-    → Err (fault.Tag e) ≡ tag_entry id (server_tag word more) (lead more)
+    → Err (fault.Tag e) ≡ tag_entry id word (server_tag word more) (lead more)
 tag-refused id word more e some is = sym (tag-word id word more (Some e) (lead more) some refl is)
 
 pub tag-alone : (id word : List ℕ) (more : List (List ℕ)) (n : ℕ) → (length word ≡ 0 → ⊥) → tag_fault (map to_ascii_lowercase word) ≡ None → n ≡ lead more → n ≡ 0
-    → Err fault.NoIntervals ≡ tag_entry id (server_tag word more) (lead more)
+    → Err fault.NoIntervals ≡ tag_entry id word (server_tag word more) (lead more)
 tag-alone id word more n some e is none =
     let f : nat_lt 0 (lead more) ≡ false = le-ltb 0 (lead more) (omega (arith, is, none)) in
-    sym (tag-word id word more None (lead more) some refl e ∙ ap (λ (b : Bool). tag_entry id (tag_or None (map to_ascii_lowercase word) b) (lead more)) f)
+    sym (tag-word id word more None (lead more) some refl e ∙ ap (λ (b : Bool). tag_entry id word (tag_or None (map to_ascii_lowercase word) b) (lead more)) f)
 
 pub tag-there : (id word : List ℕ) (more : List (List ℕ)) (n : ℕ) → (length word ≡ 0 → ⊥) → tag_fault (map to_ascii_lowercase word) ≡ None → n ≡ lead more → (n ≡ 0 → ⊥)
-    → sid id (Some (map to_ascii_lowercase word)) n ≡ tag_entry id (server_tag word more) (lead more)
+    → sid id (Some word) n ≡ tag_entry id word (server_tag word more) (lead more)
 tag-there id word more n some e is there =
     let f : nat_lt 0 (lead more) ≡ true = lt-ltb 0 (lead more) (omega (arith, is, there)) in
-    ap (sid id (Some (map to_ascii_lowercase word))) is
-    ∙ sym (tag-word id word more None (lead more) some refl e ∙ ap (λ (b : Bool). tag_entry id (tag_or None (map to_ascii_lowercase word) b) (lead more)) f)
+    ap (sid id (Some word)) is
+    ∙ sym (tag-word id word more None (lead more) some refl e ∙ ap (λ (b : Bool). tag_entry id word (tag_or None (map to_ascii_lowercase word) b) (lead more)) f)
 
 -- ---- pieces
 

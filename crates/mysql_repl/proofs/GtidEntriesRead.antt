@@ -4,7 +4,10 @@ use Rattle.std.proofs.lemmas.Bool.{ltb-false}
 use Rattle.std.proofs.lemmas.List.{map-append}
 use Rattle.uuid.specs.Text.{parsed}
 use Rattle.mysql_repl.specs.GtidSetEntries.{Entry, alone, counts, sid, sids_of, with_entry, interval_entry, lead, tag_entry, word_entries, first_entry, uuid_entries, piece_entries, pieces_entries, text_entries}
-use Rattle.mysql_repl.specs.GtidSetText.{Found, is_interval, server_interval, server_tag, with_interval, with_tag, found_in, sids_found, read_uuid, read_piece, joined, read_pieces, read_sids, words, trimmed}
+use Rattle.std.specs.Char.{to_ascii_lowercase}
+use Rattle.mysql_repl.specs.Tag.{tag_fault}
+use Rattle.mysql_repl.specs.declared.tag.InvalidTag.{InvalidTag}
+use Rattle.mysql_repl.specs.GtidSetText.{Found, interval_follows, is_interval, server_interval, server_tag, tag_or, with_interval, with_tag, found_in, sids_found, read_uuid, read_piece, joined, read_pieces, read_sids, words, trimmed}
 use Rattle.mysql_repl.specs.Sid.{intervals}
 use Rattle.mysql_repl.specs.SidText.{after, before, colon, comma, has}
 use Rattle.mysql_repl.specs.declared.gno_interval.GnoInterval.{GnoInterval}
@@ -28,19 +31,41 @@ record Tells (list : List Entry) (n : ℕ) (r : Result Found InvalidSid) : Type 
   pub read : sids_of list ≡ r
   pub counted : Counted list n r
 
-step : (id : List ℕ) (b : Bool) (i : Result GnoInterval InvalidSid) (g : Result (List ℕ) InvalidSid) (r : Result Found InvalidSid) (list : List Entry) (n : ℕ) → Tells list n r
-    → Tells ((if b then interval_entry i else tag_entry id g n) ∷ list) (if b then n + 1 else 0) (if b then with_interval i r else with_tag id g r)
-step id true (Ok i) g (Ok found) list n h = record { read = ap (with_entry (entry.Interval i)) h.read; counted = (omega (arith, h.counted.0), h.counted.1) }
-step id true (Ok i) g (Err e) list n h = record { read = ap (with_entry (entry.Interval i)) h.read; counted = tt }
-step id true (Err e) g r list n h = record { read = refl; counted = tt }
-step id false i (Ok tag) (Ok found) list n h =
-    record { read = ap (with_entry (entry.Sid (record { uuid = id; tag = Some tag; intervals = n }))) h.read; counted = (refl, rw (h.counted.0, h.counted.1) refl) }
-step id false i (Ok tag) (Err e) list n h = record { read = ap (with_entry (entry.Sid (record { uuid = id; tag = Some tag; intervals = n }))) h.read; counted = tt }
-step id false i (Err e) r list n h = record { read = refl; counted = tt }
+-- a tag is the word in lower case
+abbrev IsLowered : (word : List ℕ) → Result (List ℕ) InvalidSid → Type 0
+IsLowered word (Ok tag) = map to_ascii_lowercase word ≡ tag
+IsLowered word (Err e) = Unit {0}
+
+lowered-or : (word : List ℕ) (o : Option InvalidTag) (follows : Bool) → IsLowered word (tag_or o (map to_ascii_lowercase word) follows)
+lowered-or word (Some e) follows = tt
+lowered-or word None false = tt
+lowered-or word None true = refl
+
+lowered : (word : List ℕ) (more : List (List ℕ)) → IsLowered word (server_tag word more)
+unfolding server_tag
+lowered [] more = tt
+lowered (c ∷ cs) more = lowered-or (c ∷ cs) (tag_fault (map to_ascii_lowercase (c ∷ cs))) (interval_follows more)
+
+abbrev as_sid : (id : List ℕ) (found : Found) → List ℕ → Result Found InvalidSid
+as_sid id found tag = Ok ([], record { uuid = id; tag = Some tag; intervals = found.0 } ∷ found.1)
+
+step : (id word : List ℕ) (b : Bool) (i : Result GnoInterval InvalidSid) (g : Result (List ℕ) InvalidSid) (r : Result Found InvalidSid) (list : List Entry) (n : ℕ) → IsLowered word g → Tells list n r
+    → Tells ((if b then interval_entry i else tag_entry id word g n) ∷ list) (if b then n + 1 else 0) (if b then with_interval i r else with_tag id g r)
+step id word true (Ok i) g (Ok found) list n low h = record { read = ap (with_entry (entry.Interval i)) h.read; counted = (omega (arith, h.counted.0), h.counted.1) }
+step id word true (Ok i) g (Err e) list n low h = record { read = ap (with_entry (entry.Interval i)) h.read; counted = tt }
+step id word true (Err e) g r list n low h = record { read = refl; counted = tt }
+step id word false i (Ok tag) (Ok found) list n low h =
+    record {
+      read = ap (with_entry (entry.Sid (record { uuid = id; tag = Some word; intervals = n }))) h.read ∙ ap (as_sid id found) low;
+      counted = (refl, rw (h.counted.0, h.counted.1) refl);
+    }
+step id word false i (Ok tag) (Err e) list n low h = record { read = ap (with_entry (entry.Sid (record { uuid = id; tag = Some word; intervals = n }))) h.read; counted = tt }
+step id word false i (Err e) r list n low h = record { read = refl; counted = tt }
 
 words-read : (id : List ℕ) (list : List (List ℕ)) → Tells (word_entries id list) (lead list) (found_in id list)
 words-read id [] = record { read = refl; counted = (refl, refl) }
-words-read id (word ∷ more) = step id (is_interval word) (server_interval word) (server_tag word more) (found_in id more) (word_entries id more) (lead more) (words-read id more)
+words-read id (word ∷ more) =
+    step id word (is_interval word) (server_interval word) (server_tag word more) (found_in id more) (word_entries id more) (lead more) (lowered word more) (words-read id more)
 
 -- ---- sids
 

@@ -192,6 +192,17 @@ in-place f count len bytes items place h is same =
     let many : length items ≡ count = ap length (sym same) ∙ many-there f count len bytes h in
     (drop len bytes, ap (λ (n : ℕ). (counted n f).reads (place ++ drop len bytes)) many ∙ ap (counted count f).reads whole ∙ h.1 ∙ ap (λ (l : List _). Ok (l, drop len bytes)) same)
 
+-- none stand anywhere
+pub none-stand : {A : Type 0} (f : Form A) (items : List A) (place : List ℕ) → items ≡ [] → place ≡ [] → StandIn f (length items) place items
+unfolding counted
+none-stand f items place none empty = rw (none, empty) ([], refl)
+
+-- where some are left there is one
+pub some-left : {A : Type 0} (f : Form A) (count len : ℕ) (bytes : List ℕ) → (count ≡ 0 → ⊥) → AreThere f count len bytes → items_in f count bytes ≡ [] → ⊥
+some-left f count len bytes some h none = some (sym (many-there f count len bytes h) ∙ ap length none)
+
+pub ruleset standing = (some-left)
+
 pub ruleset places = (read-past, there, past-fault)
 
 pub ruleset how_many = (many-there)

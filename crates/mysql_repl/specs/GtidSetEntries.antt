@@ -1,5 +1,6 @@
 -- What the text of a GTID set gives, one sid and one interval after another.
-use Rattle.std.specs.Prelude.{ℕ, ◌+◌, List, [], ◌∷◌, ◌++◌, Option, Some, None, Result, Ok, Err, nat_lt, if◌then◌else◌}
+use Rattle.std.specs.Prelude.{ℕ, ◌+◌, List, [], ◌∷◌, ◌++◌, Option, Some, None, Result, Ok, Err, map, nat_lt, option_map, if◌then◌else◌}
+use Rattle.std.specs.Char.{to_ascii_lowercase}
 use Rattle.uuid.specs.Text.{parsed}
 use Rattle.mysql_repl.specs.declared.gno_interval.GnoInterval.{GnoInterval}
 use Rattle.mysql_repl.specs.declared.gtid_set_entries.GtidSetEntry.{GtidSetEntry}
@@ -27,14 +28,15 @@ abbrev pub interval_entry : Result GnoInterval InvalidSid → Entry
 interval_entry (Ok i) = Ok (entry.Interval i)
 interval_entry (Err e) = Err e
 
-abbrev pub tag_entry : (id : List ℕ) → Result (List ℕ) InvalidSid → (count : ℕ) → Entry
-tag_entry id (Ok tag) count = sid id (Some tag) count
-tag_entry id (Err e) count = Err e
+-- the tag is the word itself, in its case
+abbrev pub tag_entry : (id word : List ℕ) → Result (List ℕ) InvalidSid → (count : ℕ) → Entry
+tag_entry id word (Ok tag) count = sid id (Some word) count
+tag_entry id word (Err e) count = Err e
 
 abbrev pub word_entries : (id : List ℕ) → List (List ℕ) → List Entry
 word_entries id [] = []
 word_entries id (word ∷ more) =
-    (if is_interval word then interval_entry (server_interval word) else tag_entry id (server_tag word more) (lead more)) ∷ word_entries id more
+    (if is_interval word then interval_entry (server_interval word) else tag_entry id word (server_tag word more) (lead more)) ∷ word_entries id more
 
 -- a sid without a tag is there where it has an interval
 abbrev pub first_entry : (id : List ℕ) (count : ℕ) → List Entry
@@ -57,12 +59,15 @@ pieces_entries (piece ∷ pieces) = piece_entries piece ++ pieces_entries pieces
 unfoldable pub text_entries : List ℕ → List Entry
 text_entries text = pieces_entries (words comma text)
 
--- ---- the sids of entries
+-- ---- the sids of entries, whose tags are in lower case
+
+abbrev pub lower_tag : Option (List ℕ) → Option (List ℕ)
+lower_tag tag = option_map (map to_ascii_lowercase) tag
 
 abbrev pub with_entry : GtidSetEntry → Result Found InvalidSid → Result Found InvalidSid
 with_entry x (Err e) = Err e
 with_entry (entry.Interval i) (Ok found) = Ok (i ∷ found.0, found.1)
-with_entry (entry.Sid s) (Ok found) = Ok ([], record { uuid = s.uuid; tag = s.tag; intervals = found.0 } ∷ found.1)
+with_entry (entry.Sid s) (Ok found) = Ok ([], record { uuid = s.uuid; tag = lower_tag s.tag; intervals = found.0 } ∷ found.1)
 
 -- the intervals before the first sid, and the sids, each with the intervals that follow it; or the first refusal
 abbrev pub sids_of : List Entry → Result Found InvalidSid

@@ -1,5 +1,8 @@
 -- A tag among bytes, or none.
-use Rattle.std.specs.Prelude.{◌≡◌, ℕ, ◌≤◌, List, [], ◌∷◌, length, Option, Some, None, Bool, true, false, ◌&&◌, nat_le, if◌then◌else◌, refl}
+use Rattle.std.specs.Prelude.{◌≡◌, ℕ, ◌≤◌, List, [], ◌∷◌, length, Option, Some, None, Bool, true, false, ◌&&◌, map, nat_eq, nat_le, if◌then◌else◌, refl}
+use Rattle.std.specs.Char.{to_ascii_lowercase}
+use Rattle.std.specs.Cmp.{IsPartialEquivalence, IsEquivalence, on_per, on_equiv, partial_equiv_from_equiv}
+use Rattle.std.specs.Cmp.Lexicographic.{pointwise, nat_list_eq_equiv}
 use Rattle.std.specs.List.{list_all}
 use Rattle.std.proofs.Common.{arith}
 use Rattle.std.proofs.lemmas.Bool.{leb-true}
@@ -10,6 +13,16 @@ use Rattle.mysql_wire.specs.Codecs.{leaf}
 use Rattle.mysql_wire.specs.Varlen.{varlen_string, varlen_string_bytes}
 use Rattle.mysql_wire.specs.Varlen.Again.{varlen_string-again}
 use Rattle.mysql_repl.specs.Tag.{is_tag, IsTag, is_first, is_later}
+
+-- texts are the same tag in lower case
+abbrev pub same_tag : List ℕ → List ℕ → Bool
+same_tag one other = pointwise nat_eq (map to_ascii_lowercase one) (map to_ascii_lowercase other)
+
+pub same_tag_per : IsPartialEquivalence same_tag
+same_tag_per = on_per (map to_ascii_lowercase) (partial_equiv_from_equiv nat_list_eq_equiv)
+
+pub same_tag_equiv : IsEquivalence same_tag
+same_tag_equiv = on_equiv (map to_ascii_lowercase) nat_list_eq_equiv
 
 -- no bytes are no tag; what else is no tag is invalid
 unfoldable pub tag_of : List ℕ → Option (Option (List ℕ))

@@ -130,6 +130,8 @@ impl<'a> ComBinlogDump<'a> {
 impl Clone for ComBinlogDump<'_> {
     ghost is_clone = { λ p copy. copy ≡ p };
 
+    ghost is_infallible = { λ p. spec.filename p ≡ [] };
+
     fn clone(&self) -> Result<Self, AllocError> {
         Ok(ComBinlogDump {
             header: self.header,

@@ -51,7 +51,7 @@ fn tag_entry<'a>(
     word: &'a str,
     left: Option<&str>,
 ) -> Result<GtidSetEntry<'a>, InvalidSid>
-    ensures value { result ≡ spec.tag_entry uuid (server_tag word.now (left_words colon (option_map (λ t. t.now) left.entry))) (spec.lead (left_words colon (option_map (λ t. t.now) left.entry))) }
+    ensures value { result ≡ spec.tag_entry uuid word.now (server_tag word.now (left_words colon (option_map (λ t. t.now) left.entry))) (spec.lead (left_words colon (option_map (λ t. t.now) left.entry))) }
 {
     if word.is_empty() {
         return Err(InvalidSid::Empty);

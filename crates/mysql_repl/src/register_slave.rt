@@ -1,7 +1,7 @@
 //! The registration of a replica.
 #![tactic(auto, using(mysql_wire::proofs::Packets::packets), unfolding(crate::specs::RegisterSlave::register_slave))]
 
-ghost use Rattle.std.specs.Prelude.{◌≡◌};
+ghost use Rattle.std.specs.Prelude.{◌≡◌, []};
 ghost use Rattle.std.specs.Cow.{cow_slice_items};
 ghost use Rattle.mysql_wire.specs.Text.{GivesText};
 ghost use Rattle.mysql_repl.specs.RegisterSlave as spec;
@@ -216,6 +216,8 @@ impl<'a> ComRegisterSlave<'a> {
 
 impl Clone for ComRegisterSlave<'_> {
     ghost is_clone = { λ p copy. copy ≡ p };
+
+    ghost is_infallible = { λ p. (spec.hostname p ≡ []) × (spec.user p ≡ []) × (spec.password p ≡ []) };
 
     fn clone(&self) -> Result<Self, AllocError> {
         Ok(ComRegisterSlave {

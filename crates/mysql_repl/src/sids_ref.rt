@@ -125,11 +125,17 @@ impl<'a> SidsRef<'a> {
         self.count
     }
 
-    /// The bytes of those that are left, after their head, and whether they are in the form with tags.
+    /// The bytes of those that are left, after their head, and whether they are in the form with tags. Where none is left, the
+    /// form is the one without.
     #[inline]
+    #[tactic(auto, using(mysql_wire::proofs::Packets::packets, crate::proofs::InPlace::standing))]
     pub fn as_bytes(&self) -> (&'a [u8], bool)
         ensures value { StandIn ((sid_as result.1).form tt) (length self.now) result.0.now self.now }
+        ensures none { self.now ≡ [] → result.1 ≡ false }
     {
+        if self.count == 0 {
+            return (&[], false);
+        }
         let mut bytes = self.bytes.rest();
         (bytes.eat(self.len), self.tagged)
     }

@@ -4,13 +4,13 @@ ghost use Rattle.std.specs.Char.{to_ascii_lowercase};
 ghost use Rattle.std.specs.Prelude.{◌≡◌, Some, None, IfOk, IfErr, map, ⊤};
 ghost use Rattle.mysql_repl.specs.Tag.{IsTag, tag_fault};
 
-use crate::tag::{InvalidTag, Tag, fault_in_lower_case};
+use crate::tag::{InvalidTag, fault_in_lower_case};
 use std::alloc::AllocError;
 use std::fmt;
 use std::fmt::Debug;
 use std::marker::Model;
 
-/// A tag in either case, which stays in its text. In a clause it is the [`Tag`](crate::Tag) that it is in lower case.
+/// A tag in either case, which stays in its text: in lower case it is a [`Tag`](crate::Tag). In a clause it is the text.
 ///
 /// Tags are equal that are the same in lower case.
 #[derive(Drop)]
@@ -25,16 +25,16 @@ impl<'a> Model for TagText<'a> {
 
     ghost Value = { List ℕ };
 
-    ghost view = { λ t. map to_ascii_lowercase t.text.now };
+    ghost view = { λ t. t.text.now };
 
     ghost invariant = { λ t. IsTag (map to_ascii_lowercase t.text.now) };
 }
 
 impl<'a> TagText<'a> {
-    /// The tag that the text is in lower case, or the first fault that it has there.
+    /// The tag of this text, or the first fault that it has in lower case.
     #[tactic(auto, using(crate::proofs::LowerTexts::lower_tags))]
     pub fn new(text: &'a str) -> Result<Self, InvalidTag>
-        ensures ok { IfOk result (λ tag. (tag ≡ map to_ascii_lowercase text.now) × (tag_fault (map to_ascii_lowercase text.now) ≡ None)) }
+        ensures ok { IfOk result (λ tag. (tag ≡ text.now) × (tag_fault (map to_ascii_lowercase text.now) ≡ None)) }
         ensures err { IfErr result (λ fault. tag_fault (map to_ascii_lowercase text.now) ≡ Some fault) }
     {
         match fault_in_lower_case(text) {
@@ -46,8 +46,8 @@ impl<'a> TagText<'a> {
     /// The text, in the case that it has where it stands.
     #[inline]
     pub fn as_str(&self) -> &'a str
-        ensures value { map to_ascii_lowercase result.now ≡ self.now }
-        ensures tag { IsTag self.now }
+        ensures value { result.now ≡ self.now }
+        ensures tag { IsTag (map to_ascii_lowercase self.now) }
     {
         self.text
     }
@@ -64,11 +64,11 @@ impl Clone for TagText<'_> {
 }
 
 impl PartialEq for TagText<'_> {
-    ghost use Rattle.mysql_repl.specs.contracts.tag.TagPartialEq.TheImpl.Laws.{laws-law};
+    ghost use Rattle.mysql_repl.specs.TagString.{same_tag, same_tag_per};
 
-    ghost eq = { ⟦<Tag<'static> as PartialEq>⟧.eq };
+    ghost eq = { same_tag };
 
-    ghost laws = { laws-law };
+    ghost laws = { same_tag_per };
 
     fn eq(&self, other: &Self) -> bool {
         self.text.eq_ignore_ascii_case(other.text)
@@ -76,9 +76,9 @@ impl PartialEq for TagText<'_> {
 }
 
 impl Eq for TagText<'_> {
-    ghost use Rattle.mysql_repl.specs.contracts.tag.TagEq.TheImpl.Laws.{laws-law};
+    ghost use Rattle.mysql_repl.specs.TagString.{same_tag_equiv};
 
-    ghost laws = { laws-law };
+    ghost laws = { same_tag_equiv };
 }
 
 impl Debug for TagText<'_> {

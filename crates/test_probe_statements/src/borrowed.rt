@@ -34,7 +34,7 @@ type Read<T> = (Result<T, Fault>, usize);
 fn compare<T>(out: &mut Out, owned: Read<ValueDeserializer<T>>, borrowed: Read<ValueRef<'_>>) {
     let is_same = match (&owned.0, &borrowed.0) {
         (Ok(value), Ok(place)) => owned.1 == borrowed.1 && value.0.as_ref() == *place,
-        (Err(owned), Err(borrowed)) => owned == borrowed,
+        (Err(refused), Err(fault)) => owned.1 == borrowed.1 && refused == fault,
         _ => false,
     };
     out.or_other("ref", Ok(is_same));

@@ -6,7 +6,7 @@ use Rattle.mysql_prepared.proofs.execute_params.ExecuteParams.new.Goals as goal
 
 pub returns-clause-bitmap : goal.returns-clause-bitmap
 returns-clause-bitmap c =
-    c.in_ok-nulls_of.ensures
+    c.in_ok-nulls_of.ensures.value
 
 pub returns-clause-as_long_data : goal.returns-clause-as_long_data
 unfolding saturated
