@@ -170,12 +170,7 @@ where
     S: MySerialize,
 {
     if let Some(written) = write(out, session, request.bytes.as_slice()) {
-        again(
-            out,
-            record,
-            request.keep(written),
-            request.capabilities(),
-        );
+        again(out, record, request.keep(written), request.capabilities());
     }
 }
 
@@ -206,12 +201,7 @@ pub fn make_session_change(out: &mut Out, request: &Request<'_>) -> Result {
         let change = change_of(request, more);
         let session = change.for_session(request.capabilities());
         if let Some(written) = write(out, &session, b"") {
-            again(
-                out,
-                &change,
-                request.keep(written),
-                request.capabilities(),
-            );
+            again(out, &change, request.keep(written), request.capabilities());
         }
     }
     Ok(())
