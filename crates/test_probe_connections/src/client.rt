@@ -4,6 +4,8 @@
 //! [ZSTD_LEVEL]`;
 //! `change_user CAPABILITIES BYTES`, `more_data CAPABILITIES BYTES`, and
 //! `make_change_user CAPABILITIES USER DATA DATABASE CHARACTER_SET PLUGIN ATTRIBUTES`: its capabilities are for its reading.
+//! `session_change_user CAPABILITIES BYTES`, `session_more_data CAPABILITIES BYTES`, and `make_session_change` with the words of
+//! `make_change_user`: they are written by the capabilities too.
 
 use crate::plugins::show_plugin;
 use crate::prelude::*;
