@@ -4,6 +4,8 @@
 //! [ZSTD_LEVEL]`;
 //! `change_user CAPABILITIES BYTES`, `more_data CAPABILITIES BYTES`, and
 //! `make_change_user CAPABILITIES USER DATA DATABASE CHARACTER_SET PLUGIN ATTRIBUTES`: its capabilities are for its reading.
+//! `session_change_user CAPABILITIES BYTES`, `session_more_data CAPABILITIES BYTES`, and `make_session_change` with the words of
+//! `make_change_user`: they are written by the capabilities too.
 
 use crate::plugins::show_plugin;
 use crate::prelude::*;
@@ -170,12 +172,7 @@ where
     S: MySerialize,
 {
     if let Some(written) = write(out, session, request.bytes.as_slice()) {
-        again(
-            out,
-            record,
-            request.keep(written),
-            request.capabilities(),
-        );
+        again(out, record, request.keep(written), request.capabilities());
     }
 }
 
@@ -206,12 +203,7 @@ pub fn make_session_change(out: &mut Out, request: &Request<'_>) -> Result {
         let change = change_of(request, more);
         let session = change.for_session(request.capabilities());
         if let Some(written) = write(out, &session, b"") {
-            again(
-                out,
-                &change,
-                request.keep(written),
-                request.capabilities(),
-            );
+            again(out, &change, request.keep(written), request.capabilities());
         }
     }
     Ok(())
