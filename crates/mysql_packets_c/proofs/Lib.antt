@@ -29,3 +29,4 @@ pub mod SidsTexts
 pub mod SidsRead
 pub mod QueryAttributes
 pub mod WrittenExecutions
+pub mod Offsets

@@ -2,14 +2,15 @@
 use Rattle.std.proofs.Common.{if◌then◌else◌, ◌≡◌, ◌≢◌, ◌<◌, ◌≤◌, ◌-◌, ◌^◌, ◌++◌, ◌∷◌, ℕ, List, [], Bool, true, false, ◌&&◌, IsTrue, length, drop, refl, sym, subst, ap, ◌∙◌, arith}
 use Rattle.std.specs.List.{flat_map, list_all}
 use Rattle.std.proofs.lemmas.List.Folds.{flat_map-map}
-use Rattle.mysql_prepared.specs.ExecuteParam.{contents}
+use Rattle.mysql_prepared.specs.ExecuteParam.{Sent, contents, value_of}
 use Rattle.mysql_prepared.specs.TextRow.{text_cell_bytes, text_row_bytes}
 use Rattle.mysql_wire.specs.Writing.{saturated}
+use Rattle.mysql_values.specs.ParamValue.{Plain, WithOffset}
 use Rattle.mysql_values.specs.Value.{Content, NULL}
 use Rattle.mysql_packets_c.specs.Execution.{param}
 use Rattle.mysql_packets_c.specs.Output.{PutsSuch, PutsSuchUnlessTooLong}
 use Rattle.mysql_packets_c.specs.Rows.{cell_of, cells_of}
-use Rattle.mysql_packets_c.specs.Value.{is_value, value_content, values_contents}
+use Rattle.mysql_packets_c.specs.Value.{date_with_offset_of, is_offset_date, is_value, value_content, values_contents}
 use Rattle.mysql_packets_c.specs.declared.value.CValue.{CValue}
 
 -- the cells of a text row are those of its values
@@ -27,7 +28,7 @@ pub values-sent : (values : List CValue) → IsTrue (list_all is_value values) �
 values-sent [] h = refl
 values-sent (v ∷ values) h =
     let both = both-parts (is_value v) (list_all is_value values) h in
-    ap (λ (b : Bool). (if b then value_content v else NULL) ∷ contents param values) both.0 ∙ ap (λ (l : List Content). value_content v ∷ l) (values-sent values both.1)
+    ap (λ (b : Bool). value_of (Sent (if b then Plain (value_content v) else if is_offset_date v then WithOffset (date_with_offset_of v) else Plain NULL)) ∷ contents param values) both.0 ∙ ap (λ (l : List Content). value_content v ∷ l) (values-sent values both.1)
 
 -- what a writer answers of a count
 pub answered : (Such : List ℕ → Type 0) (count code : ℕ) (old new : List ℕ) (written : ℕ)

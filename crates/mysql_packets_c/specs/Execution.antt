@@ -12,7 +12,7 @@ use Rattle.mysql_prepared.specs.SentTypes.{NamedType}
 use Rattle.mysql_prepared.specs.declared.execute_head.ComStmtExecuteHead.{ComStmtExecuteHead}
 use Rattle.mysql_prepared.specs.declared.execute_view.BoundParam.{BoundParam}
 use Rattle.mysql_values.specs.ParamType.{typed}
-use Rattle.mysql_values.specs.ParamValue.{ParamContent, Plain}
+use Rattle.mysql_values.specs.ParamValue.{ParamContent, Plain, WithOffset}
 use Rattle.mysql_values.specs.Value.{Bytes, NULL}
 use Rattle.mysql_values.specs.declared.param_type.ParamType.{ParamType}
 use Rattle.mysql_wire.specs.ColumnType.{column_type_code, column_type_of}
@@ -23,7 +23,7 @@ use Rattle.mysql_wire.specs.declared.codes.column_type.ColumnType.TheVariants as
 use Rattle.mysql_wire.specs.declared.fault.FaultOf.{FaultOf}
 use Rattle.mysql_packets_c.specs.Code.{kind_code}
 use Rattle.mysql_packets_c.specs.Input.{used_of}
-use Rattle.mysql_packets_c.specs.Value.{IsSet, is_value, param_content, value_content}
+use Rattle.mysql_packets_c.specs.Value.{IsSet, date_with_offset_of, is_offset_date, is_value, param_content, value_content}
 use Rattle.mysql_packets_c.specs.declared.execution.CExecution.{CExecution}
 use Rattle.mysql_packets_c.specs.declared.execution.CExecutionHead.{CExecutionHead}
 use Rattle.mysql_packets_c.specs.declared.execution.CParam.{CParam}
@@ -127,9 +127,9 @@ TakesParams capabilities flags params (Err e) values types bytes = Faults false 
 
 -- ---- what is written
 
--- the parameter that a value is. What is no value would be sent as NULL, and is refused before
+-- the parameter that a value is. What is none would be sent as NULL, and is refused before
 abbrev pub param : CValue → Param
-param v = Sent (Plain (if is_value v then value_content v else NULL))
+param v = Sent (if is_value v then Plain (value_content v) else if is_offset_date v then WithOffset (date_with_offset_of v) else Plain NULL)
 
 -- it is sent as the type of its kind, without a name
 abbrev pub own_type : CValue → NamedType

@@ -1,5 +1,5 @@
 -- Values as C has them.
-use Rattle.std.specs.Prelude.{◌≡◌, ◌<◌, ◌^◌, ℕ, Bool, ◌==◌, not, nat_lt, List, [], map, take, drop, if◌then◌else◌}
+use Rattle.std.specs.Prelude.{◌≡◌, ◌<◌, ◌^◌, ℕ, Bool, ◌==◌, ◌-◌, ◌&&◌, ◌||◌, not, nat_le, nat_lt, List, [], map, take, drop, if◌then◌else◌}
 use Rattle.std.specs.List.{AllZip}
 use Rattle.std.specs.Int.{w64, cast_signed}
 use Rattle.mysql_values.specs.Value.{Content, NULL, Bytes, Int, UInt, Float, Double, Date, Time, date_of, time_of}
@@ -42,6 +42,18 @@ is_value v =
     if v.kind == 4 then nat_lt v.number (2 ^ 32)
     else if v.kind == 6 then nat_lt v.days (2 ^ 16)
     else nat_lt v.kind 8
+
+-- the two's complement of a number of 16 bits, from -32768 to 32767
+abbrev pub is_offset : ℕ → Bool
+is_offset number = nat_lt number (2 ^ 15) || nat_le (2 ^ 64 - 2 ^ 15) number
+
+-- it is a date with an offset, whose year and offset fit 16 bits
+abbrev pub is_offset_date : CValue → Bool
+is_offset_date v = v.kind == 8 && (nat_lt v.days (2 ^ 16) && is_offset v.number)
+
+-- a parameter or an attribute may have it: it is a value, or a date with an offset
+abbrev pub is_param : CValue → Bool
+is_param v = is_value v || is_offset_date v
 
 abbrev pub values_contents : List CValue → List Content
 values_contents values = map value_content values

@@ -15,7 +15,7 @@ use Rattle.mysql_packets_c.specs.Bulk.{declared_type}
 use Rattle.mysql_packets_c.specs.Execution.{own_type, param}
 use Rattle.mysql_packets_c.specs.Given.{is_set}
 use Rattle.mysql_packets_c.specs.Output.{PutsUnlessTooLong}
-use Rattle.mysql_packets_c.specs.Value.{is_value}
+use Rattle.mysql_packets_c.specs.Value.{is_param}
 use Rattle.mysql_packets_c.specs.declared.execution.CExecutionHead.{CExecutionHead}
 use Rattle.mysql_packets_c.specs.declared.query_attribute.CQueryAttribute.{CQueryAttribute}
 use Rattle.mysql_packets_c.specs.declared.typed_value.CTypedValue.{CTypedValue}
@@ -31,7 +31,7 @@ abbrev pub attribute_type : CQueryAttribute → NamedType
 attribute_type a = record { param_type = (own_type a.value).param_type; name = a.name.now }
 
 abbrev pub are_attributes : List CQueryAttribute → Bool
-are_attributes attributes = list_all (λ a. is_value a.value) attributes
+are_attributes attributes = list_all (λ a. is_param a.value) attributes
 
 -- a value under a type of the caller's
 abbrev pub typed_param : CTypedValue → Param
@@ -41,7 +41,7 @@ abbrev pub chosen_type : CTypedValue → NamedType
 chosen_type v = record { param_type = declared_type (record { column_type = v.column_type; is_unsigned = v.is_unsigned }); name = v.name.now }
 
 abbrev pub is_typed_value : CTypedValue → Bool
-is_typed_value v = is_set v.is_sent_ahead || is_value v.value
+is_typed_value v = is_set v.is_sent_ahead || is_param v.value
 
 -- ---- what is asked for
 
@@ -80,7 +80,7 @@ with_types head capabilities sends_types params attributes =
 -- ---- what may be written
 
 abbrev pub may_open : ℕ → List CValue → Bool
-may_open cursor values = is_cursor cursor && list_all is_value values
+may_open cursor values = is_cursor cursor && list_all is_param values
 
 abbrev pub may_send : ℕ → List CValue → List CQueryAttribute → Bool
 may_send cursor values attributes = may_open cursor values && are_attributes attributes

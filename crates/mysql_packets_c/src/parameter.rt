@@ -12,7 +12,7 @@ ghost use Rattle.mysql_values.specs.ValueRef.{ref_content};
 ghost use Rattle.mysql_packets_c.specs.Execution as spec;
 ghost use Rattle.mysql_packets_c.specs.Value.{value_content};
 
-use crate::value::{CValue, is_value, to_ref};
+use crate::value::{CValue, is_offset_date, is_param, is_value, to_date_with_offset, to_ref};
 use mysql_prepared::{AsExecuteParam, ExecuteParam};
 use mysql_values::{ParamType, ValueRef};
 use mysql_wire::{Buffer, ColumnType};
@@ -113,7 +113,10 @@ impl AsExecuteParam for CValue<'_> {
     fn as_execute_param(&self) -> ExecuteParam<'_> {
         match to_ref(self) {
             Some(value) => ExecuteParam::Value(value),
-            None => ExecuteParam::Value(ValueRef::NULL),
+            None => match to_date_with_offset(self) {
+                Some(date) => ExecuteParam::DateTimeWithOffset(date),
+                None => ExecuteParam::Value(ValueRef::NULL),
+            },
         }
     }
 
@@ -129,12 +132,18 @@ impl AsExecuteParam for CValue<'_> {
 
     #[inline(always)]
     fn is_null(&self) -> bool {
-        self.kind == 0 || !is_value(self)
+        self.kind == 0 || !is_param(self)
     }
 
     #[inline(always)]
     fn sent_type(&self) -> ParamType {
-        let kind = if is_value(self) { self.kind } else { 0 };
+        let kind = if is_value(self) {
+            self.kind
+        } else if is_offset_date(self) {
+            6
+        } else {
+            0
+        };
         let of_kind = match kind {
             1 => ValueRef::Bytes(&[]),
             2 => ValueRef::Int(0),

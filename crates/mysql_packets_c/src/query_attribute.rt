@@ -13,7 +13,7 @@ use crate::code::{END, OK, code_of};
 use crate::execution::put_param;
 use crate::flags::capabilities_of;
 use crate::input::read;
-use crate::value::{CValue, is_value};
+use crate::value::{CValue, is_param};
 use bitflags::Flags;
 use mysql_commands::ComQueryRef;
 use mysql_prepared::{AsExecuteParam, ExecuteParam, QueryAttribute, QueryAttributesView};
@@ -109,13 +109,13 @@ impl AsExecuteParam for CQueryAttribute<'_> {
     }
 }
 
-/// Whether the value of each attribute is one.
+/// Whether the value of each attribute is one of a parameter.
 pub(crate) fn are_attributes(attributes: &[CQueryAttribute<'_>]) -> bool
     ensures { result ≡ are_attributes attributes.now }
 {
     attributes
         .iter()
-        .all(|attribute| is_value(&attribute.value))
+        .all(|attribute| is_param(&attribute.value))
 }
 
 /// The attribute of a query at that place.

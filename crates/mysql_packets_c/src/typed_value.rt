@@ -6,7 +6,7 @@ ghost use Rattle.mysql_packets_c.specs.WrittenExecution as spec;
 
 use crate::bulk::declared_type;
 use crate::rows::CColumnType;
-use crate::value::{CValue, is_value};
+use crate::value::{CValue, is_param};
 use mysql_prepared::{AsExecuteParam, ExecuteParam};
 use mysql_values::ParamType;
 
@@ -50,14 +50,14 @@ impl AsExecuteParam for CTypedValue<'_> {
     }
 }
 
-/// Whether it was sent ahead, or its value is one.
+/// Whether it was sent ahead, or its value is one of a parameter.
 fn is_typed_value(value: &CTypedValue<'_>) -> bool
     ensures { result ≡ spec.is_typed_value value.now }
 {
-    value.is_sent_ahead != 0 || is_value(&value.value)
+    value.is_sent_ahead != 0 || is_param(&value.value)
 }
 
-/// Whether each was sent ahead, or its value is one.
+/// Whether each was sent ahead, or its value is one of a parameter.
 pub(crate) fn are_typed_values(values: &[CTypedValue<'_>]) -> bool
     ensures { result ≡ list_all spec.is_typed_value values.now }
 {

@@ -1,11 +1,12 @@
 //! Values as C has them.
 #![tactic(auto, unfolding(crate::specs::Value::value_content, crate::specs::Value::param_content))]
 
+ghost use Rattle.std.specs.Int.{w64, cast_signed};
 ghost use Rattle.std.specs.List.{list_all};
 ghost use Rattle.std.specs.Prelude.{◌≡◌, [], IfSome, is_some};
 ghost use Rattle.mysql_values.specs.ValueRef.{ref_content};
 ghost use Rattle.mysql_values.specs.ParamValue.{Plain, WithOffset};
-ghost use Rattle.mysql_packets_c.specs.Value.{KeepsDate, Sets, SetsParam, is_value, param_content, value_content};
+ghost use Rattle.mysql_packets_c.specs.Value.{KeepsDate, Sets, SetsParam, date_with_offset_of, is_offset, is_offset_date, is_param, is_value, param_content, value_content};
 
 use mysql_values::{DateTimeWithOffset, ValueRef};
 
@@ -153,6 +154,65 @@ pub(crate) fn is_value(value: &CValue<'_>) -> bool
         6 => value.days < 1 << 16,
         _ => false,
     }
+}
+
+/// Whether the number is an offset: 16 bits hold it, in two's complement.
+fn is_offset(number: u64) -> bool
+    ensures { result ≡ is_offset number }
+{
+    number < 1 << 15 || number >= u64::MAX - 0x7fff
+}
+
+/// The offset that the number is, where it is one.
+#[tactic(auto, using(crate::proofs::Offsets::offsets))]
+fn offset_of(number: u64) -> Option<i16>
+    ensures value { IfSome result (λ offset. offset ≡ cast_signed w64 number) }
+    ensures is_there { is_some result ≡ is_offset number }
+{
+    i16::try_from(number.cast_signed()).ok()
+}
+
+/// Whether it is a date with an offset, whose year and offset fit 16 bits.
+pub(crate) fn is_offset_date(value: &CValue<'_>) -> bool
+    ensures { result ≡ is_offset_date value.now }
+{
+    value.kind == 8 && value.days < 1 << 16 && is_offset(value.number)
+}
+
+/// The date with an offset that C handed in. `None` where it is none: its kind is another, or its year or its offset doesn't fit 16 bits.
+pub(crate) fn to_date_with_offset(value: &CValue<'_>) -> Option<DateTimeWithOffset>
+    ensures value { IfSome result (λ date. date ≡ date_with_offset_of value.now) }
+    ensures is_there { is_some result ≡ is_offset_date value.now }
+{
+    if value.kind != 8 {
+        return None;
+    }
+    Some(DateTimeWithOffset {
+        year: u16::try_from(value.days).ok()?,
+        month: value.month,
+        day: value.day,
+        hour: value.hour,
+        minute: value.minute,
+        second: value.second,
+        micros: value.micros,
+        offset_minutes: offset_of(value.number)?,
+    })
+}
+
+/// Whether a parameter or an attribute may have it: it is a value, or a date with an offset.
+#[inline(always)]
+pub(crate) fn is_param(value: &CValue<'_>) -> bool
+    ensures { result ≡ is_param value.now }
+{
+    is_value(value) || is_offset_date(value)
+}
+
+/// Whether parameters may have each of them.
+#[inline(always)]
+pub(crate) fn are_params(values: &[CValue<'_>]) -> bool
+    ensures { result ≡ list_all is_param values.now }
+{
+    values.iter().all(|value| is_param(value))
 }
 
 /// Whether each of them is a value.

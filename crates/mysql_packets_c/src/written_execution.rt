@@ -6,7 +6,7 @@ ghost use Rattle.std.specs.Option.{option_copied};
 ghost use Rattle.std.specs.Prelude.{◌≡◌, false, true};
 ghost use Rattle.mysql_prepared.specs.ExecuteWithOptions as library;
 ghost use Rattle.mysql_prepared.specs.SentParam.{sent_params};
-ghost use Rattle.mysql_packets_c.specs.Value.{is_value};
+ghost use Rattle.mysql_packets_c.specs.Value.{is_param};
 ghost use Rattle.mysql_packets_c.specs.WrittenExecution as spec;
 ghost use Rattle.mysql_packets_c.specs.WrittenExecution.{IsRefused, PutsExecution};
 
@@ -16,7 +16,7 @@ use crate::flags::capabilities_of;
 use crate::output::answer_count;
 use crate::query_attribute::{CQueryAttribute, are_attributes};
 use crate::typed_value::{CTypedValue, are_typed_values};
-use crate::value::{CValue, are_values};
+use crate::value::{CValue, are_params};
 use mysql_prepared::{AsExecuteParam, ComStmtExecuteOptionsBuilder};
 use mysql_wire::{CapabilityFlags, CursorType, Flags};
 
@@ -65,7 +65,7 @@ fn put_execution<V: AsExecuteParam, A: AsExecuteParam>(
     }
 }
 
-/// Writes `COM_STMT_EXECUTE` with the values: 0; 5, and how many bytes it takes; 4; or 3 where one of them is no value, and then
+/// Writes `COM_STMT_EXECUTE` with the values: 0; 5, and how many bytes it takes; 4; or 3 where one of them is no value of a parameter, and then
 /// `as_long_data` is as it was.
 #[unsafe(no_mangle)]
 pub extern "C" fn myp_write_execution(
@@ -75,10 +75,10 @@ pub extern "C" fn myp_write_execution(
     written: &mut usize,
     as_long_data: &mut u8,
 ) -> u32
-    ensures refused { list_all is_value values.now ≡ false → IsRefused result out.old out.new written.new as_long_data.old as_long_data.new }
-    ensures value { list_all is_value values.now ≡ true → PutsExecution (spec.without_options statement_id values.now) result out.old out.new written.new as_long_data.new }
+    ensures refused { list_all is_param values.now ≡ false → IsRefused result out.old out.new written.new as_long_data.old as_long_data.new }
+    ensures value { list_all is_param values.now ≡ true → PutsExecution (spec.without_options statement_id values.now) result out.old out.new written.new as_long_data.new }
 {
-    if !are_values(values) {
+    if !are_params(values) {
         *written = 0;
         return INVALID_INPUT;
     }
@@ -100,7 +100,7 @@ pub extern "C" fn myp_write_execution_with_cursor(
     ensures refused { spec.may_open cursor values.now ≡ false → IsRefused result out.old out.new written.new as_long_data.old as_long_data.new }
     ensures value { spec.may_open cursor values.now ≡ true → PutsExecution (spec.with_cursor statement_id cursor values.now) result out.old out.new written.new as_long_data.new }
 {
-    if !is_cursor(cursor) || !are_values(values) {
+    if !is_cursor(cursor) || !are_params(values) {
         *written = 0;
         return INVALID_INPUT;
     }
@@ -130,7 +130,7 @@ pub extern "C" fn myp_write_execution_with_attributes(
     ensures refused { spec.may_send cursor values.now attributes.now ≡ false → IsRefused result out.old out.new written.new as_long_data.old as_long_data.new }
     ensures value { spec.may_send cursor values.now attributes.now ≡ true → PutsExecution (spec.with_attributes statement_id cursor values.now attributes.now) result out.old out.new written.new as_long_data.new }
 {
-    if !is_cursor(cursor) || !are_values(values) || !are_attributes(attributes) {
+    if !is_cursor(cursor) || !are_params(values) || !are_attributes(attributes) {
         *written = 0;
         return INVALID_INPUT;
     }

@@ -3,7 +3,7 @@ use Rattle.mysql_prepared.specs.Execution.{Execution}
 use Rattle.std.specs.List.{list_all}
 use Rattle.mysql_prepared.specs.SentParam.{sent_params}
 use Rattle.mysql_packets_c.specs.Execution.{own_type, param}
-use Rattle.mysql_packets_c.specs.Value.{is_value}
+use Rattle.mysql_packets_c.specs.Value.{is_param}
 use Rattle.mysql_packets_c.specs.WrittenExecution.{PutsExecution, attribute_param, attribute_type, is_cursor, is_spelled, with_cursor}
 use Rattle.mysql_packets_c.proofs.WrittenExecutions.{and-first, own-execution, same-asked}
 use Rattle.mysql_packets_c.proofs.written_execution.myp_write_execution_with_cursor.Goals as goal
@@ -11,7 +11,7 @@ use Rattle.mysql_packets_c.proofs.written_execution.myp_write_execution_with_cur
 pub returns-clause-value : goal.returns-clause-value
 returns-clause-value c = λ h.
     let ps = sent_params param own_type c.args.values.now in
-    let flags = ap (λ f. f.0) (c.cursor_flags.ensures (and-first (is_cursor c.args.cursor) (list_all is_value c.args.values.now) h)) in
+    let flags = ap (λ f. f.0) (c.cursor_flags.ensures (and-first (is_cursor c.args.cursor) (list_all is_param c.args.values.now) h)) in
     let same = same-asked attribute_param attribute_type ps (record { stmt_id = c.args.statement_id; flags = c.cursor_flags.result; iteration_count = 1; sends_types = true; attributes = None }) c.args.statement_id c.args.cursor 1 true None refl flags refl refl refl in
     let spelled = ap is_spelled same ∙ own-execution (with_cursor c.args.statement_id c.args.cursor c.args.values.now) c.args.values.now None refl refl in
     subst (λ (e : Bool → Execution). PutsExecution e c.put_execution.result c.args.out.now c.put_execution.new.out c.put_execution.new.written c.put_execution.new.as_long_data) same (c.put_execution.ensures.spelled spelled)
