@@ -463,14 +463,15 @@ enum myp_kind { MYP_NULL, MYP_BYTES, MYP_INT, MYP_UINT, MYP_FLOAT, MYP_DOUBLE, M
  *   MYP_DATE     days (the year), month, day, hour, minute, second, micros; number and is_negative are 0
  *   MYP_TIME     is_negative, days, hour, minute, second, micros; number, month and day are 0
  *   MYP_DATE_WITH_OFFSET
- *                those of MYP_DATE, and number: the offset from UTC in minutes, in two's complement. Parameters and attributes
- *                alone have it, of the types DATETIME and TIMESTAMP */
+ *                those of MYP_DATE, and number: the offset from UTC in minutes, in two's complement, from -32768 to 32767.
+ *                Parameters and attributes alone have it, of the types DATETIME and TIMESTAMP: calls that write rows and bulk
+ *                requests return MYP_INVALID_INPUT for it */
 typedef struct myp_value {
     uint8_t kind; /* of enum myp_kind */
     uint8_t is_negative, month, day, hour, minute, second;
     uint8_t reserved;
     uint32_t micros;
-    uint32_t days; /* of MYP_DATE the year */
+    uint32_t days; /* of MYP_DATE and MYP_DATE_WITH_OFFSET the year */
     uint64_t number;
     myp_bytes bytes;
 } myp_value;
@@ -672,7 +673,7 @@ typedef struct myp_typed_value {
 /* Writes COM_STMT_EXECUTE with this head, as a proxy does that writes one again that it read: by what both sides can do, and each value under its
  * type. A number takes as many bytes as the type has; MYP_FLOAT needs MYP_TYPE_FLOAT, MYP_DOUBLE MYP_TYPE_DOUBLE; a date needs MYP_TYPE_DATETIME
  * or MYP_TYPE_TIMESTAMP, or MYP_TYPE_DATE without a time of day; MYP_TIME needs MYP_TYPE_TIME; bytes need another type, and MYP_NULL takes any.
- * Dates and times are written in their shortest form, and MYP_DATE_WITH_OFFSET is only read.
+ * Dates and times are written in their shortest form; MYP_DATE_WITH_OFFSET has one form, and needs MYP_TYPE_DATETIME or MYP_TYPE_TIMESTAMP.
  * Where sends_types is 0, no types are sent: those passed are the ones that an earlier execution of the statement sent. Types are sent in any
  * case where there are attributes. Attributes and names are written under MYP_CLIENT_QUERY_ATTRIBUTES alone. *as_long_data is that of
  * myp_write_execution. MYP_INVALID_INPUT of a value that is none or that its type doesn't spell, and *written is 0 and *as_long_data as it

@@ -93,7 +93,7 @@ static void cursors(void)
     CHECK(myp_write_execution_with_cursor(1, MYP_CURSOR_FOR_UPDATE, v, 9, out, 30, &n, &as_long_data) == MYP_BUFFER_TOO_SMALL && n == 31 && as_long_data == 0);
     out[0] = 7, as_long_data = 7;
     CHECK(myp_write_execution_with_cursor(1, 8, v, 9, out, sizeof out, &n, &as_long_data) == MYP_INVALID_INPUT && n == 0 && out[0] == 7 && as_long_data == 7);
-    v[8].kind = 8;
+    v[8].kind = 9;
     CHECK(myp_write_execution_with_cursor(1, 0, v, 9, out, sizeof out, &n, &as_long_data) == MYP_INVALID_INPUT && n == 0 && out[0] == 7 && as_long_data == 7);
 }
 
@@ -127,12 +127,61 @@ static void query_attributes(void)
     CHECK(myp_read_query_attribute(out, n, 3, &t) == MYP_END && myp_read_command(out, n, MYP_CLIENT_QUERY_ATTRIBUTES, &c) == MYP_OK && c.text.len == 8 && !memcmp(c.text.data, "select 1", 8));
     CHECK(myp_write_query_with_attributes(NULL, 0, NULL, 0, out, sizeof out, &n) == MYP_OK && is_hex(out, n, "030001"));
     CHECK(myp_write_query_with_attributes((const uint8_t *)"select 1", 8, a, 1, out, 20, &n) == MYP_BUFFER_TOO_SMALL && n == 21);
-    out[0] = 7, as_long_data = 7, a[1].value.kind = 8;
+    out[0] = 7, as_long_data = 7, a[1].value.kind = 9;
     CHECK(myp_write_query_with_attributes((const uint8_t *)"select 1", 8, a, 3, out, sizeof out, &n) == MYP_INVALID_INPUT && n == 0 && out[0] == 7);
     CHECK(myp_write_execution_with_attributes(1, 0, v, 2, a, 3, out, sizeof out, &n, &as_long_data) == MYP_INVALID_INPUT && n == 0 && out[0] == 7 && as_long_data == 7);
     CHECK(myp_write_execution_with_attributes(1, 16, v, 2, a, 1, out, sizeof out, &n, &as_long_data) == MYP_INVALID_INPUT && n == 0 && out[0] == 7);
     v[0].bytes.data = huge, v[0].bytes.len = sizeof huge, v[0].kind = MYP_BYTES;
     CHECK(myp_write_execution_with_attributes(1, 0, v, 1, a, 1, out, sizeof out, &n, &as_long_data) == MYP_OK && as_long_data == 1 && is_hex(out, n, "17010000000801000000" "02" "00" "01" "fd0000" "fd00026e31" "027631"));
+}
+
+/* A date with its offset from UTC in minutes. */
+static myp_value zoned(myp_value date, int64_t minutes)
+{
+    date.kind = MYP_DATE_WITH_OFFSET, date.number = (uint64_t)minutes;
+    return date;
+}
+
+/* Dates with an offset, as libmysqlclient 9.3 sends them (executions.txt, commands.txt): in parameters and attributes, and in no row. */
+static void offsets(void)
+{
+    uint8_t out[64], as_long_data = 7;
+    size_t n = 9, rows = 9;
+    myp_value v = zoned(myp_datetime(2011, 2, 3, 4, 5, 6, 123456), 754);
+    CHECK(myp_write_execution(1, &v, 1, out, sizeof out, &n, &as_long_data) == MYP_OK && as_long_data == 0 && is_hex(out, n, "17010000000001000000" "00" "01" "0c00" "0ddb07020304050640e20100f202"));
+    CHECK(myp_write_execution(1, &v, 1, out, 27, &n, &as_long_data) == MYP_BUFFER_TOO_SMALL && n == 28);
+    CHECK(myp_write_execution_with_cursor(1, MYP_CURSOR_READ_ONLY, &v, 1, out, sizeof out, &n, &as_long_data) == MYP_OK && is_hex(out, n, "17010000000101000000" "00" "01" "0c00" "0ddb07020304050640e20100f202"));
+    myp_execution_head h = { 10, 1, 1, MYP_PARAMETER_COUNT_AVAILABLE };
+    myp_typed_value t[2] = { typed(v, MYP_TYPE_DATETIME), typed(myp_int(7), MYP_TYPE_LONGLONG) }, a;
+    CHECK(myp_write_execution_with_types(&h, MYP_CLIENT_QUERY_ATTRIBUTES, 1, t, 2, NULL, 0, out, sizeof out, &n, &as_long_data) == MYP_OK && is_hex(out, n, "170100000008010000000200010c00000800000ddb07020304050640e20100f2020700000000000000"));
+    t[0] = typed(zoned(myp_datetime(2024, 2, 3, 4, 5, 6, 0), -180), MYP_TYPE_TIMESTAMP);
+    CHECK(myp_write_execution_with_types(&h, MYP_CLIENT_QUERY_ATTRIBUTES, 1, t, 2, NULL, 0, out, sizeof out, &n, &as_long_data) == MYP_OK && is_hex(out, n, "170100000008010000000200010700000800000de8070203040506000000004cff0700000000000000"));
+    a = t[0], a.name.data = (const uint8_t *)"d", a.name.len = 1;
+    CHECK(myp_write_execution_with_types(&h, MYP_CLIENT_QUERY_ATTRIBUTES, 1, t + 1, 1, &a, 1, out, sizeof out, &n, &as_long_data) == MYP_OK && is_hex(out, n, "17010000000801000000" "02" "00" "01" "080000" "07000164" "0700000000000000" "0de8070203040506000000004cff"));
+    t[0].column_type = MYP_TYPE_DATE, out[0] = 7, as_long_data = 7;
+    CHECK(myp_write_execution_with_types(&h, MYP_CLIENT_QUERY_ATTRIBUTES, 1, t, 2, NULL, 0, out, sizeof out, &n, &as_long_data) == MYP_INVALID_INPUT && n == 0 && out[0] == 7 && as_long_data == 7);
+    myp_query_attribute d = attribute("d", zoned(myp_datetime(2024, 2, 3, 4, 5, 6, 0), 60)), again = MYP_QUERY_ATTRIBUTE_INIT;
+    CHECK(myp_write_query_with_attributes((const uint8_t *)"SELECT 1", 8, &d, 1, out, sizeof out, &n) == MYP_OK && is_hex(out, n, "03010100010c0001640de8070203040506000000003c0053454c4543542031"));
+    CHECK(myp_read_query_attribute(out, n, 0, &again) == MYP_OK && again.column_type == MYP_TYPE_DATETIME && again.value.kind == MYP_DATE_WITH_OFFSET && again.value.days == 2024 && again.value.number == 60);
+    v = myp_int(5);
+    CHECK(myp_write_execution_with_attributes(1, 0, &v, 1, &d, 1, out, sizeof out, &n, &as_long_data) == MYP_OK && is_hex(out, n, "17010000000801000000" "02" "00" "01" "080000" "0c000164" "0500000000000000" "0de8070203040506000000003c00"));
+    v = zoned(myp_datetime(65535, 1, 2, 0, 0, 0, 0), -32768);
+    CHECK(myp_write_execution(1, &v, 1, out, sizeof out, &n, &as_long_data) == MYP_OK && is_hex(out, n, "17010000000001000000" "00" "01" "0c00" "0dffff010200000000000000" "0080"));
+    v.number = 32767;
+    CHECK(myp_write_execution(1, &v, 1, out, sizeof out, &n, &as_long_data) == MYP_OK && is_hex(out, n, "17010000000001000000" "00" "01" "0c00" "0dffff010200000000000000" "ff7f"));
+    out[0] = 7, as_long_data = 7, v.number = 32768;
+    CHECK(myp_write_execution(1, &v, 1, out, sizeof out, &n, &as_long_data) == MYP_INVALID_INPUT && n == 0 && out[0] == 7 && as_long_data == 7);
+    v.number = (uint64_t)-32769, d.value = v;
+    CHECK(myp_write_execution(1, &v, 1, out, sizeof out, &n, &as_long_data) == MYP_INVALID_INPUT && n == 0 && out[0] == 7);
+    CHECK(myp_write_query_with_attributes(NULL, 0, &d, 1, out, sizeof out, &n) == MYP_INVALID_INPUT && n == 0 && out[0] == 7);
+    v.number = 0, v.days = 65536, t[0] = typed(v, MYP_TYPE_DATETIME);
+    CHECK(myp_write_execution(1, &v, 1, out, sizeof out, &n, &as_long_data) == MYP_INVALID_INPUT && n == 0 && out[0] == 7);
+    CHECK(myp_write_execution_with_types(&h, 0, 0, t, 2, NULL, 0, out, sizeof out, &n, &as_long_data) == MYP_INVALID_INPUT && n == 0 && out[0] == 7 && as_long_data == 7);
+    v.days = 2024;
+    static const myp_column_type date = { MYP_TYPE_DATETIME, 0 };
+    CHECK(myp_write_text_row(&v, 1, out, sizeof out, &n) == MYP_INVALID_INPUT && n == 0 && out[0] == 7);
+    CHECK(myp_write_binary_row(&date, 1, &v, 1, out, sizeof out, &n) == MYP_INVALID_INPUT && n == 0 && out[0] == 7);
+    CHECK(myp_write_bulk(1, 0, 64, &date, 1, &v, 1, out, sizeof out, &n, &rows) == MYP_INVALID_INPUT && n == 0 && rows == 0 && out[0] == 7);
 }
 
 static void bulk(void)
@@ -347,6 +396,7 @@ void client_checks(void)
     typed_executions();
     executions_again();
     cursors();
+    offsets();
     query_attributes();
     bulk();
     sizes_of_rows();
