@@ -5,6 +5,8 @@ use Rattle.std.proofs.lemmas.List.{append-nil}
 use Rattle.std.specs.Option.{option_map}
 use Rattle.mysql_auth.proofs.ResponseEnds.{response-ends}
 use Rattle.mysql_auth.specs.Attributes.{Attribute, attributes}
+use Rattle.mysql_auth.specs.ConnectAttributesRef.{ArePairs}
+use Rattle.mysql_wire.specs.Many.{many}
 use Rattle.mysql_auth.specs.AuthPlugin.{plugin_of}
 use Rattle.mysql_auth.specs.PluginName.{plugin_null}
 use Rattle.mysql_wire.specs.CountedBytes.{u8_string_bytes}
@@ -99,5 +101,12 @@ login-without c given p none is =
 pub level-held : (level : Option ℕ) → option_map (λ (n : RawInt ℕ ℕ). n.0) (option_map raw_int level) ≡ level
 level-held None = refl
 level-held (Some n) = refl
+
+-- no bytes are no pairs
+pub no-pairs : (bytes : List ℕ) → bytes ≡ [] → ArePairs bytes
+unfolding many
+no-pairs bytes none = rw none refl
+
+pub ruleset pairs = (no-pairs)
 
 pub ruleset logins = (login-ends, login-without)

@@ -3,8 +3,8 @@ use Rattle.std.specs.Prelude.{Some, ◌≡◌, ◌<◌, ℕ, Bool, not, ◌&&◌
 use Rattle.mysql_wire.specs.FlagMasks.{CLIENT_CONNECT_ATTRS, CLIENT_PLUGIN_AUTH}
 use Rattle.mysql_wire.specs.Flags.{has}
 use Rattle.mysql_auth.specs.Attributes.{Attribute}
-use Rattle.mysql_auth.specs.AuthPlugin.{plugin_of}
-use Rattle.mysql_auth.specs.ConnectAttributesRef.{pairs_in}
+use Rattle.mysql_auth.specs.AuthPlugin.{plugin_name, plugin_of}
+use Rattle.mysql_auth.specs.ConnectAttributesRef.{ArePairs, pairs_in}
 use Rattle.mysql_auth.specs.declared.auth_plugin.AuthPlugin.{AuthPlugin}
 use Rattle.mysql_auth.specs.ComChangeUser as change
 use Rattle.mysql_auth.specs.declared.com_change_user.ComChangeUser.{ComChangeUser}
@@ -47,6 +47,11 @@ more_held out =
     if out.has_character_set == 0 then None
     else Some (change.more_data_of out.character_set (option_map plugin_of (if_set out.has_auth_plugin_name out.auth_plugin_name.now)) (option_map pairs_in (if_set out.has_attributes out.attributes.now)))
 
+-- the bytes of the plugin's name, where one was sent
+abbrev pub name_sent : Option ComChangeUserMoreData → Option (List ℕ)
+name_sent None = None
+name_sent (Some more) = option_map plugin_name (change.auth_plugin more)
+
 -- 1 beside what was sent; or 0, beside nothing
 pub record SaysMore (out : CChangeUser) : Type 0 where
   pub flag : out.has_character_set < 2
@@ -66,5 +71,7 @@ pub record HoldsChange (packet : List ℕ) (p : ComChangeUser) (rest : List ℕ)
   pub auth_response : out.auth_response.now ≡ change.auth_plugin_data p
   pub database : out.database.now ≡ change.database p
   pub more_data : more_held out ≡ change.more_data_in p
+  pub auth_plugin_bytes : if_set out.has_auth_plugin_name out.auth_plugin_name.now ≡ name_sent (change.more_data_in p)
+  pub whole_attributes : ArePairs out.attributes.now
   pub has_more_data : SaysMore out
   pub used : out.used ≡ used_of packet rest

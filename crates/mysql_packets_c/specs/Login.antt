@@ -1,8 +1,8 @@
 -- The login of a client, as C has it.
 use Rattle.std.specs.Int.{bit_at}
 use Rattle.std.specs.Prelude.{◌≡◌, ◌≢◌, ◌<◌, ℕ, Bool, ◌==◌, ◌||◌, List, option_map}
-use Rattle.mysql_auth.specs.AuthPlugin.{plugin_of}
-use Rattle.mysql_auth.specs.ConnectAttributesRef.{pairs_in}
+use Rattle.mysql_auth.specs.AuthPlugin.{plugin_name, plugin_of}
+use Rattle.mysql_auth.specs.ConnectAttributesRef.{ArePairs, pairs_in}
 use Rattle.mysql_auth.specs.HandshakeResponse as response
 use Rattle.mysql_auth.specs.declared.handshake_response.HandshakeResponse.{HandshakeResponse}
 use Rattle.mysql_wire.specs.FlagMasks.{CLIENT_CONNECT_WITH_DB, CLIENT_PLUGIN_AUTH, CLIENT_CONNECT_ATTRS}
@@ -37,15 +37,18 @@ pub record IsLogin (c : CLogin) (given : List CAttribute) (p : HandshakeResponse
 abbrev pub with_attributes : CLogin → List CAttribute → HandshakeResponse → HandshakeResponse
 with_attributes c given p = record p { connect_attributes = if_set c.has_attributes (merged_pairs given) }
 
--- what was not sent is empty
+-- What was not sent is empty. The name of the plugin has no zero that was not sent, and the bytes of the attributes are whole pairs: each
+-- that was sent, also one whose name comes again.
 pub record HoldsLogin (packet : List ℕ) (p : HandshakeResponse) (rest : List ℕ) (out : CLogin) : Type 0 where
   pub user : out.user.now ≡ response.user p
   pub auth_response : out.auth_response.now ≡ response.scramble_buf p
   pub database : if_set out.has_database out.database.now ≡ response.db_name p
   pub has_database : SaysSent out.has_database out.database.now
   pub auth_plugin_name : option_map plugin_of (if_set out.has_auth_plugin_name out.auth_plugin_name.now) ≡ response.auth_plugin p
+  pub auth_plugin_bytes : if_set out.has_auth_plugin_name out.auth_plugin_name.now ≡ option_map plugin_name (response.auth_plugin p)
   pub has_auth_plugin_name : SaysSent out.has_auth_plugin_name out.auth_plugin_name.now
   pub attributes : option_map pairs_in (if_set out.has_attributes out.attributes.now) ≡ response.connect_attributes p
+  pub whole_attributes : ArePairs out.attributes.now
   pub has_attributes : SaysSent out.has_attributes out.attributes.now
   pub zstd_level : if_set out.has_zstd_level out.zstd_level ≡ response.zstd_level p
   pub capabilities : out.capabilities ≡ (response.capabilities p).0

@@ -1,14 +1,16 @@
 //! The change of a session's user.
-#![tactic(auto, using(crate::proofs::Codes::codes))]
+#![tactic(auto, using(crate::proofs::Codes::codes, crate::proofs::Logins::pairs))]
 
 ghost use Rattle.std.specs.Prelude.{false, ◌≡◌, true, option_map, None};
 ghost use Rattle.mysql_auth.specs.ComChangeUser as change;
 ghost use Rattle.mysql_auth.specs.ComChangeUser.{change_user_as_sent, session_change_user};
+ghost use Rattle.mysql_auth.specs.ConnectAttributesRef.{ArePairs};
 ghost use Rattle.mysql_wire.specs.FlagMasks.{CLIENT_CONNECT_ATTRS, CLIENT_PLUGIN_AUTH};
 ghost use Rattle.mysql_wire.specs.Flags.{has};
 ghost use Rattle.mysql_packets_c.specs.ChangeUser as spec;
 ghost use Rattle.mysql_packets_c.specs.ChangeUser.{change_of};
 ghost use Rattle.mysql_packets_c.specs.Code.{ReadsInto};
+ghost use Rattle.mysql_packets_c.specs.Given.{if_set};
 ghost use Rattle.mysql_packets_c.specs.Output.{PutsUnlessTooLong};
 
 use crate::attributes::{CAttribute, WrittenAttributes, are_texts};
@@ -44,6 +46,8 @@ pub struct CChangeUser<'a> {
 /// Puts more data, or that there is none.
 fn put_more_data<'a>(more: Option<&ComChangeUserMoreDataRef<'a>>, out: &mut CChangeUser<'a>)
     ensures value { spec.more_held out.new ≡ option_map (λ more. more.now) more.entry }
+    ensures name { if_set out.new.has_auth_plugin_name out.new.auth_plugin_name.now ≡ spec.name_sent (option_map (λ more. more.now) more.entry) }
+    ensures whole { ArePairs out.new.attributes.now }
     ensures says { spec.SaysMore out.new }
     ensures others { spec.KeepsOthers out.old out.new }
 {

@@ -6,7 +6,7 @@ ghost use Rattle.std.specs.Option.{option_map_or};
 ghost use Rattle.std.specs.Prelude.{false, ◌≡◌, map, option_map, true, [], List};
 ghost use Rattle.mysql_auth.specs.Attributes.{text_pair};
 ghost use Rattle.mysql_auth.specs.AuthPlugin.{plugin_of};
-ghost use Rattle.mysql_auth.specs.ConnectAttributesRef.{pairs_in};
+ghost use Rattle.mysql_auth.specs.ConnectAttributesRef.{ArePairs, pairs_in};
 ghost use Rattle.mysql_auth.specs.HandshakeResponse.{connect_attributes, handshake_response, handshake_response_as_sent};
 ghost use Rattle.mysql_auth.specs.declared.handshake_response.HandshakeResponse.{HandshakeResponse};
 ghost use Rattle.mysql_packets_c.specs.Code.{ReadsInto};
@@ -59,8 +59,10 @@ pub(crate) fn sent<'a>(bytes: Option<&'a [u8]>) -> (u8, &'a [u8])
 }
 
 /// Whether attributes were sent, and their bytes.
+#[tactic(auto, using(crate::proofs::Logins::pairs))]
 pub(crate) fn sent_attributes<'a>(attributes: Option<ConnectAttributesRef<'a>>) -> (u8, &'a [u8])
     ensures value { option_map pairs_in (if_set result.0 result.1.now) ≡ attributes.entry }
+    ensures whole { ArePairs result.1.now }
     ensures says { SaysSent result.0 result.1.now }
 {
     match attributes {
