@@ -997,8 +997,8 @@ typedef struct myp_bulk_head {
 uint32_t myp_read_bulk_head(const uint8_t *packet, size_t len, myp_bulk_head *out);
 
 /* Takes the types of so many columns off the front of *rest, which begins as the rows of a head under MYP_SEND_TYPES_TO_SERVER; without it
- * those of an earlier execution stand. MYP_UNEXPECTED_EOF of fewer bytes; MYP_INVALID_DATA of a byte that is no type: *rest is as it was, and
- * the types before it may be set. */
+ * those of an earlier execution stand. MYP_UNEXPECTED_EOF of fewer bytes; MYP_INVALID_DATA of a byte that is no type: *rest is as it was, the
+ * types before it may be set, and the others are as they were. */
 uint32_t myp_read_bulk_types(myp_bytes *rest, myp_column_type *types, size_t columns);
 
 /* How a value of a bulk row is given: each but the first is of MYP_NULL. */
@@ -1037,7 +1037,7 @@ typedef struct myp_execution {
  * statement, and under MYP_CLIENT_QUERY_ATTRIBUTES with attributes after them. A server keeps the types of the parameters for an execution
  * that sends none. What was sent ahead is MYP_NULL. MYP_BUFFER_TOO_SMALL where there are fewer values or types than
  * parameters: nothing is changed. MYP_UNEXPECTED_EOF; MYP_INVALID_DATA, also of a count below that of the parameters, and of attributes without
- * types: of the values and the types the first ones may be set. */
+ * types: as many of the first values as of the first types may be set, and the others are as they were. */
 uint32_t myp_read_execution(const uint8_t *packet, size_t len, uint32_t capabilities, const myp_param *params, size_t n_params,
                             myp_value *values, size_t n_values, myp_column_type *types, size_t n_types, myp_execution *out);
 

@@ -20,17 +20,15 @@ use Rattle.mysql_bulk.specs.Row.{row_size}
 use Rattle.mysql_bulk.proofs.ColumnTypes.{not_as_long, spelled_long}
 use Rattle.mysql_bulk.proofs.RequestBytes.{contents_indicators, length-head, length-values, size-rows_in}
 use Rattle.mysql_bulk.proofs.RequestWriter.{bytes_are, holds_request}
-use Rattle.mysql_prepared.specs.ExecuteParam.{value_of}
 use Rattle.mysql_values.specs.Value.{Content}
 use Rattle.mysql_packets_c.specs.Bulk.{cell_bytes, declared_type, declared_types, head_bytes, takes_row}
 use Rattle.mysql_packets_c.specs.BulkByRow.{AddsAsBuilder, AddsRow, HoldsRows, buffer_with, builder_in, may_add, size_with}
-use Rattle.mysql_packets_c.specs.Execution.{param}
 use Rattle.mysql_packets_c.specs.Output.{Puts, PutsUnlessTooLong}
 use Rattle.mysql_packets_c.specs.Value.{is_value, value_content, values_contents}
 use Rattle.mysql_packets_c.specs.declared.rows.CColumnType.{CColumnType}
 use Rattle.mysql_packets_c.specs.declared.value.CValue.{CValue}
 use Rattle.mysql_packets_c.proofs.BulkRows.{past-limit, within-limit}
-use Rattle.mysql_packets_c.proofs.WrittenRows.{values-sent}
+use Rattle.mysql_packets_c.proofs.BulkRequests.{sent-cells}
 
 -- ---- the head
 
@@ -67,9 +65,6 @@ cells-of values = append-nil (values_bytes (map with_indicator values)) ∙ flat
 length-cells : (values : List Content) → length (flat_map cell values) ≡ row_size values
 length-cells values =
     ap length (sym (flat_map-map param_value_bytes with_indicator values)) ∙ length-values (map with_indicator values) ∙ ap row_size (contents_indicators values)
-
-sent-cells : (row : List CValue) → list_all is_value row ≡ true → flat_map cell_bytes row ≡ flat_map cell (values_contents row)
-sent-cells row all = sym (ap (flat_map cell) (sym (values-sent row all)) ∙ flat_map-map cell (λ v. value_of (param v)) row)
 
 values-of : (types : List CColumnType) (row : List CValue) → takes_row types row ≡ true → (list_all is_value row ≡ true) × (spell_row (declared_types types) (values_contents row) ≡ true)
 values-of types row h = and_parts (list_all is_value row) (spell_row (declared_types types) (values_contents row)) h

@@ -1,5 +1,6 @@
 -- The request that is written of the rows that were counted.
 use Rattle.std.proofs.Common.{◌≡◌, ◌≢◌, ◌<◌, ◌≤◌, ◌+◌, ◌*◌, ◌++◌, ◌∷◌, ◌-◌, ◌^◌, ℕ, zero, suc, Bool, true, false, ◌&&◌, List, [], length, map, take, drop, Option, Some, None, refl, sym, subst, ap, ◌∙◌, arith, inl, inr, ◌⊎◌, get_or, min, add-one, append_assoc, if◌then◌else◌, sum_by}
+use Rattle.std.proofs.lemmas.Bool.{and_parts}
 use Rattle.std.proofs.lemmas.List.{append-nil, drop-drop, take-map, drop-map, length-drop, length-map, length-take-le, nil_from_length}
 use Rattle.std.proofs.lemmas.List.{map-append, take_more, take_all}
 use Rattle.std.proofs.lemmas.List.Folds.{flat_map-map}
@@ -19,19 +20,18 @@ use Rattle.mysql_bulk.specs.Request.{request_bytes, request_flags}
 use Rattle.mysql_bulk.specs.RequestWriter.{Holds, IsBuilt, WriterState, request_of}
 use Rattle.mysql_bulk.specs.Row.{first_length, param_size, row_size}
 use Rattle.mysql_bulk.proofs.RequestWriter.{bytes_are, holds_request, length_first}
-use Rattle.mysql_prepared.specs.ExecuteParam.{value_of}
+use Rattle.mysql_prepared.specs.ExecuteParam.{Sent}
 use Rattle.mysql_values.specs.ParamType.{param_type}
+use Rattle.mysql_values.specs.ParamValue.{Plain, WithOffset}
 use Rattle.mysql_values.proofs.Sizes.{length-bin}
 use Rattle.mysql_values.specs.Value.{Content, NULL, Bytes, Int, UInt, Float, Double, Date, Time, bin}
 use Rattle.mysql_values.specs.declared.param_type.ParamType.{ParamType}
-use Rattle.mysql_packets_c.specs.Bulk.{HasRows, WritesBuilt, builder_for, cell_bytes, declared_type, declared_types, first_rows, request_with, waits}
-use Rattle.mysql_packets_c.specs.Execution.{param}
+use Rattle.mysql_packets_c.specs.Bulk.{HasRows, WritesBuilt, builder_for, cell_bytes, declared_type, declared_types, first_rows, param_cell, request_with, waits}
 use Rattle.mysql_packets_c.specs.Output.{Puts, PutsUnlessTooLong}
-use Rattle.mysql_packets_c.specs.Value.{is_value, value_content, values_contents}
+use Rattle.mysql_packets_c.specs.Value.{date_with_offset_of, is_offset_date, is_value, value_content, values_contents}
 use Rattle.mysql_packets_c.specs.declared.bulk.BulkCall.{BulkCall}
 use Rattle.mysql_packets_c.specs.declared.rows.CColumnType.{CColumnType}
 use Rattle.mysql_packets_c.specs.declared.value.CValue.{CValue}
-use Rattle.mysql_packets_c.proofs.WrittenRows.{values-sent}
 use Rattle.mysql_packets_c.proofs.BulkRows.{length-rows_of, take-add}
 
 -- the types of the columns, as they are written
@@ -82,13 +82,25 @@ sent-types types (row ∷ rows) some = refl
 some-rows : (columns n : ℕ) (values : List CValue) → 1 ≤ n → first_rows columns n values ≢ []
 some-rows columns n values some none = let e : n ≡ 0 = sym (length-rows_of columns n (values_contents values)) ∙ ap length none in omega (arith, e, some)
 
+-- the cells of values are those of what they hold
+plain-cell : (content : Content) (b : Bool) → is_null content ≡ b → param_cell (Sent (Plain content)) ≡ cell content
+plain-cell content true e = ap (λ (null : Bool). if null then 1 ∷ [] else 0 ∷ bin content) e ∙ sym (null-cell content e)
+plain-cell content false e = ap (λ (null : Bool). if null then 1 ∷ [] else 0 ∷ bin content) e ∙ sym (value-cell content e)
+
+pub sent-cells : (values : List CValue) → list_all is_value values ≡ true → flat_map cell_bytes values ≡ flat_map cell (values_contents values)
+sent-cells [] h = refl
+sent-cells (v ∷ values) h =
+    let both = and_parts (is_value v) (list_all is_value values) h in
+    ap (λ (b : Bool). param_cell (Sent (if b then Plain (value_content v) else if is_offset_date v then WithOffset (date_with_offset_of v) else Plain NULL)) ++ flat_map cell_bytes values) both.0
+    ∙ ap (λ (l : List ℕ). l ++ flat_map cell_bytes values) (plain-cell (value_content v) (is_null (value_content v)) refl)
+    ∙ ap (λ (l : List ℕ). cell (value_content v) ++ l) (sent-cells values both.1)
+
 -- the cells of the values are the bytes of the rows
 cells-of : (values : List CValue) → list_all is_value values ≡ true → values_bytes (map with_indicator (values_contents values)) ++ [] ≡ flat_map cell_bytes values
 cells-of values all =
     append-nil (values_bytes (map with_indicator (values_contents values)))
     ∙ flat_map-map param_value_bytes with_indicator (values_contents values)
-    ∙ ap (flat_map cell) (sym (values-sent values all))
-    ∙ flat_map-map cell (λ v. value_of (param v)) values
+    ∙ sym (sent-cells values all)
 
 bytes-of : (call : BulkCall) (n len : ℕ) (values : List CValue) → HasRows (builder_for call) (length call.columns.now) n len values → 1 ≤ n
     → request_bytes (request_of (waits (builder_for call) (length call.columns.now) n values) (first_rows (length call.columns.now) n values)) ≡ request_with call (take (n * length call.columns.now) values)

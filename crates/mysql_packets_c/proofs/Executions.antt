@@ -25,8 +25,8 @@ use Rattle.mysql_packets_c.specs.declared.execution.CExecution.{CExecution}
 use Rattle.mysql_packets_c.specs.declared.execution.CParam.{CParam}
 use Rattle.mysql_packets_c.specs.declared.rows.CColumnType.{CColumnType}
 use Rattle.mysql_packets_c.specs.declared.value.CValue.{CValue}
-use Rattle.mysql_packets_c.specs.Rows.{FillsPlaces}
-use Rattle.mysql_packets_c.proofs.FilledRows.{none-filled, one-more, one-param-set}
+use Rattle.mysql_packets_c.specs.Rows.{FillsBoth, FillsPlaces}
+use Rattle.mysql_packets_c.proofs.FilledRows.{none-both, none-filled, one-more, one-param-set}
 
 -- ---- one parameter more
 
@@ -101,6 +101,17 @@ some-filled count is_read old new values_before values types_before types left f
   few = omega (arith, left);
   all = λ h. let none : new.left ≡ 0 = (done h).0 in omega (arith, left, none);
   places = record { set = fills.set; others = fills.other_values };
+}
+
+-- of both arrays as many places are set
+pub both-filled : (count : ℕ) (is_read : Type 0) (old new : ParamsLeft) (values_before values : List CValue) (types_before types : List CColumnType)
+    → old.left ≡ count → FillsParams old new values_before values types_before types → (is_read → HasNoParam new) → FillsBoth count is_read values_before values types_before types
+both-filled count is_read old new values_before values types_before types left fills done = record {
+  count = old.left - new.left;
+  few = omega (arith, left);
+  all = λ h. let none : new.left ≡ 0 = (done h).0 in omega (arith, left, none);
+  places = record { set = fills.set; others = fills.other_values };
+  other_places = fills.other_types;
 }
 
 -- further places are as they were too
@@ -268,4 +279,4 @@ module _ (c : CapabilityFlags) (packet : List ℕ) (params : List BoundParam) (r
 
 pub ruleset fills = (one-content, one-type, one-param-set)
 
-pub ruleset executions = (not-memory, into-execution, fault-of-head, fault-of-params, none-filled, some-filled, types-kept)
+pub ruleset executions = (not-memory, into-execution, fault-of-head, fault-of-params, none-both, none-filled, both-filled, some-filled, types-kept)

@@ -10,7 +10,7 @@ use Rattle.mysql_wire.specs.Reading.{Reading, Faults}
 use Rattle.mysql_values.specs.ParamValue.{ParamContent, Plain, WithOffset}
 use Rattle.mysql_values.specs.Value.{Content, NULL, Bytes, Int, UInt, Float, Double, Date, Time}
 use Rattle.mysql_prepared.specs.RowView.{Gives, RowLeft, IsDone, RefusesNext, read_to, read_of}
-use Rattle.mysql_packets_c.specs.Rows.{Fills, FillsPlaces, values_held}
+use Rattle.mysql_packets_c.specs.Rows.{Fills, FillsBoth, FillsPlaces, values_held}
 use Rattle.mysql_packets_c.specs.Value.{IsSet, Sets, SetsParam, date_with_offset_of, kind_of, param_content, value_content}
 use Rattle.mysql_packets_c.specs.declared.value.CValue.{CValue}
 
@@ -100,6 +100,15 @@ none-filled columns is_read values none = record {
   few = omega arith;
   all = λ h. absurd (none h);
   places = record { set = tt; others = refl };
+}
+
+pub none-both : {X : Type 0} (columns : ℕ) (is_read : Type 0) (values : List CValue) (others : List X) → (is_read → ⊥) → FillsBoth columns is_read values values others others
+none-both columns is_read values others none = record {
+  count = 0;
+  few = omega arith;
+  all = λ h. absurd (none h);
+  places = record { set = tt; others = refl };
+  other_places = refl;
 }
 
 -- the places of the values that were read are set

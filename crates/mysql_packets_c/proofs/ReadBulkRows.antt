@@ -1,5 +1,5 @@
 -- The types and the rows of a bulk execution, read one after another.
-use Rattle.std.proofs.Common.{◌≡◌, ◌<◌, ◌≤◌, ◌+◌, ◌*◌, ◌-◌, ◌++◌, ◌∷◌, ℕ, Bool, true, false, List, [], length, map, take, drop, get_or, slice_set, Result, Ok, Err, refl, sym, subst, ap, ◌∙◌, arith, if◌then◌else◌}
+use Rattle.std.proofs.Common.{◌≡◌, ◌<◌, ◌≤◌, ◌+◌, ◌*◌, ◌-◌, ◌++◌, ◌∷◌, ℕ, Bool, true, false, List, [], length, map, take, drop, get_or, slice_set, Result, Ok, Err, refl, sym, subst, ap, ◌∙◌, arith, if◌then◌else◌, nat_lt}
 use Rattle.std.proofs.lemmas.List.{drop-drop, get_or-map, length-map, length-set, map-append, take_all, take_more_set}
 use Rattle.std.specs.List.{AllZip}
 use Rattle.mysql_wire.specs.Each.{each}
@@ -23,24 +23,25 @@ use Rattle.mysql_bulk.specs.ParamValue.{ParamValue, contents, param_value}
 use Rattle.mysql_bulk.specs.ParamValues.{BulkColumn, value_of_column}
 use Rattle.mysql_bulk.specs.ReadRows.{content_of_column, row_of_columns}
 use Rattle.mysql_bulk.proofs.HeadTypes.{types_read, types_short}
-use Rattle.mysql_packets_c.specs.BulkRow.{ContentsInto, HoldsRow, ReadsRow, ReadsTypes, RowInto, TypesInto, bulk_row, column_of, indicators_of, types_held}
+use Rattle.mysql_packets_c.specs.BulkRow.{ContentsInto, FillsTypes, HoldsRow, ReadsRow, ReadsTypes, RowInto, TypesInto, bulk_row, column_of, indicators_of, types_held}
 use Rattle.mysql_packets_c.specs.Code.{fault_code, kind_code}
 use Rattle.mysql_packets_c.specs.ColumnType.{type_of, unsigned_of}
 use Rattle.mysql_packets_c.specs.Execution.{type_held}
-use Rattle.mysql_packets_c.specs.Rows.{FillsPlaces}
+use Rattle.mysql_packets_c.specs.Rows.{FillsBoth, FillsPlaces}
 use Rattle.mysql_packets_c.specs.Value.{IsSet, Sets, value_content, values_contents}
 use Rattle.mysql_packets_c.specs.declared.rows.CColumnType.{CColumnType}
 use Rattle.mysql_packets_c.specs.declared.text.CBytes.{CBytes}
 use Rattle.mysql_packets_c.specs.declared.value.CValue.{CValue}
-use Rattle.mysql_packets_c.proofs.FilledRows.{none-filled, one-set, others-kept}
+use Rattle.mysql_packets_c.proofs.FilledRows.{none-both, none-filled, one-set, others-kept}
 
 -- ---- types
 
 -- the types so far stand in the first places
 pub record TypesSoFar (old rest : List ℕ) (before types : List CColumnType) (place : ℕ) : Type 0 where
   pub found : List ParamType
-  pub read : with_front found ((counted (length before - place) (param_type.form tt)).reads rest) ≡ (counted (length before) (param_type.form tt)).reads old
+  pub read : (n : ℕ) → place ≤ n → with_front found ((counted (n - place) (param_type.form tt)).reads rest) ≡ (counted n (param_type.form tt)).reads old
   pub held : take place types ≡ types_held found
+  pub others : drop place types ≡ drop place before
   pub len : length types ≡ length before
   pub within : place ≤ length before
 
@@ -49,9 +50,14 @@ front-none (Ok x) = refl
 front-none (Err e) = refl
 
 pub no-type : (old : List ℕ) (before : List CColumnType) → TypesSoFar old old before before 0
-no-type old before =
-    let whole : length before - 0 ≡ length before = omega arith in
-    record { found = []; read = rw whole (front-none ((counted (length before) (param_type.form tt)).reads old)); held = refl; len = refl; within = omega arith }
+no-type old before = record {
+  found = [];
+  read = λ n le. let whole : n - 0 ≡ n = omega arith in rw whole (front-none ((counted n (param_type.form tt)).reads old));
+  held = refl;
+  others = refl;
+  len = refl;
+  within = omega arith;
+}
 
 pub one-type : (old rest after : List ℕ) (before types : List CColumnType) (place : ℕ) (t : ParamType) (x : CColumnType) → TypesSoFar old rest before types place → place < length before
     → (param_type.form tt).reads rest ≡ Ok (t, after) → x ≡ type_held t → TypesSoFar old after before (slice_set types place x) (place + 1)
@@ -59,23 +65,54 @@ one-type old rest after before types place t x s lt reads is =
     let fits : place < length types = omega (arith, lt, s.len) in
     record {
       found = s.found ++ t ∷ [];
-      read = next-item (param_type.form tt) s.found t (length before) place rest after _ lt reads s.read;
+      read = λ n le. next-item (param_type.form tt) s.found t n place rest after _ (omega (arith, le)) reads (s.read n (omega (arith, le)));
       held = take_more_set types place x fits ∙ ap (λ l. l ++ x ∷ []) s.held ∙ ap (λ y. types_held s.found ++ y ∷ []) is ∙ sym (map-append type_held s.found (t ∷ []));
+      others = others-kept before types place x s.others;
       len = length-set types place x ∙ s.len;
       within = omega (arith, lt);
     }
 
 pub type-refused : (old rest : List ℕ) (before types : List CColumnType) (place : ℕ) (e : FaultOf) → TypesSoFar old rest before types place → place < length before
     → Faults false e ((param_type.form tt).reads rest) → Faults false e ((counted (length before) (param_type.form tt)).reads old)
-type-refused old rest before types place e s lt h = fails-as (param_type.form tt) false false s.found e (length before) place rest _ lt (λ x. x) h s.read
+type-refused old rest before types place e s lt h = fails-as (param_type.form tt) false false s.found e (length before) place rest _ lt (λ x. x) h (s.read (length before) s.within)
 
 pub all-types : (old rest : List ℕ) (before types : List CColumnType) (place : ℕ) → TypesSoFar old rest before types place → length before ≤ place
     → ReadsTypes (Ok tt) types rest ((counted (length before) (param_type.form tt)).reads old)
 all-types old rest before types place s le =
     let all : take place types ≡ types = take_all place types (omega (arith, le, s.len)) in
-    (s.found, all-read (param_type.form tt) s.found (length before) place rest _ le s.read, sym all ∙ s.held)
+    (s.found, all-read (param_type.form tt) s.found (length before) place rest _ le (s.read (length before) s.within), sym all ∙ s.held)
+
+-- those that were read stand in the first places
+pub types-filled : (old rest : List ℕ) (before types : List CColumnType) (place : ℕ) → TypesSoFar old rest before types place → FillsTypes old before types
+types-filled old rest before types place s = record {
+  count = place;
+  types = s.found;
+  rest = rest;
+  read = let same : place ≤ place = omega arith in all-read (param_type.form tt) s.found place place rest _ same (s.read place same);
+  held = s.held;
+  others = s.others;
+}
+
+pub no-types-filled : (old : List ℕ) (types : List CColumnType) → FillsTypes old types types
+no-types-filled old types = types-filled old old types types 0 (no-type old types)
 
 -- in their block
+abbrev bytes_if : (short : Bool) → ℕ → List ℕ → Reading (List ℕ)
+bytes_if true count old = Err kind.UnexpectedEof
+bytes_if false count old = Ok (take count old, drop count old)
+
+front-of : (short : Bool) (count : ℕ) (old block rest : List ℕ) → bytes_if short count old ≡ Ok (block, rest) → block ≡ take count old
+front-of true count old block rest e = absurd cc
+front-of false count old block rest e = let same : (take count old, drop count old) ≡ (block, rest) = cc in sym (ap (λ (p : List ℕ × List ℕ). p.0) same)
+
+block-front : (short : Bool) (count : ℕ) (old block rest : List ℕ) → nat_lt (length old) count ≡ short → (bytes count).reads old ≡ Ok (block, rest) → block ≡ take count old
+unfolding bytes
+block-front true count old block rest e reads = front-of true count old block rest (rw e at reads)
+block-front false count old block rest e reads = front-of false count old block rest (rw e at reads)
+
+pub block-filled : (count : ℕ) (old block rest : List ℕ) (before types : List CColumnType) → (bytes count).reads old ≡ Ok (block, rest) → FillsTypes block before types → FillsTypes (take count old) before types
+block-filled count old block rest before types e fills = subst (λ (b : List ℕ). FillsTypes b before types) (block-front (nat_lt (length old) count) count old block rest refl e) fills
+
 block-read : (count : ℕ) (old block rest left : List ℕ) (types : List CColumnType) → (bytes (2 * count)).reads old ≡ Ok (block, rest) → ReadsTypes (Ok tt) types left ((counted count (param_type.form tt)).reads block)
     → ReadsTypes (Ok tt) types rest ((types_block true count).reads old)
 block-read count old block rest left types e (found, reads, held) = (found, types_read count old block rest left found e reads, held)
@@ -224,6 +261,16 @@ places-filled is_read types old rest values_before values indicators_before indi
   places = record { set = s.set; others = s.other_values };
 }
 
+pub both-filled : (is_read : Type 0) (types : List CColumnType) (old rest : List ℕ) (values_before values : List CValue) (indicators_before indicators : List ℕ) (place : ℕ)
+    → RowSoFar types old rest values_before values indicators_before indicators place → (is_read → length types ≤ place) → FillsBoth (length types) is_read values_before values indicators_before indicators
+both-filled is_read types old rest values_before values indicators_before indicators place s all = record {
+  count = place;
+  few = s.within;
+  all = λ is. omega (arith, all is, s.within);
+  places = record { set = s.set; others = s.other_values };
+  other_places = s.other_indicators;
+}
+
 pub indicators-kept : (types : List CColumnType) (old rest : List ℕ) (values_before values : List CValue) (indicators_before indicators : List ℕ) (place : ℕ)
     → RowSoFar types old rest values_before values indicators_before indicators place → drop (length types) indicators ≡ drop (length types) indicators_before
 indicators-kept types old rest values_before values indicators_before indicators place s =
@@ -280,4 +327,4 @@ contents-fault types bytes values left (fault.InvalidData text) h = contents-fau
 contents-fault types bytes values left (fault.InvalidInput text) h = contents-fault-of types bytes values left kind.InvalidInput h
 contents-fault types bytes values left fault.Memory h = absurd cc
 
-pub ruleset bulk_reads = (no-type, no-value, block-answers, block-missing, types_short, types-into, types-fault, row-into, row-fault, contents-into, contents-fault, none-filled)
+pub ruleset bulk_reads = (no-type, no-types-filled, no-value, block-answers, block-missing, types_short, types-into, types-fault, row-into, row-fault, contents-into, contents-fault, none-both, none-filled)

@@ -1,15 +1,15 @@
 -- A bulk request, as C asks for it.
-use Rattle.std.specs.Prelude.{◌≡◌, ◌≢◌, ◌⊎◌, ℕ, ◌++◌, ◌+◌, ◌*◌, ◌-◌, ◌%◌, ◌==◌, ◌&&◌, ◌||◌, ◌≤◌, Bool, true, false, not, nat_le, List, [], length, map, take, drop, All, Option, Some, None, position}
+use Rattle.std.specs.Prelude.{◌≡◌, ◌≢◌, ◌⊎◌, ℕ, ◌++◌, ◌+◌, ◌*◌, ◌-◌, ◌%◌, ◌==◌, ◌&&◌, ◌||◌, ◌≤◌, Bool, true, false, if◌then◌else◌, not, nat_le, List, [], ◌∷◌, length, map, take, drop, All, Option, Some, None, position}
 use Rattle.std.specs.List.{flat_map, list_all}
 use Rattle.mysql_cuts.specs.Cut.{PartFits, request_size}
 use Rattle.mysql_bulk.specs.Builder.{BuilderState, RowFits, TakesRow, packing}
 use Rattle.mysql_bulk.specs.BuilderRows.{rows_of}
 use Rattle.mysql_bulk.specs.ColumnTypes.{TakesTypes, may_be_declared, spell_row, spells}
 use Rattle.mysql_bulk.specs.Head.{head}
-use Rattle.mysql_bulk.specs.ParamValue.{cell}
 use Rattle.mysql_bulk.specs.Request.{request_flags}
 use Rattle.mysql_bulk.specs.RequestWriter.{IsBuilt, new_builder}
-use Rattle.mysql_prepared.specs.ExecuteParam.{value_of}
+use Rattle.mysql_prepared.specs.ExecuteParam.{Param, param_bytes, value_of}
+use Rattle.mysql_prepared.specs.NullMarks.{is_null}
 use Rattle.mysql_values.specs.ParamType.{typed}
 use Rattle.mysql_values.specs.Value.{Content}
 use Rattle.mysql_values.specs.declared.param_type.ParamType.{ParamType}
@@ -163,9 +163,12 @@ pub record Counted (s : BuilderState) (columns count len : ℕ) (values : List C
 
 -- ---- what is written of the rows
 
--- a value after its indicator
+-- a parameter after its indicator
+abbrev pub param_cell : Param → List ℕ
+param_cell p = if is_null (value_of p) then 1 ∷ [] else 0 ∷ param_bytes false p
+
 abbrev pub cell_bytes : CValue → List ℕ
-cell_bytes value = cell (value_of (param value))
+cell_bytes value = param_cell (param value)
 
 -- what stands before the values
 abbrev pub head_bytes : ℕ → ℕ → List CColumnType → List ℕ

@@ -1,10 +1,12 @@
 -- The types and the rows of a bulk execution, as C reads them.
-use Rattle.std.specs.Prelude.{◌≡◌, ℕ, List, map, Result, Ok, Err, false}
+use Rattle.std.specs.Prelude.{◌≡◌, ℕ, List, drop, map, take, Result, Ok, Err, false}
 use Rattle.mysql_wire.specs.Form.{Form}
 use Rattle.mysql_wire.specs.MariadbBulkIndicator.{mariadb_bulk_indicator_code}
 use Rattle.mysql_wire.specs.Reading.{Reading, Faults}
+use Rattle.mysql_wire.specs.Seq.{counted}
 use Rattle.mysql_wire.specs.declared.codes.mariadb_bulk_indicator.MariadbBulkIndicator.{MariadbBulkIndicator}
 use Rattle.mysql_wire.specs.declared.fault.FaultOf.{FaultOf}
+use Rattle.mysql_values.specs.ParamType.{param_type}
 use Rattle.mysql_values.specs.Value.{Content}
 use Rattle.mysql_values.specs.ValueRef.{ref_content}
 use Rattle.mysql_values.specs.declared.param_type.ParamType.{ParamType}
@@ -34,6 +36,15 @@ ReadsTypes (Err e) places rest read = Faults false e read
 abbrev pub TypesInto : Reading (List ParamType) → ℕ → (old new : CBytes) → List CColumnType → Type 0
 TypesInto (Ok x) code old new places = (code ≡ 0) × (places ≡ types_held x.0) × (new.bytes.now ≡ x.1)
 TypesInto (Err k) code old new places = (code ≡ kind_code k) × (new ≡ old)
+
+-- The types that the front of the bytes spells stand in the first places, as many as were read; the other places are as they were.
+pub record FillsTypes (bytes : List ℕ) (before after : List CColumnType) : Type 0 where
+  pub count : ℕ
+  pub types : List ParamType
+  pub rest : List ℕ
+  pub read : (counted count (param_type.form tt)).reads bytes ≡ Ok (types, rest)
+  pub held : take count after ≡ types_held types
+  pub others : drop count after ≡ drop count before
 
 -- ---- rows
 

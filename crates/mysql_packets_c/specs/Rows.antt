@@ -33,6 +33,14 @@ pub record FillsPlaces (columns : ℕ) (is_read : Type 0) (before after : List C
   pub all : is_read → count ≡ columns
   pub places : SetsFirst count before after
 
+-- As many places of two arrays are set, and the others of both are as they were.
+pub record FillsBoth {X : Type 0} (columns : ℕ) (is_read : Type 0) (before after : List CValue) (others_before others_after : List X) : Type 0 where
+  pub count : ℕ
+  pub few : count ≤ columns
+  pub all : is_read → count ≡ columns
+  pub places : SetsFirst count before after
+  pub other_places : drop count others_after ≡ drop count others_before
+
 -- the values are what reading gives, and so many bytes are used; or reading gives the fault
 abbrev pub TakesRow : List ℕ → Result ℕ FaultOf → List CValue → Reading (List (Option Content)) → Type 0
 TakesRow packet (Ok used) values read = (rest : List ℕ) × (read ≡ Ok (values_held values, rest)) × (used ≡ used_of packet rest)
