@@ -164,7 +164,10 @@ impl AsExecuteParam for CValue<'_> {
                 4 => self.as_execute_param().sent_len(as_long_data),
                 _ => number(self).sent_len(as_long_data),
             },
-            _ => self.as_execute_param().sent_len(as_long_data),
+            _ => match self.kind {
+                1 => ValueRef::Bytes(self.bytes).sent_len(as_long_data),
+                _ => self.as_execute_param().sent_len(as_long_data),
+            },
         }
     }
 
