@@ -226,6 +226,7 @@ static void executions(void)
     CHECK(myp_read_execution(p, len, 0, params, 2, v, 2, t, 2, &e) == MYP_OK && e.statement_id == 1 && e.flags == 0 && e.sends_types == 1 && e.used == len);
     CHECK(v[0].kind == MYP_NULL && v[1].kind == MYP_INT && v[1].number == 1 && t[0].column_type == MYP_TYPE_NULL && t[1].column_type == MYP_TYPE_LONGLONG && t[1].is_unsigned == 0);
     CHECK(myp_read_execution(p, len - 1, 0, params, 2, v, 2, t, 2, &e) == MYP_UNEXPECTED_EOF && e.used == len);
+    CHECK(myp_read_execution(p, 9, 0, params, 2, v, 2, t, 2, &e) == MYP_UNEXPECTED_EOF && v[1].number == 1 && t[0].column_type == MYP_TYPE_NULL && t[1].column_type == MYP_TYPE_LONGLONG);
     p[11] = 0, len = 12; /* no types are sent: those of an earlier execution are taken; the second was sent ahead */
     memcpy(p + len, "\x02hi", 3);
     p[10] = 0, params[0] = (myp_param){ MYP_TYPE_VAR_STRING, 0, 0 }, params[1] = (myp_param){ MYP_TYPE_BLOB, 0, 1 };
@@ -295,7 +296,7 @@ static void bulk_rows(void)
     CHECK(myp_next_bulk_row(&b.rows, t, 3, v, 3, i, 3) == MYP_INVALID_DATA && b.rows.len == 3);
     CHECK(myp_read_bulk_head(p, len, &b) == MYP_OK);
     b.rows.len = 5;
-    CHECK(myp_read_bulk_types(&b.rows, t, 3) == MYP_UNEXPECTED_EOF && b.rows.len == 5 && myp_read_bulk_types(&b.rows, t, 2) == MYP_OK && b.rows.len == 1);
+    CHECK(myp_read_bulk_types(&b.rows, t, 3) == MYP_UNEXPECTED_EOF && t[0].column_type == 100 && b.rows.len == 5 && myp_read_bulk_types(&b.rows, t, 2) == MYP_OK && b.rows.len == 1);
     p[9] = 100, b.rows.data = p + 7, b.rows.len = 6;
     CHECK(myp_read_bulk_types(&b.rows, t, 3) == MYP_INVALID_DATA && b.rows.data == p + 7 && myp_read_bulk_types(&b.rows, t, 0) == MYP_OK && b.rows.data == p + 7);
 }

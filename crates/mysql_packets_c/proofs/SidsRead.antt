@@ -1,5 +1,5 @@
 -- A loop that reads intervals into places.
-use Rattle.std.proofs.Common.{◌≡◌, ℕ, ◌<◌, ◌≤◌, ◌+◌, List, [], ◌∷◌, ◌++◌, length, take, slice_set, Option, Some, None, option_map, Result, Ok, Err, IfOk, refl, sym, ap, subst, ◌∙◌, arith}
+use Rattle.std.proofs.Common.{◌≡◌, ◌≢◌, ℕ, ◌<◌, ◌≤◌, ◌+◌, List, [], ◌∷◌, ◌++◌, length, take, slice_set, Option, Some, None, option_map, Result, Ok, Err, IfOk, refl, sym, ap, subst, ◌∙◌, arith}
 use Rattle.std.specs.Result.{result_ok}
 use Rattle.std.proofs.lemmas.List.{length-append, map-append, take_more_set}
 use Rattle.mysql_repl.specs.SidText.{SidParts, all_read, sid_of, sid_with}
@@ -11,7 +11,7 @@ use Rattle.mysql_packets_c.specs.declared.sid.CInterval.{CInterval}
 use Rattle.mysql_repl.specs.declared.sid.Sid.{Sid}
 use Rattle.mysql_packets_c.specs.declared.sid.CSid.{CSid}
 use Rattle.mysql_packets_c.specs.declared.sid_text.SidText.{SidText}
-use Rattle.mysql_packets_c.specs.Sid.{PutsSid, RefusesText, SidInto, interval_of, intervals_of}
+use Rattle.mysql_packets_c.specs.Sid.{PutsParts, PutsSid, RefusesText, SidInto, interval_of, intervals_of, tag_held}
 use Rattle.mysql_packets_c.specs.SidText.{Found, Tells}
 
 from_some : {A : Type 0} (r : Result A InvalidSid) (x : A) → Some x ≡ result_ok r → r ≡ Ok x
@@ -122,6 +122,27 @@ pub sid-found : (read : Result Sid InvalidSid) (places answer : ℕ) (old new : 
 sid-found (Ok s) places answer old new needed found h puts = puts s h
 sid-found (Err e) places answer old new needed found h puts = absurd h
 
+same-tag : (s t : CSid) → s.tag ≡ t.tag → s.tag_length ≡ t.tag_length → tag_held s ≡ tag_held t
+unfolding tag_held
+same-tag s t tag len = rw (tag, len) refl
+
+-- the struct holds the intervals where they stand in their places
+pub sid-put : (s : Sid) (answer : ℕ) (old mid new : CSid) (before after : List CInterval) (needed : ℕ) → PutsParts s answer old mid before after needed → answer ≡ 0
+    → new.uuid ≡ mid.uuid → new.tag ≡ mid.tag → new.tag_length ≡ mid.tag_length → new.intervals.now ≡ take needed after → PutsSid s (length before) answer old new needed
+sid-put s answer old mid new before after needed puts done uuid tag len stands = record {
+  fits = λ h. let f = puts.fits h in (f.0, record { uuid = uuid ∙ f.1; tag = same-tag new mid tag len ∙ f.2; intervals = ap intervals_of stands ∙ f.3 });
+  small = λ h. let five = (puts.small h).0 in absurd (omega (arith, five, done));
+  count = puts.count;
+}
+
+pub sid-small : (s : Sid) (answer : ℕ) (old new : CSid) (before after : List CInterval) (needed : ℕ) → PutsParts s answer old new before after needed → answer ≢ 0
+    → PutsSid s (length before) answer old new needed
+sid-small s answer old new before after needed puts some = record {
+  fits = λ h. absurd (some (puts.fits h).0);
+  small = puts.small;
+  count = puts.count;
+}
+
 pub none-found : (read : Result Sid InvalidSid) (places answer : ℕ) (old new : CSid) (needed : ℕ) → Found None read → RefusesText answer old new needed → SidInto read places answer old new needed
 none-found (Ok s) places answer old new needed h refuses = absurd h
 none-found (Err e) places answer old new needed h refuses = refuses
@@ -131,4 +152,4 @@ pub places-of : (read : Result (List GnoInterval) InvalidSid) (list : List GnoIn
     → IfOk read (λ all. length all ≤ length old → intervals_of (take (length all) new) ≡ all) → intervals_of (take n new) ≡ list
 places-of read list n old new is count fits h = let stands : length list ≤ length old → intervals_of (take (length list) new) ≡ list = rw is at h in rw count (stands (rw count at fits))
 
-pub ruleset sids_found = (sid-found, none-found, places-of)
+pub ruleset sids_found = (sid-found, sid-put, sid-small, none-found, places-of)

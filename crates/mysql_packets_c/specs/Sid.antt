@@ -67,6 +67,13 @@ pub record PutsSid (s : Sid) (places answer : ℕ) (old new : CSid) (needed : �
   pub small : places < length (lib.intervals s) → (answer ≡ 5) × (new ≡ old)
   pub count : needed ≡ length (lib.intervals s)
 
+-- The same where the struct does not hold the intervals yet: they stand in the first places. Where there are fewer places, these are as they
+-- were too.
+pub record PutsParts (s : Sid) (answer : ℕ) (old new : CSid) (before after : List CInterval) (needed : ℕ) : Type 0 where
+  pub fits : length (lib.intervals s) ≤ length before → (answer ≡ 0) × (new.uuid ≡ lib.uuid s) × (tag_held new ≡ Some (lib.tag s)) × (intervals_of (take needed after) ≡ lib.intervals s)
+  pub small : length before < length (lib.intervals s) → (answer ≡ 5) × (new ≡ old)
+  pub count : needed ≡ length (lib.intervals s)
+
 -- what a text that spells no sid is answered
 pub record RefusesText (answer : ℕ) (old new : CSid) (needed : ℕ) : Type 0 where
   pub code : answer ≡ 2

@@ -9,7 +9,7 @@ ghost use Rattle.mysql_repl.specs.SidText.{read_sid};
 ghost use Rattle.mysql_repl.specs.declared.sid.Sid.{Sid};
 ghost use Rattle.mysql_packets_c.specs.Given.{is_set};
 ghost use Rattle.mysql_packets_c.specs.Sid as spec;
-ghost use Rattle.mysql_packets_c.specs.Sid.{PutsSid, RefusesText, SidInto, tag_held};
+ghost use Rattle.mysql_packets_c.specs.Sid.{PutsParts, RefusesText, SidInto, tag_held};
 ghost use Rattle.mysql_packets_c.specs.SidText.{Tells};
 
 use crate::code::{BUFFER_TOO_SMALL, END, INVALID_DATA, OK, code_of};
@@ -147,15 +147,19 @@ fn put_optional_tag(tag: Option<&TagRef<'_>>, out: &mut CSid<'_>)
     }
 }
 
-/// Puts a sid into a struct of the caller's, and its intervals into places of the caller's.
+/// Puts a sid into a struct of the caller's, but for its intervals, which are put into the first places of the caller's.
 #[tactic(auto, using(crate::proofs::SidsRead::sids_found))]
-fn put_sid<'a>(
+fn put_sid(
     found: &SidText<'_>,
-    out: &mut CSid<'a>,
-    places: &'a mut [CInterval],
+    out: &mut CSid<'_>,
+    places: &mut [CInterval],
     count: &mut usize,
 ) -> u32
-    ensures value { (s : Sid) → Tells found.now s → PutsSid s (length places.old) result out.old out.new count.new }
+    ensures value { (s : Sid) → Tells found.now s → PutsParts s result out.old out.new places.old places.new count.new }
+    ensures kept { result ≢ 0 → places.new ≡ places.old }
+    ensures few { result ≡ 0 → count.new ≤ length places.new }
+    ensures code { result ≢ 0 → result ≡ 5 }
+    ensures len { length places.new ≡ length places.old }
 {
     let n = found.count;
     *count = n;
@@ -164,7 +168,6 @@ fn put_sid<'a>(
     }
     let parts = &found.parts;
     put_intervals(parts.intervals(), places);
-    out.intervals = &places[..n];
     out.uuid = parts.uuid();
     put_optional_tag(parts.tag(), out);
     OK
@@ -187,7 +190,13 @@ pub extern "C" fn myp_sid_from_text<'a>(
         return INVALID_DATA;
     };
     match sid_in(text) {
-        Some(found) => put_sid(&found, out, intervals, count),
+        Some(found) => {
+            let code = put_sid(&found, out, intervals, count);
+            if code == OK {
+                out.intervals = &intervals[..*count];
+            }
+            code
+        }
         None => INVALID_DATA,
     }
 }
