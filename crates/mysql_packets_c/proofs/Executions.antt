@@ -9,7 +9,6 @@ use Rattle.mysql_wire.specs.Each.{each}
 use Rattle.mysql_wire.specs.Flags.{CapabilityFlags}
 use Rattle.mysql_wire.specs.Form.{Form}
 use Rattle.mysql_wire.specs.Reading.{Reading, Faults, then_read}
-use Rattle.mysql_values.specs.ParamValue.{ParamContent}
 use Rattle.mysql_prepared.specs.Attributes.{Attribute, AttributesLeft, attribute, attributes_left, attributes_read}
 use Rattle.mysql_prepared.specs.ExecuteHead.{cursor_flags, stmt_id}
 use Rattle.mysql_prepared.specs.ExecuteRead.{AttributesAhead, Gives, HasNoParam, ParamsBytes, ParamsLeft, RefusesParam, StandsAfter, TypedParam, attributes_at, execution, execution_front, execution_of, left_of, params_of, params_to}

@@ -6,10 +6,9 @@ use Rattle.std.proofs.lemmas.List.{append-nil, drop-drop, length-map}
 use Rattle.mysql_repl.specs.SidBlock.{head_for}
 use Rattle.mysql_repl.specs.TagString.{tag_bytes}
 use Rattle.mysql_wire.specs.LittleEndian.{length-le_bytes}
-use Rattle.mysql_wire.specs.Varlen.{varlen_string_bytes}
 use Rattle.mysql_wire.specs.Writing.{le_bytes, saturated}
 use Rattle.mysql_repl.specs.GtidSetEntries.{Entry, lower_tag}
-use Rattle.mysql_packets_c.specs.GtidEntries.{entries_block, entries_content, entry_bytes, head_bytes}
+use Rattle.mysql_packets_c.specs.GtidEntries.{entries_block, entries_content, entry_bytes}
 
 pub lower-each : (text : List ℕ) → flat_map (λ c. to_ascii_lowercase c ∷ []) text ≡ map to_ascii_lowercase text
 lower-each [] = refl

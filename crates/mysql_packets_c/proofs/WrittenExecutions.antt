@@ -1,5 +1,5 @@
 -- What is written of executions and of queries with attributes.
-use Rattle.std.proofs.Common.{◌≡◌, ◌≢◌, ◌<◌, ◌≤◌, ◌++◌, ◌^◌, ◌-◌, ◌+◌, ℕ, Bool, true, false, ◌&&◌, not, cond, nat_lt, is_some, if◌then◌else◌, List, [], ◌∷◌, length, drop, map, position, Option, Some, None, unwrap_or, refl, sym, ap, subst, ◌∙◌, arith}
+use Rattle.std.proofs.Common.{◌≡◌, ◌≢◌, ◌<◌, ◌≤◌, ◌++◌, ◌^◌, ◌-◌, ℕ, Bool, true, false, ◌&&◌, not, cond, nat_lt, if◌then◌else◌, List, [], ◌∷◌, length, drop, Option, Some, None, unwrap_or, refl, sym, ap, ◌∙◌, arith}
 use Rattle.std.specs.List.{position_or_len, prefix_len}
 use Rattle.std.specs.Option.{option_copied, option_map}
 use Rattle.std.proofs.lemmas.Bool.{le-ltb, ltb-false, ltb-true}

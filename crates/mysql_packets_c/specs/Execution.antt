@@ -1,7 +1,7 @@
 -- An execution, as C has it.
 use Rattle.std.specs.List.{AllZip}
 use Rattle.std.specs.Option.{unwrap_or}
-use Rattle.std.specs.Prelude.{◌≡◌, ℕ, ◌-◌, ◌==◌, ◌++◌, Bool, false, not, if◌then◌else◌, List, drop, length, map, take, Result, Ok, Err, ◌<◌, ◌↔◌, IsTrue}
+use Rattle.std.specs.Prelude.{◌≡◌, ℕ, ◌-◌, ◌==◌, ◌++◌, Bool, false, not, if◌then◌else◌, List, drop, length, map, take, Result, Ok, Err}
 use Rattle.mysql_prepared.specs.Attributes.{Attribute}
 use Rattle.mysql_prepared.specs.BindFront.{BindFront}
 use Rattle.mysql_prepared.specs.ExecuteHead as head

@@ -7,7 +7,7 @@ use Rattle.mysql_wire.specs.Flags.{has}
 use Rattle.mysql_prepared.specs.ExecuteParam.{Param, SentAhead}
 use Rattle.mysql_prepared.specs.ExecuteWithOptions.{IsAsLong, asked, asked_plainly, counted}
 use Rattle.mysql_prepared.specs.Execution.{Execution, execution_bytes, listed}
-use Rattle.mysql_prepared.specs.SentParam.{first_unspelled, sent_params, type_of_param}
+use Rattle.mysql_prepared.specs.SentParam.{first_unspelled, sent_params}
 use Rattle.mysql_prepared.specs.SentTypes.{NamedType}
 use Rattle.mysql_prepared.specs.declared.com_query.ComQuery.{ComQuery}
 use Rattle.mysql_prepared.specs.declared.execute_with_options.ComStmtExecuteOptionsBuilder.{ComStmtExecuteOptionsBuilder}

@@ -1,4 +1,4 @@
-use Rattle.std.proofs.Common.{◌≡◌, ◌++◌, ◌+◌, ◌≤◌, length, drop}
+use Rattle.std.proofs.Common.{◌≡◌, ◌++◌, ◌≤◌, length, drop}
 use Rattle.mysql_prepared.specs.BinaryRow.{values_bytes}
 use Rattle.mysql_prepared.specs.ExecuteParam.{contents}
 use Rattle.mysql_packets_c.specs.ColumnType.{type_of, unsigned_of}

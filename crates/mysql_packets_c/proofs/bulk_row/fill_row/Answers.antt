@@ -1,7 +1,7 @@
 use Rattle.std.proofs.Common.{refl}
 use Rattle.std.proofs.lemmas.Result.{err_from_is_err_and}
 use Rattle.mysql_packets_c.specs.BulkRow.{param_held}
-use Rattle.mysql_packets_c.proofs.ReadBulkRows.{all-values, both-filled, indicators-kept, one-value, value-refused}
+use Rattle.mysql_packets_c.proofs.ReadBulkRows.{all-values, indicators-kept, one-value, value-refused}
 use Rattle.mysql_packets_c.proofs.bulk_row.fill_row.Goals as goal
 
 pub returns-in_err-param-clause-value : goal.returns-in_err-param-clause-value

@@ -1,4 +1,4 @@
-use Rattle.std.proofs.Common.{◌≡◌, ◌∙◌, sym}
+use Rattle.std.proofs.Common.{◌∙◌, sym}
 use Rattle.mysql_packets_c.proofs.Conversations.{none_taken}
 use Rattle.mysql_packets_c.proofs.conversation.conversation_of.Goals as goal
 

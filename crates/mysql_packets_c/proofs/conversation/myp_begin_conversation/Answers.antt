@@ -1,4 +1,4 @@
-use Rattle.std.proofs.Common.{◌≡◌, ◌∙◌, refl, sym, ap, Some, []}
+use Rattle.std.proofs.Common.{◌∙◌, refl, sym, ap, Some, []}
 use Rattle.mysql_packets_c.proofs.conversation.myp_begin_conversation.Goals as goal
 
 pub returns-clause-begun : goal.returns-clause-begun

@@ -1,4 +1,4 @@
-use Rattle.std.proofs.Common.{◌≡◌, ◌∙◌, refl}
+use Rattle.std.proofs.Common.{◌∙◌, refl}
 use Rattle.mysql_packets_c.proofs.Conversations.{whole_flag}
 use Rattle.mysql_packets_c.proofs.conversation.myp_is_at_rest.Goals as goal
 

@@ -1,4 +1,4 @@
-use Rattle.std.proofs.Common.{◌≡◌, ◌∙◌, sym}
+use Rattle.std.proofs.Common.{◌∙◌, sym}
 use Rattle.mysql_packets_c.proofs.Conversations.{begun_as}
 use Rattle.mysql_packets_c.proofs.conversation.myp_next_packet.Goals as goal
 

@@ -5,7 +5,7 @@ use Rattle.mysql_prepared.specs.Attributes.{attributes_read}
 use Rattle.mysql_prepared.specs.ExecuteHead.{cursor_flags}
 use Rattle.mysql_prepared.specs.ExecuteRead.{execution_front, execution_of}
 use Rattle.mysql_packets_c.specs.Execution.{HoldsParams, bound_list, bound_of, last_left, sends_types}
-use Rattle.mysql_packets_c.proofs.Executions.{all-held, all-left, all-read, attributes-refused, counted-attributes, front-sends, none-left, one-refused, types-kept}
+use Rattle.mysql_packets_c.proofs.Executions.{all-held, all-left, all-read, attributes-refused, counted-attributes, front-sends, one-refused, types-kept}
 use Rattle.mysql_packets_c.proofs.execution.params_into.Goals as goal
 
 pub returns-in_err-fill_params-clause-value : goal.returns-in_err-fill_params-clause-value

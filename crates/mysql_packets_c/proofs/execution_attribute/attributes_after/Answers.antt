@@ -1,4 +1,4 @@
-use Rattle.std.proofs.Common.{◌≡◌, ◌∙◌, Ok, false, ap, subst}
+use Rattle.std.proofs.Common.{◌∙◌, Ok, false, ap, subst}
 use Rattle.std.proofs.lemmas.List.{length-map}
 use Rattle.std.proofs.lemmas.Result.{err_from_is_err_and}
 use Rattle.mysql_wire.specs.Reading.{Faults, then_read}

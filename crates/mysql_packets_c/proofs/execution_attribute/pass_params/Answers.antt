@@ -1,4 +1,4 @@
-use Rattle.std.proofs.Common.{◌≡◌, ◌∙◌, ◌+◌, length, arith, refl}
+use Rattle.std.proofs.Common.{◌∙◌, arith, refl}
 use Rattle.std.proofs.lemmas.Result.{err_from_is_err_and}
 use Rattle.mysql_prepared.specs.ExecuteRead.{read_as}
 use Rattle.mysql_packets_c.proofs.Executions.{left-with, none-given, one-given, others_at}

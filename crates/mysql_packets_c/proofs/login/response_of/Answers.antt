@@ -1,4 +1,4 @@
-use Rattle.std.proofs.Common.{rules, ◌≡◌, ◌∙◌, ap}
+use Rattle.std.proofs.Common.{rules, ◌∙◌, ap}
 use Rattle.mysql_auth.specs.HandshakeResponse.{zstd_level}
 use Rattle.mysql_packets_c.proofs.Logins.{level-held}
 use Rattle.mysql_packets_c.proofs.login.response_of.Goals as goal

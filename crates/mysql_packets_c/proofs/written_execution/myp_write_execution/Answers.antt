@@ -1,4 +1,4 @@
-use Rattle.std.proofs.Common.{◌≡◌, ◌∙◌, Bool, Some, None, true, refl, subst, ap}
+use Rattle.std.proofs.Common.{◌∙◌, Bool, None, refl, subst, ap}
 use Rattle.mysql_prepared.specs.Execution.{Execution}
 use Rattle.mysql_prepared.specs.SentParam.{sent_params}
 use Rattle.mysql_packets_c.specs.Execution.{own_type, param}

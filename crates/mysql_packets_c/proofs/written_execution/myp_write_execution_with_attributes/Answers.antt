@@ -1,4 +1,4 @@
-use Rattle.std.proofs.Common.{◌≡◌, ◌∙◌, Bool, Some, None, true, refl, subst, ap}
+use Rattle.std.proofs.Common.{◌∙◌, Bool, Some, true, refl, subst, ap}
 use Rattle.mysql_prepared.specs.ExecuteWithOptions.{counted}
 use Rattle.mysql_prepared.specs.Execution.{Execution}
 use Rattle.std.specs.List.{list_all}

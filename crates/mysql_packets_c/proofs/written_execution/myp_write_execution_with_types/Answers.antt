@@ -1,4 +1,4 @@
-use Rattle.std.proofs.Common.{◌≡◌, ◌∙◌, Bool, ◌&&◌, refl, subst, ap}
+use Rattle.std.proofs.Common.{◌∙◌, Bool, ◌&&◌, refl, subst, ap}
 use Rattle.std.specs.List.{list_all}
 use Rattle.mysql_prepared.specs.Execution.{Execution}
 use Rattle.mysql_prepared.specs.SentParam.{sent_params}

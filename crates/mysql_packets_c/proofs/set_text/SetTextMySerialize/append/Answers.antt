@@ -1,5 +1,4 @@
-use Rattle.std.proofs.Common.{◌≡◌, ◌∙◌, ◌++◌, ◌≤◌, List, ℕ, ap, arith, drop, length, refl, rules, sym}
-use Rattle.mysql_packets_c.specs.Sid.{sids_or}
+use Rattle.std.proofs.Common.{◌∙◌, ◌++◌, ◌≤◌, List, ℕ, ap, arith, drop, length, refl, rules, sym}
 use Rattle.mysql_packets_c.proofs.SetTexts.{all-texts, next-after, next-fits, next-held, next-last}
 use Rattle.mysql_packets_c.proofs.set_text.SetTextMySerialize.append.Goals as goal
 

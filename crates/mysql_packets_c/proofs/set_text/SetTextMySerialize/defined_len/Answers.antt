@@ -1,4 +1,4 @@
-use Rattle.std.proofs.Common.{◌≡◌, ◌∙◌, ◌≤◌, List, ℕ, ap, arith, length, refl, sym}
+use Rattle.std.proofs.Common.{◌∙◌, ◌≤◌, List, ℕ, ap, arith, length, refl, sym}
 use Rattle.mysql_wire.specs.Writing.{saturated}
 use Rattle.mysql_packets_c.proofs.SetTexts.{all-texts, next-last, next-total}
 use Rattle.mysql_packets_c.proofs.set_text.SetTextMySerialize.defined_len.Goals as goal
