@@ -36,7 +36,7 @@ pub fn run<R: Read, W: Write>(alloc: Global, args: &[String], reader: &mut R, wr
     };
     let input = match input_of(alloc, &command, reader) {
         Ok(input) => input,
-        Err(InputError::Read) => return 3,
+        Err(InputError::Read | InputError::Endless) => return 3,
         Err(InputError::Memory) => return refuse_memory(writer),
     };
     match command.answer(alloc, input.as_slice()) {
