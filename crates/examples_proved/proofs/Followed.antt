@@ -48,10 +48,11 @@ pub in_order : (a : Agreed) (front : List Numbered) (x : Numbered) (rest items :
     → (s : (steps : List Step) × (items_of steps ≡ rest) × AreEarlyAfter (front ++ x ∷ []) steps × (f ≡ after_steps a steps (nothing limits waiting)))
     → (IsSessionBeginning (front ++ x ∷ items_of s.0) → AreEarlyAfter (front ++ x ∷ []) s.0 → HavePlaces a s.0 (nothing limits waiting)
     → (after_steps a s.0 (nothing limits waiting)).table ≡ tables_after a (up_to (at_last 0 s.0) (items_of s.0)) (empty limits))
-    → InOrder a rest limits waiting f
+    → InOrder a (front ++ x ∷ []) rest limits waiting f
 in_order a front x rest items limits waiting f split begun s law = record {
   steps = s.0;
-  packets = s.1;
+  are = s.1;
+  early = s.2;
   known = s.3;
   table = λ places.
       let begun_so : IsSessionBeginning (front ++ x ∷ items_of s.0) = subst IsSessionBeginning (split ∙ ap (λ r. front ++ x ∷ r) (sym s.1)) begun in
