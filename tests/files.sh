@@ -26,11 +26,11 @@ expect 'the chart of instruction counts is out of date' bench/chart.py --check
 # Words that no page of the field uses, and what stands for them: untrusted, little-endian, the initial handshake, a mutant, an
 # allocation that fails, passed or shown, after, capacity, to check, EofName, the reference decoder, X_round_trips.
 words='stranger|low (one|byte) first|says first|wrong (body|bodies)|refused growths?|told|behind|room|judge[sd]?|lastname|second reading'
-# none_of_them: no file of the repository has one, but for a text that a reader answers
+# none_of_them: no file of the repository has one outside of a lemma's name, except for a text that a reader answers
 none_of_them() {
-    ! grep -rnIiwE --include='*.rt' --include='*.antt' --include='*.edit' --include='*.md' --include='*.py' --include='*.sh' \
+    ! grep -rnIiP --include='*.rt' --include='*.antt' --include='*.edit' --include='*.md' --include='*.py' --include='*.sh' \
         --include='*.txt' --include='*.c' --include='*.h' --include=check --include=mypackets --include=mypackets-c --include=run --exclude=files.sh \
-        --exclude-dir=out -e "$words" README.md check mypackets mypackets-c bench crates docs examples include tests tools |
+        --exclude-dir=out -e "(?<![\w-])($words)(?![\w-])" README.md check mypackets mypackets-c bench crates docs examples include tests tools |
         grep -v 'Bytes behind the last sid'
 }
 expect 'a word stands there that another one stands for' none_of_them

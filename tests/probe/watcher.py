@@ -261,7 +261,8 @@ class Watcher:
             self.begin(*self.early.pop(0))
 
     def begin(self, exchange, payload):
-        """The server has come to a command."""
+        """The server has come to a command. (an empty packet is COM_SLEEP)"""
+        payload = payload or b"\0"
         if exchange > self.lost:
             self.command(payload)
             self.bind(payload)
@@ -282,19 +283,19 @@ class Watcher:
         is_early = bool(self.session.waiting and self.session.waiting[-1][1] is payload)
         if not is_early:
             self.serve(exchange)
-        fields = {}
+        fields, code = {}, (payload or b"\0")[0]
         try:
-            if payload[0] == 0x16:
+            if code == 0x16:
                 fields = {"query": shown(payload[1:])}
-            elif payload[0] == 0x03:
+            elif code == 0x03:
                 fields = self.queried(payload)
-            elif payload[0] == 0x17:
+            elif code == 0x17:
                 fields = self.executed(payload, is_early)
         except (Eof, Invalid):
             pass
         if not is_early:
             self.begin(exchange, payload)
-        elif payload[0] in (0x17, 0xFA) and len(payload) > EARLY:
+        elif code in (0x17, 0xFA) and len(payload) > EARLY:
             self.forget()
             self.runs, self.lost = None, exchange
         else:
@@ -311,7 +312,8 @@ class Watcher:
             fields = named("capabilities max_packet_size collation mariadb_ext_capabilities user db_name auth_plugin_name", (*read[:5], *read[6:8]))
             return fields if read[9] is None else {**fields, "zstd_level": read[9]}
         if kind == "command":
-            return {"command": COMMANDS.get(payload[0], payload[0]), **self.of_command(payload, exchange)}
+            fields = self.of_command(payload, exchange)
+            return {"command": COMMANDS.get(payload[0], payload[0]), **fields}
         if kind == "ok":
             return self.ok(payload, b"\0")
         if kind == "ok_terminator":

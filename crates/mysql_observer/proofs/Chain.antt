@@ -1,17 +1,16 @@
 -- What is tracked after packets one after another is what it is after the steps of the conversation.
-use Rattle.std.proofs.Common.{◌≡◌, ◌⊎◌, ℕ, Bool, true, false, List, [], ◌∷◌, ◌++◌, inl, inr, refl, sym, ap, subst, ◌∙◌}
+use Rattle.std.proofs.Common.{◌≡◌, ℕ, Bool, true, false, List, [], ◌∷◌, ◌++◌, inl, inr, refl, sym, ap, subst, ◌∙◌}
 use Rattle.std.specs.Prelude.{◌&&◌}
 use Rattle.mysql_conversation.specs.Agreements.{Agreed}
 use Rattle.mysql_conversation.specs.Pipelined.{Numbered, is_client, is_command}
 use Rattle.mysql_conversation.specs.Conversation.{commands}
-use Rattle.mysql_conversation.specs.Session.{Before, IsLogin, IsLoggedIn, IsLoggedInAmong}
-use Rattle.mysql_conversation.specs.declared.kind.Kind.{Kind}
+use Rattle.mysql_conversation.specs.Session.{Before, IsLoggedIn, IsLoggedInAmong}
 use Rattle.mysql_conversation.specs.declared.kind.Kind.TheVariants as kind
 use Rattle.mysql_conversation.specs.declared.session.Phase.TheVariants as phase
 use Rattle.mysql_conversation.proofs.Sessions.{more_of, logs_in_later}
 use Rattle.mysql_statements.specs.declared.limits.StatementLimits.{StatementLimits}
 use Rattle.mysql_statements.specs.declared.limits.EarlyLimits.{EarlyLimits}
-use Rattle.mysql_observer.specs.Observed.{IsTrackedAs, Tracks, AreTracked}
+use Rattle.mysql_observer.specs.Observed.{IsTrackedAs, AreTracked}
 use Rattle.mysql_observer.specs.Order.{Step, items_of, step_after, after_steps, AreEarlyAfter}
 use Rattle.mysql_observer.specs.PacketContext.{IsEarly}
 use Rattle.mysql_observer.specs.Tracked.{Tracked, tracked_after, nothing}

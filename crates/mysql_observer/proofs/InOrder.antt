@@ -1,16 +1,14 @@
 -- What is known is what the packets say in the order of the conversation.
-use Rattle.std.proofs.Common.{◌≡◌, ◌≢◌, ℕ, zero, suc, ◌+◌, ◌-◌, ◌<◌, ◌≤◌, max, Bool, true, false, cond, nat_lt, nat_le, ◌==◌, ◌&&◌, List, [], ◌∷◌, ◌++◌, filter, map, Option, None, Some, refl, sym, ap, ◌∙◌, subst, append_assoc, arith, if◌then◌else◌, IsTrue}
-use Rattle.std.proofs.lemmas.Bool.{le-leb, lt-ltb, leb-true, leb-false, ltb-true, ltb-false}
+use Rattle.std.proofs.Common.{◌≡◌, ℕ, ◌+◌, ◌-◌, ◌<◌, ◌≤◌, max, Bool, true, false, cond, nat_lt, nat_le, List, [], ◌∷◌, ◌++◌, filter, map, Option, None, Some, refl, sym, ap, ◌∙◌, subst, append_assoc, arith, if◌then◌else◌, IsTrue}
+use Rattle.std.proofs.lemmas.Bool.{lt-ltb, leb-true, leb-false, ltb-true, ltb-false}
 use Rattle.std.proofs.lemmas.List.{append-nil}
 use Rattle.mysql_conversation.specs.Agreements.{Agreed}
 use Rattle.mysql_conversation.specs.Pipelined.{Numbered}
-use Rattle.mysql_conversation.specs.declared.kind.Kind.TheVariants as kind
 use Rattle.mysql_statements.specs.After.{after}
-use Rattle.mysql_statements.specs.Early.{Command, Queue, has_place, command}
-use Rattle.mysql_statements.specs.Early as early
+use Rattle.mysql_statements.specs.Early.{Command, has_place, command}
 use Rattle.mysql_statements.specs.Table.{Table}
-use Rattle.mysql_observer.specs.Tracked.{Tracked, Params, command_taken, table_served, left_waiting, tracked_after, taken, held, served, is_lost, params_kept, executed_by}
-use Rattle.mysql_observer.specs.Order.{of_exchange, up_to, tables_after, Step, items_of, IsCommand, IsNext, at_after, at_last, AreOrderly, step_after, after_steps, HavePlaces}
+use Rattle.mysql_observer.specs.Tracked.{Tracked, command_taken, table_served, left_waiting, tracked_after, taken, held}
+use Rattle.mysql_observer.specs.Order.{up_to, tables_after, Step, items_of, IsCommand, IsNext, at_after, at_last, AreOrderly, step_after, after_steps, HavePlaces}
 use Rattle.mysql_observer.proofs.Ordered.{Ascends, later, sooner, filter_append, up_to_same, up_to_more, up_to_later, none_sooner, all_later, keeps, skips}
 
 abbrev pub command_at : Numbered → Command
@@ -23,7 +21,7 @@ AreCommands (x ∷ xs) = IsCommand x × AreCommands xs
 -- ---- the commands that are taken
 
 taken_as : (a : Agreed) (x : Numbered) (t : Table) → IsCommand x → command_taken a x.packet.payload t ≡ after true a x.packet.kind x.packet.payload t
-taken_as a x t h = ap (λ p. command_taken a p t) h.2 ∙ sym (ap (λ k. after true a k x.packet.payload t) h.3 ∙ ap (λ p. after true a (kind.Command h.0) p t) h.2)
+taken_as a x t h = ap (λ k. after true a k x.packet.payload t) (sym h)
 
 served_when : (b : Bool) (a : Agreed) (n l : ℕ) (x : Numbered) (xs : List Numbered) (t : Table) → nat_le x.number n ≡ b → IsCommand x → Ascends x.number xs l
     → ((u : Table) → table_served a n (map command_at xs) u ≡ tables_after a (sooner n xs) u)

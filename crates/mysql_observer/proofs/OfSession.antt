@@ -1,7 +1,7 @@
 -- What comes early in a session comes early in the conversation that follows the login.
-use Rattle.std.proofs.Common.{◌≡◌, ◌⊎◌, Bool, true, false, List, [], ◌∷◌, ◌++◌, inl, inr, refl, sym, subst}
+use Rattle.std.proofs.Common.{Bool, true, false, List, [], ◌∷◌, ◌++◌, inl, inr, refl, subst}
 use Rattle.mysql_conversation.specs.Agreements.{Agreed}
-use Rattle.mysql_conversation.specs.Pipelined.{Numbered, IsPipelined}
+use Rattle.mysql_conversation.specs.Pipelined.{Numbered}
 use Rattle.mysql_conversation.specs.Session.{IsSession, IsSessionBeginning, IsLoggedIn}
 use Rattle.mysql_conversation.specs.declared.kind.Opening.TheVariants.{Login}
 use Rattle.mysql_conversation.specs.Standing.{Steps, start}

@@ -2,30 +2,29 @@
 use Rattle.std.proofs.Common.{◌≡◌, ◌⊎◌, ℕ, ◌+◌, ◌<◌, ◌≤◌, max, Bool, true, false, cond, ◌&&◌, List, [], ◌∷◌, ◌++◌, inl, inr, Option, Some, None, refl, sym, ap, subst, ◌∙◌, arith}
 use Rattle.std.proofs.lemmas.Bool.{cases_Bool}
 use Rattle.mysql_conversation.specs.Agreements.{Agreed}
-use Rattle.mysql_conversation.specs.Conversation.{commands, answering}
-use Rattle.mysql_conversation.specs.Machine.{take_step, rests, listens, is_due}
+use Rattle.mysql_conversation.specs.Conversation.{commands, answering, code_of}
+use Rattle.mysql_conversation.specs.Machine.{take_step, rests, is_idle, is_due}
 use Rattle.mysql_conversation.specs.Pipelined.{Numbered, is_client, is_command}
-use Rattle.mysql_conversation.specs.Standing.{Standing, standing, known, command_of, kind_of, begin, wait, waits, settle, push, pipe_step, Steps, PipeRun}
+use Rattle.mysql_conversation.specs.Standing.{Standing, standing, known, command_of, kind_of, begin, wait, settle, push, pipe_step, Steps, PipeRun}
 use Rattle.mysql_conversation.specs.declared.kind.Kind.{Kind}
 use Rattle.mysql_conversation.specs.declared.kind.Kind.TheVariants as kind
 use Rattle.mysql_conversation.specs.declared.kind.Side.TheVariants.{Client, Server}
 use Rattle.mysql_conversation.specs.declared.state.State.{State}
-use Rattle.mysql_conversation.specs.declared.state.State.TheVariants as state
 use Rattle.mysql_conversation.specs.declared.state.Answer.{Answer}
 use Rattle.mysql_conversation.specs.declared.state.Command.{Command}
 use Rattle.mysql_conversation.specs.Payloads.{asks_cursor}
 use Rattle.mysql_conversation.proofs.Classes.{some_is}
 use Rattle.mysql_conversation.specs.declared.pipeline.Waiting.{Waiting}
-use Rattle.mysql_conversation.proofs.PipeSteps.{Over, Began, after, outcome, side_is, not_both, settle_last, settle_listens, server_back, client_rest, client_turn, client_due, loaded_back, aside_due, command_back, by_client}
-use Rattle.mysql_conversation.proofs.States.{Turn, turn, rests_is}
-use Rattle.mysql_conversation.proofs.Turns.{kind_is_command, begin_listens}
+use Rattle.mysql_conversation.proofs.PipeSteps.{Over, Sound, after, outcome, side_is, settle_last, server_back, client_rest, client_turn, client_due, loaded_back, aside_due, command_back, by_client, step_sound}
+use Rattle.mysql_conversation.proofs.States.{Turn, turn, due_runs, running_idle, shut_idle}
+use Rattle.mysql_conversation.proofs.Turns.{kind_is_command}
 use Rattle.mysql_conversation.specs.Pipelined.{IsPipelined}
 use Rattle.mysql_conversation.specs.Standing.{start}
 use Rattle.mysql_conversation.specs.declared.kind.Opening.{Opening}
 use Rattle.mysql_conversation.proofs.Runs.{join, once}
 use Rattle.mysql_conversation.proofs.Stood.{pipelined_runs}
 use Rattle.mysql_conversation.proofs.Stood.{one_standing}
-use Rattle.mysql_observer.specs.Order.{IsEarlyIn, AreEarly, Step, items_of, IsCommand, IsNext, at_after, AreOrderly}
+use Rattle.mysql_observer.specs.Order.{IsEarlyIn, AreEarly, Step, items_of, IsNext, at_after, AreOrderly}
 
 -- the numbers of the commands that wait ascend, from above the exchange that runs up to the last command
 abbrev pub AscendTo : ℕ → List Waiting → ℕ → Type 0
@@ -42,40 +41,22 @@ ascend_more i l (n ∷ q) c h = (h.0, ascend_more n.number l q c h.1)
 
 settle_up : (m : State) (i l : ℕ) (q : List Waiting) → AscendTo i q l → (i ≤ (settle m i l q).number) × AscendTo (settle m i l q).number (settle m i l q).waiting l
 settle_up m i l [] h = (omega arith, h)
-settle_up m i l (n ∷ q) h = elim (cases_Bool (rests m)) [
+settle_up m i l (n ∷ q) h = elim (cases_Bool (is_idle m)) [
   | inl e ↦ rw e (let r = settle_up (begin n.command) n.number l q h.1 in let k = r.0 in let j = h.0 in (omega (arith, k, j), r.1))
   | inr e ↦ rw e (omega arith, h)
 ]
-
-quiet_at : (m : State) → Turn m → is_due m ≡ false → rests m ≡ false → listens m ≡ true
-quiet_at m (inl e) d r = (let k : rests m ≡ true = ap rests e in absurd cc)
-quiet_at m (inr (inl a)) d r = a.0
-quiet_at m (inr (inr a)) d r = absurd cc
-
--- where the server is not to speak, no command waits
-settle_quiet : (m : State) (i l : ℕ) (q : List Waiting) → (listens m && waits q) ≡ false → is_due (settle m i l q).state ≡ false → (settle m i l q).waiting ≡ []
-settle_quiet m i l [] h d = refl
-settle_quiet m i l (n ∷ q) h d = elim (cases_Bool (rests m)) [
-  | inl e ↦ (let s : settle m i l (n ∷ q) ≡ settle (begin n.command) n.number l q = rw e refl in
-      ap (λ (v : Standing). v.waiting) s ∙ settle_quiet (begin n.command) n.number l q (rw (begin_listens n.command) refl) (sym (ap (λ (v : Standing). is_due v.state) s) ∙ d))
-  | inr e ↦ (let s : settle m i l (n ∷ q) ≡ standing m i l (n ∷ q) = rw e refl in
-      let no : listens m ≡ false = not_both (listens m) true h refl in
-      let yes : listens m ≡ true = quiet_at m (turn m) (sym (ap (λ (v : Standing). is_due v.state) s) ∙ d) e in absurd cc)
-]
-
-no_waits : (q : List Waiting) → waits q ≡ false → q ≡ []
-no_waits [] h = refl
-no_waits (n ∷ q) h = absurd cc
 
 -- the server is at an exchange, not before one of which a packet came
 pub record Stands (at : ℕ) (w : Standing) : Type 0 where
   pub from : at ≤ w.number
   pub ascend : AscendTo w.number w.waiting w.last
-  pub quiet : is_due w.state ≡ false → w.waiting ≡ []
+  pub sound : Sound w
 
-stands_on : (at : ℕ) (w : Standing) (m : State) (v : Standing) → Stands at w → standing m w.number w.last w.waiting ≡ v → w.waiting ≡ [] → Stands w.number v × (v.last ≡ w.last)
-stands_on at w m v h e q =
-    (subst (λ s. Stands w.number s) e (record { from = omega arith; ascend = h.ascend; quiet = λ d. q }), sym (ap (λ (s : Standing). s.last) e))
+stands_on : (at : ℕ) (w : Standing) (m : State) (v : Standing) → Stands at w → Sound v → standing m w.number w.last w.waiting ≡ v → Stands w.number v × (v.last ≡ w.last)
+stands_on at w m v h s e = (
+  subst (λ t. Stands w.number t) e (record { from = omega arith; ascend = h.ascend; sound = subst (λ t. Sound t) (sym e) s }),
+  sym (ap (λ (t : Standing). t.last) e),
+)
 
 -- ---- a packet that is no command
 
@@ -83,40 +64,47 @@ stands_on at w m v h e q =
 abbrev Turned : Standing → ℕ → Standing → Type 0
 Turned w n v = (w.number ≡ n) × Stands w.number v × (v.last ≡ w.last)
 
-turned_by_client : (d : Agreed) (at : ℕ) (w : Standing) (x : Numbered) (v : Standing) → Turn w.state → Stands at w → commands x.packet.kind ≡ false
+turned_by_client : (d : Agreed) (at : ℕ) (w : Standing) (x : Numbered) (v : Standing) → Turn w.state → Stands at w → Sound v → commands x.packet.kind ≡ false
     → pipe_step d w Client x.packet.payload ≡ outcome x.packet.kind x.number v → Turned w x.number v
-turned_by_client d at w x v (inl r) h c e =
+turned_by_client d at w x v (inl r) h s c e =
     let b = client_rest d w x.packet.payload x.packet.kind x.number v r e in
     let yes : commands x.packet.kind ≡ true = ap commands (sym b.2) ∙ kind_is_command b.0 in absurd cc
-turned_by_client d at w x v (inr (inl a)) h c e =
-    let b = loaded_back d w x.packet.payload x.packet.kind x.number v (take_step d w.state Client x.packet.payload) a.1 refl (client_turn d w x.packet.payload (outcome x.packet.kind x.number v) a.2 e) in
-    let r = stands_on at w b.0 v h b.3 (h.quiet a.2) in (b.2, r.0, r.1)
-turned_by_client d at w x v (inr (inr a)) h c e =
+turned_by_client d at w x v (inr (inl a)) h s c e =
+    let b = loaded_back d w x.packet.payload x.packet.kind x.number v (take_step d w.state Client x.packet.payload) (running_idle w.state a.1) refl
+    (client_turn d w x.packet.payload (outcome x.packet.kind x.number v) a.2 e) in
+    let r = stands_on at w b.0 v h s b.3 in (b.2, r.0, r.1)
+turned_by_client d at w x v (inr (inr (inl a))) h s c e =
     let b = aside_due d w x.packet.payload x.packet.kind x.number v (take_step d w.state Client x.packet.payload) a.0 refl c (client_due d w x.packet.payload (outcome x.packet.kind x.number v) a.0 e) in
-    let r = stands_on at w b.0 v h b.4 (no_waits w.waiting b.2) in (b.3, r.0, r.1)
+    let r = stands_on at w b.0 v h s b.4 in (b.3, r.0, r.1)
+turned_by_client d at w x v (inr (inr (inr a))) h s c e =
+    let b = loaded_back d w x.packet.payload x.packet.kind x.number v (take_step d w.state Client x.packet.payload) (shut_idle w.state a.0) refl
+    (client_turn d w x.packet.payload (outcome x.packet.kind x.number v) a.3 e) in
+    let r = stands_on at w b.0 v h s b.3 in (b.2, r.0, r.1)
 
-turned_by_server : (d : Agreed) (at : ℕ) (w : Standing) (x : Numbered) (v : Standing) → Stands at w → x.packet.from ≡ Server → Steps d w x v → Turned w x.number v
-turned_by_server d at w x v h f e =
+turned_by_server : (d : Agreed) (at : ℕ) (w : Standing) (x : Numbered) (v : Standing) → Stands at w → Sound v → x.packet.from ≡ Server → Steps d w x v → Turned w x.number v
+turned_by_server d at w x v h s f e =
     let b = server_back d w x v f e in
     let up = settle_up b.0 w.number w.last w.waiting h.ascend in
     let last : (settle b.0 w.number w.last w.waiting).last ≡ w.last = settle_last b.0 w.number w.last w.waiting in (
       b.3,
-      subst (λ s. Stands w.number s) b.4 (record {
+      subst (λ t. Stands w.number t) b.4 (record {
         from = up.0;
         ascend = subst (λ l. AscendTo (settle b.0 w.number w.last w.waiting).number (settle b.0 w.number w.last w.waiting).waiting l) (sym last) up.1;
-        quiet = settle_quiet b.0 w.number w.last w.waiting b.2;
+        sound = subst (λ t. Sound t) (sym b.4) s;
       }),
-      sym (ap (λ (s : Standing). s.last) b.4) ∙ last,
+      sym (ap (λ (t : Standing). t.last) b.4) ∙ last,
     )
 
 no_command : (x : Numbered) → x.packet.from ≡ Client → is_command x.packet ≡ false → commands x.packet.kind ≡ false
 no_command x f c = sym (ap (λ s. is_client s && commands x.packet.kind) f) ∙ c
 
 turned : (d : Agreed) (at : ℕ) (w : Standing) (x : Numbered) (v : Standing) → Stands at w → is_command x.packet ≡ false → Steps d w x v → Turned w x.number v
-turned d at w x v h c e = elim (side_is x.packet.from) [
-  | inl f ↦ turned_by_client d at w x v (turn w.state) h (no_command x f c) (by_client d w x v f e)
-  | inr f ↦ turned_by_server d at w x v h f e
-]
+turned d at w x v h c e =
+    let s = step_sound d w x v h.sound e in
+    elim (side_is x.packet.from) [
+      | inl f ↦ turned_by_client d at w x v (turn w.state) h s (no_command x f c) (by_client d w x v f e)
+      | inr f ↦ turned_by_server d at w x v h s f e
+    ]
 
 -- ---- a command
 
@@ -124,34 +112,40 @@ known_code : (code : ℕ) (r : Option Answer) (c : Command) → known code r ≡
 known_code code None c e = absurd cc
 known_code code (Some a) c e = ap (λ (o : Command). o.code) (some_is e)
 
-command_in : (p : List ℕ) (c : Command) (k : Kind) → command_of p ≡ Some c → kind_of c ≡ k → (code : ℕ) × (rest : List ℕ) × (p ≡ code ∷ rest) × (k ≡ kind.Command code)
-command_in [] c k e h = absurd cc
-command_in (code ∷ rest) c k e h = (code, rest, refl, sym h ∙ ap (λ n. kind.Command n) (sym (known_code code (answering code (asks_cursor (code ∷ rest))) c e)))
+command_in : (p : List ℕ) (c : Command) (k : Kind) → command_of p ≡ Some c → kind_of c ≡ k → k ≡ kind.Command (code_of p)
+command_in p c k e h = sym h ∙ ap (λ n. kind.Command n) (sym (known_code (code_of p) (answering (code_of p) (asks_cursor p)) c e))
 
 -- the exchange of a command begins, or it waits
-begun_when : (b : Bool) (at : ℕ) (w : Standing) (c : Command) (v : Standing) → is_due w.state ≡ b → Stands at w
+begun_when : (b : Bool) (at : ℕ) (w : Standing) (c : Command) (v : Standing) → is_due w.state ≡ b → Stands at w → Sound v
     → cond b (push w c) (standing (begin c) (w.last + 1) (w.last + 1) w.waiting) ≡ v → Stands at v × (v.last ≡ w.last + 1)
-begun_when true at w c v d h e =
-    (subst (λ s. Stands at s) e (record { from = h.from; ascend = ascend_more w.number w.last w.waiting c h.ascend; quiet = λ n. absurd cc }), sym (ap (λ (s : Standing). s.last) e))
-begun_when false at w c v d h e =
-    let q = h.quiet d in
+begun_when true at w c v d h s e = (
+  subst (λ t. Stands at t) e (record { from = h.from; ascend = ascend_more w.number w.last w.waiting c h.ascend; sound = subst (λ t. Sound t) (sym e) s }),
+  sym (ap (λ (t : Standing). t.last) e),
+)
+begun_when false at w c v d h s e =
     let up = ascend_up w.number w.last w.waiting h.ascend in
     let from = h.from in (
-      subst (λ s. Stands at s) e (record {
+      subst (λ t. Stands at t) e (record {
         from = omega (arith, up, from);
-        ascend = subst (λ l. AscendTo (w.last + 1) l (w.last + 1)) (sym q) (omega arith);
-        quiet = λ n. q;
+        ascend = subst (λ l. AscendTo (w.last + 1) l (w.last + 1)) (sym (h.sound.0 d)) (omega arith);
+        sound = subst (λ t. Sound t) (sym e) s;
       }),
-      sym (ap (λ (s : Standing). s.last) e),
+      sym (ap (λ (t : Standing). t.last) e),
     )
 
+not_due : (s : State) → rests s ≡ true → is_due s ≡ false
+not_due s r = elim (cases_Bool (is_due s)) [
+  | inl e ↦ (let no = (due_runs s e).0 in absurd cc)
+  | inr e ↦ e
+]
+
 -- in its turn it is of the exchange at which the server is then
-in_turn_stands : (at : ℕ) (w : Standing) (c : Command) (v : Standing) → Over w → after w c ≡ v → Stands (w.last + 1) v
-in_turn_stands at w c v o e =
-    let d : is_due w.state ≡ false = ap is_due o.0 in
-    let s : after w c ≡ standing (begin c) (w.last + 1) (w.last + 1) [] =
-    ap (λ b. cond b (push w c) (standing (begin c) (w.last + 1) (w.last + 1) w.waiting)) d ∙ ap (standing (begin c) (w.last + 1) (w.last + 1)) o.1 in
-    subst (λ t. Stands (w.last + 1) t) (sym s ∙ e) (record { from = omega arith; ascend = omega arith; quiet = λ n. refl })
+in_turn_stands : (at : ℕ) (w : Standing) (c : Command) (v : Standing) → Over w → Sound v → after w c ≡ v → Stands (w.last + 1) v
+in_turn_stands at w c v o s e =
+    let a : after w c ≡ standing (begin c) (w.last + 1) (w.last + 1) [] =
+    ap (λ b. cond b (push w c) (standing (begin c) (w.last + 1) (w.last + 1) w.waiting)) (not_due w.state o.0) ∙ ap (standing (begin c) (w.last + 1) (w.last + 1)) o.1 in
+    let z = sym a ∙ e in
+    subst (λ t. Stands (w.last + 1) t) z (record { from = omega arith; ascend = omega arith; sound = subst (λ t. Sound t) (sym z) s })
 
 -- ---- each packet
 
@@ -178,21 +172,20 @@ follows_none d at w x v h c e =
 
 follows_command : (d : Agreed) (at : ℕ) (w : Standing) (x : Numbered) (v : Standing) → Stands at w → is_command x.packet ≡ true → Steps d w x v → Follows true at w x v
 follows_command d at w x v h c e =
-    let b = command_back d w x v c e in
-    let k = b.1.0 in
+    let k = (command_back d w x v c e).1.0 in
     let n : x.number ≡ w.last + 1 = sym k.3 in
-    let r = begun_when (is_due w.state) at w k.0 v refl h k.4 in
+    let r = begun_when (is_due w.state) at w k.0 v refl h (step_sound d w x v h.sound e) k.4 in
     ((n, command_in x.packet.payload k.0 x.packet.kind k.1 k.2), r.0, r.1 ∙ (omega (arith, n)))
 
 follows_turn : (d : Agreed) (at : ℕ) (w : Standing) (x : Numbered) (v : Standing) → Stands at w → Over w → is_command x.packet ≡ true → Steps d w x v → Follows false at w x v
 follows_turn d at w x v h o c e =
-    let b = command_back d w x v c e in
-    let k = b.1.0 in
+    let k = (command_back d w x v c e).1.0 in
+    let s = step_sound d w x v h.sound e in
     let n : w.last + 1 ≡ x.number = k.3 in
-    let r = begun_when (is_due w.state) at w k.0 v refl h k.4 in
+    let r = begun_when (is_due w.state) at w k.0 v refl h s k.4 in
     let from = h.from in
     let up = ascend_up w.number w.last w.waiting h.ascend in
-    (omega (arith, from, up, n), subst (λ j. Stands j v) n (in_turn_stands at w k.0 v o k.4), r.1 ∙ (omega (arith, n)))
+    (omega (arith, from, up, n), subst (λ j. Stands j v) n (in_turn_stands at w k.0 v o s k.4), r.1 ∙ (omega (arith, n)))
 
 follows_either : (command : Bool) (d : Agreed) (at : ℕ) (w : Standing) (x : Numbered) (v : Standing) → is_command x.packet ≡ command → Stands at w → Over w → Steps d w x v → Follows false at w x v
 follows_either true d at w x v c h o e = follows_turn d at w x v h o c e
@@ -240,4 +233,4 @@ flagged a o before w t (s ∷ ss) run r h = (
 
 pub pipeline_orderly : (a : Agreed) (o : Opening) (steps : List Step) (t : Standing) → PipeRun a (start o) (items_of steps) t → AreEarly a o [] steps → AreOrderly 0 0 steps
 pipeline_orderly a o steps t r h =
-    are_orderly a 0 0 (start o) t steps (record { from = omega arith; ascend = omega arith; quiet = λ d. refl }) refl (flagged a o [] (start o) t steps refl r h)
+    are_orderly a 0 0 (start o) t steps (record { from = omega arith; ascend = omega arith; sound = ((λ d. refl), tt) }) refl (flagged a o [] (start o) t steps refl r h)

@@ -1,5 +1,5 @@
 -- A refusal by a reader that takes no memory is that of the form.
-use Rattle.std.proofs.Common.{◌≡◌, ℕ, List, length, false, ap, refl, Err, ◌∙◌}
+use Rattle.std.proofs.Common.{◌≡◌, ℕ, false, ap}
 use Rattle.mysql_wire.specs.Reading.{Reading, Faults}
 use Rattle.mysql_wire.specs.declared.fault.FaultOf.{FaultOf}
 use Rattle.mysql_wire.specs.declared.fault.FaultOf.TheVariants as fault

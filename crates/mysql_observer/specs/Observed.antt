@@ -1,17 +1,12 @@
 -- What an observer was passed, what it knows, and the records that it reads.
-use Rattle.std.specs.Prelude.{◌≡◌, ◌≢◌, ◌⊎◌, ℕ, Bool, true, false, List, [], ◌∷◌, ◌++◌, Option, Some, None, Ok, IsTrue}
+use Rattle.std.specs.Prelude.{◌≡◌, ◌⊎◌, ℕ, Bool, true, false, List, [], ◌∷◌, ◌++◌, None, IsTrue}
 use Rattle.mysql_conversation.specs.Agreements.{Agreed}
 use Rattle.mysql_conversation.specs.Pipelined.{Numbered}
 use Rattle.mysql_conversation.specs.Session as sessions
 use Rattle.mysql_conversation.specs.Session.{SessionTaken, IsLoggedInAmong}
 use Rattle.mysql_conversation.specs.declared.kind.Side.{Side}
 use Rattle.mysql_conversation.specs.declared.pipeline.Pipeline.{Pipeline}
-use Rattle.mysql_conversation.specs.declared.kind.Kind.{Kind}
-use Rattle.mysql_conversation.specs.declared.kind.Kind.TheVariants as kind
-use Rattle.mysql_conversation.specs.declared.kind.Format.TheVariants.{Binary}
-use Rattle.mysql_statements.specs.Table.{columns_of_rows}
-use Rattle.mysql_statements.specs.declared.row_column.RowColumn.{RowColumn}
-use Rattle.mysql_observer.specs.PacketContext.{IsEarly, counted, type_of, unsigned}
+use Rattle.mysql_observer.specs.PacketContext.{IsEarly, counted}
 use Rattle.mysql_observer.specs.Tracked.{Tracked, tracked_after, asks_memory}
 use Rattle.mysql_observer.specs.declared.observer.Observer.{Observer}
 

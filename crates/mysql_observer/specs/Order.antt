@@ -1,7 +1,8 @@
 -- The order of a conversation, by the numbers of its exchanges.
-use Rattle.std.specs.Prelude.{◌≡◌, ◌⊎◌, ℕ, zero, suc, ◌+◌, ◌==◌, ◌≤◌, max, Bool, true, false, List, [], ◌∷◌, ◌++◌, IsTrue, None}
+use Rattle.std.specs.Prelude.{◌≡◌, ◌⊎◌, ℕ, zero, suc, ◌+◌, ◌==◌, ◌≤◌, max, Bool, true, false, List, [], ◌∷◌, ◌++◌, IsTrue}
 use Rattle.std.specs.List.{filter}
 use Rattle.mysql_conversation.specs.Agreements.{Agreed}
+use Rattle.mysql_conversation.specs.Conversation.{code_of}
 use Rattle.mysql_conversation.specs.Pipelined.{Numbered, is_command, IsPipelined}
 use Rattle.mysql_conversation.specs.declared.kind.Kind.TheVariants as kind
 use Rattle.mysql_conversation.specs.declared.kind.Opening.{Opening}
@@ -36,9 +37,9 @@ abbrev pub items_of : List Step → List Numbered
 items_of [] = []
 items_of (s ∷ ss) = s.item ∷ items_of ss
 
--- a command, whose payload begins with its code
+-- a command, by the code of its payload
 abbrev pub IsCommand : Numbered → Type 0
-IsCommand x = (code : ℕ) × (p : List ℕ) × (x.packet.payload ≡ code ∷ p) × (x.packet.kind ≡ kind.Command code)
+IsCommand x = x.packet.kind ≡ kind.Command (code_of x.packet.payload)
 
 -- Where the server is at an exchange, and so many commands came: a command that comes early is the next one, and another packet is of an
 -- exchange to which the server has come, or comes.

@@ -1,7 +1,7 @@
 -- The record that a payload of a kind is read as.
-use Rattle.std.specs.Prelude.{◌≡◌, ◌⊎◌, ℕ, Bool, true, false, not, ◌&&◌, ◌||◌, ◌==◌, List, Option, Some, None, Ok, if◌then◌else◌}
+use Rattle.std.specs.Prelude.{◌≡◌, ◌⊎◌, ℕ, Bool, true, false, ◌||◌, ◌==◌, List, Option, Some, None, Ok, if◌then◌else◌}
 use Rattle.mysql_wire.specs.Form.{Form, ◌>>=◌, give}
-use Rattle.mysql_wire.specs.Reading.{Reading, Faults}
+use Rattle.mysql_wire.specs.Reading.{Faults}
 use Rattle.mysql_wire.specs.declared.fault.FaultOf.{FaultOf}
 use Rattle.mysql_prepared.specs.ExecuteHead.{execute_head, cursor_flags}
 use Rattle.mysql_prepared.specs.Attributes.{Attribute}
@@ -10,7 +10,7 @@ use Rattle.mysql_prepared.specs.ExecuteRead.{ParamsLeft, TypedParam, IsExecution
 use Rattle.mysql_prepared.specs.declared.execute_head.ComStmtExecuteHead.{ComStmtExecuteHead}
 use Rattle.mysql_prepared.specs.declared.execute_view.BoundParam.{BoundParam}
 use Rattle.mysql_conversation.specs.Agreements.{Agreed}
-use Rattle.mysql_conversation.specs.declared.kind.Format.TheVariants.{Text, Binary}
+use Rattle.mysql_conversation.specs.declared.kind.Format.TheVariants.{Binary}
 use Rattle.mysql_conversation.specs.declared.kind.Kind.{Kind}
 use Rattle.mysql_conversation.specs.declared.kind.Kind.TheVariants as kind
 use Rattle.mysql_wire.specs.Flags.{CapabilityFlags}

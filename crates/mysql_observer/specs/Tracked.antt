@@ -1,7 +1,8 @@
 -- What the packets so far say of statements, and of the commands that wait.
-use Rattle.std.specs.Prelude.{◌≡◌, ℕ, ◌==◌, nat_le, Bool, true, false, not, ◌&&◌, List, [], ◌∷◌, length, Option, Some, None, is_some, if◌then◌else◌, IsTrue}
+use Rattle.std.specs.Prelude.{◌≡◌, ℕ, ◌==◌, nat_le, Bool, true, false, not, ◌&&◌, List, [], ◌∷◌, Option, Some, None, is_some, if◌then◌else◌, IsTrue}
 use Rattle.mysql_prepared.specs.declared.execute_view.BoundParam.{BoundParam}
 use Rattle.mysql_conversation.specs.Agreements.{Agreed}
+use Rattle.mysql_conversation.specs.Conversation.{code_of}
 use Rattle.mysql_conversation.specs.declared.kind.Kind.{Kind}
 use Rattle.mysql_conversation.specs.declared.kind.Kind.TheVariants as kind
 use Rattle.mysql_statements.specs.After.{after}
@@ -30,8 +31,7 @@ pub record Tracked : Type 0 where
 -- ---- the commands that waited, up to an exchange
 
 abbrev pub command_taken : Agreed → List ℕ → Table → Table
-command_taken a [] t = t
-command_taken a (code ∷ p) t = after true a (kind.Command code) (code ∷ p) t
+command_taken a p t = after true a (kind.Command (code_of p)) p t
 
 abbrev pub table_served : Agreed → ℕ → List Command → Table → Table
 table_served a n [] t = t

@@ -38,10 +38,13 @@ impl Model for Tracked {
 fn take_command(statements: &mut Statements, agreed: SessionCapabilities, payload: &[u8])
     ensures { statements.new ≡ spec.command_taken agreed payload.now statements.old }
 {
-    if let [code, ..] = payload {
-        // (a command has no memory taken)
-        let _taken = statements.take(agreed, Kind::Command(*code), payload);
-    }
+    // (a server takes an empty packet for COM_SLEEP)
+    let code = match payload {
+        [code, ..] => *code,
+        [] => 0,
+    };
+    // (a command has no memory taken)
+    let _taken = statements.take(agreed, Kind::Command(code), payload);
 }
 
 /// Whether nothing is known of statements up to this exchange.

@@ -1,4 +1,4 @@
-use Rattle.std.proofs.Common.{◌≡◌, ◌∷◌, ◌++◌, [], Err, sym, ap, subst, ◌∙◌}
+use Rattle.std.proofs.Common.{◌∷◌, ◌++◌, [], Err, sym, ap, subst, ◌∙◌}
 use Rattle.mysql_conversation.specs.Piped.{place}
 use Rattle.mysql_conversation.specs.Session.{SessionTaken}
 use Rattle.mysql_observer.specs.PacketContext.{count_after}
