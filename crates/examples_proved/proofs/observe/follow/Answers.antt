@@ -20,7 +20,7 @@ returns c =
         f.2,
         λ a front x rest logged split.
             in_order a front x rest f.0 c.args.limits.statements c.args.limits.early _ split
-            (c.what_a_session_took_is_a_beginning.ensures _ f.0 f.2.0)
+            (c.what_a_session_took_is_a_beginning.ensures c.loop-packet.observer.session f.0 f.2.0)
             (c.tracked_packets_are_the_steps_of_a_conversation.ensures a front x rest c.args.limits.statements c.args.limits.early _ logged (subst (λ items. AreTracked [] items (nothing c.args.limits.statements c.args.limits.early) (tracked c.loop-packet.observer)) split f.3))
             (λ begun early places. c.what_is_known_is_in_the_order_of_the_conversation.ensures a front x c.args.limits.statements c.args.limits.early _ logged begun early places),
       );
