@@ -2,3 +2,4 @@ pub mod Places
 pub mod Sessions
 pub mod Steps
 pub mod Sets
+pub mod Followed

@@ -10,7 +10,7 @@ use Rattle.examples_proved.specs.Audit.{AreSent}
 use Rattle.examples_proved.specs.declared.audit.Sent.{Sent}
 
 -- a packet more
-one_more : (items : List Numbered) (sent : List Sent) (s : Sent) (k : Kind) (n : ℕ) → AreSent items sent → AreSent (items ++ place s.from s.payload.now k n ∷ []) (sent ++ s ∷ [])
+pub one_more : (items : List Numbered) (sent : List Sent) (s : Sent) (k : Kind) (n : ℕ) → AreSent items sent → AreSent (items ++ place s.from s.payload.now k n ∷ []) (sent ++ s ∷ [])
 one_more [] [] s k n h = (refl, refl, tt)
 one_more [] (y ∷ sent) s k n h = absurd h
 one_more (x ∷ items) [] s k n h = absurd h

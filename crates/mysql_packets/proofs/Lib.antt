@@ -10,3 +10,4 @@ pub mod Rows
 pub mod Types
 pub mod BulkAnswers
 pub mod Calls
+pub mod SliceBytes

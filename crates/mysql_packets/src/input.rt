@@ -1,7 +1,8 @@
 //! The program's input.
 
-ghost use Rattle.std.specs.Prelude.{IfOk};
-ghost use Rattle.mysql_packets.specs.Input.{GaveAll};
+ghost use Rattle.std.specs.Prelude.{◌≡◌, IfOk, IfErr};
+ghost use Rattle.mysql_packets.specs.Input.{GaveAll, GaveAtLeast};
+ghost use Rattle.mysql_packets.specs.declared.input.InputError.TheVariants as error;
 
 use std::alloc::Global;
 use std::io::Read;
@@ -12,8 +13,10 @@ pub const MOST_READS: u32 = 1_048_576;
 /// Why the input was not read to its end.
 #[derive(Clone, Copy, Debug, PartialEq, Eq)]
 pub enum InputError {
-    /// A read failed, or the input did not end.
+    /// A read failed.
     Read,
+    /// After [`MOST_READS`] reads the input had not ended.
+    Endless,
     /// An allocation failed.
     Memory,
 }
@@ -21,6 +24,10 @@ pub enum InputError {
 /// Reads the input to its end.
 pub fn read_input<R: Read>(alloc: Global, reader: &mut R) -> Result<Vec<u8>, InputError>
     ensures all { IfOk result (λ input. GaveAll (R.remaining reader.old) (R.remaining reader.new) input.items) }
+    // Each of the reads gave at least one byte.
+    ensures endless { IfErr result (λ why. why ≡ error.Endless → GaveAtLeast 1048576 (R.remaining reader.old) (R.remaining reader.new)) }
+    // Memory is taken for bytes that were read.
+    ensures memory { IfErr result (λ why. why ≡ error.Memory → GaveAtLeast 1 (R.remaining reader.old) (R.remaining reader.new)) }
 {
     let mut input = Vec::new(alloc);
     let mut chunk = [0u8; 8192];
@@ -35,5 +42,5 @@ pub fn read_input<R: Read>(alloc: Global, reader: &mut R) -> Result<Vec<u8>, Inp
             return Err(InputError::Memory);
         }
     }
-    Err(InputError::Read)
+    Err(InputError::Endless)
 }

@@ -1,6 +1,7 @@
 //! The laws of all libraries, each library's in a module of its name; and those of the program.
 
 ghost use Rattle.std.specs.Prelude.{◌≡◌};
+ghost use Rattle.mysql_commands.specs.AsRead.{AreBytes};
 
 use crate::input::MOST_READS;
 pub use mysql_auth::laws as auth;
@@ -24,3 +25,8 @@ pub fn most_reads() -> u32
 {
     MOST_READS
 }
+
+/// The items of a byte slice are bytes: the premise of [`commands::read_commands_are_written_as_they_were`].
+pub fn these_are_bytes(bytes: &[u8])
+    ensures value { AreBytes bytes.now }
+{}

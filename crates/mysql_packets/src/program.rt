@@ -1,11 +1,12 @@
 //! The program: what it writes for the words after its name, and its status.
 
-ghost use Rattle.std.specs.Prelude.{◌≡◌, IfOk, OnErr, Some, true, false, map, string_bytes};
+ghost use Rattle.std.specs.Prelude.{◌≡◌, IfErr, IfOk, OnErr, Some, true, false, map, string_bytes};
 ghost use Rattle.mysql_output.specs.Output.{IsWritten};
 ghost use Rattle.mysql_packets.specs.Answer.{out_of_memory};
 ghost use Rattle.mysql_packets.specs.Command.{command_of, reads_input};
-ghost use Rattle.mysql_packets.specs.Input.{GaveAll};
+ghost use Rattle.mysql_packets.specs.Input.{GaveAll, GaveAtLeast};
 ghost use Rattle.mysql_packets.specs.Program.{IsAnswered};
+ghost use Rattle.mysql_packets.specs.declared.input.InputError.TheVariants as error;
 
 use crate::answer::USAGE;
 use crate::command::Command;
@@ -36,7 +37,7 @@ pub fn run<R: Read, W: Write>(alloc: Global, args: &[String], reader: &mut R, wr
     };
     let input = match input_of(alloc, &command, reader) {
         Ok(input) => input,
-        Err(InputError::Read) => return 3,
+        Err(InputError::Read | InputError::Endless) => return 3,
         Err(InputError::Memory) => return refuse_memory(writer),
     };
     match command.answer(alloc, input.as_slice()) {
@@ -54,6 +55,8 @@ fn input_of<R: Read>(
     ensures read { reads_input (Some command.now) ≡ true → IfOk result (λ input. GaveAll (R.remaining reader.old) (R.remaining reader.new) input.items) }
     ensures unread { reads_input (Some command.now) ≡ false → reader.new ≡ reader.old }
     ensures err { OnErr result (reads_input (Some command.now) ≡ true) }
+    ensures endless { IfErr result (λ why. why ≡ error.Endless → GaveAtLeast 1048576 (R.remaining reader.old) (R.remaining reader.new)) }
+    ensures memory { IfErr result (λ why. why ≡ error.Memory → GaveAtLeast 1 (R.remaining reader.old) (R.remaining reader.new)) }
 {
     if command.reads_input() {
         read_input(alloc, reader)
