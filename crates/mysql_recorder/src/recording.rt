@@ -126,6 +126,8 @@ impl Recording {
         // What waits of a line is in none of the packets.
         ensures recorded { (text : List ℕ) (items : List Item) → spec.Recorded self.now text items → IsTrue result ↔ spec.IsWhole self.now items }
         ensures finished { (text : List ℕ) (items : List Item) → spec.IsFinished self.now text items → IsTrue result ↔ spec.IsWhole self.now items }
+        // After a loss, of what is followed since:
+        ensures ended { IsTrue result → spec.HasEnded self.now }
     {
         self.sides.is_whole()
     }
@@ -195,6 +197,7 @@ impl Recording {
 
     /// Says that the input is at its end, and appends how much of each stream is passed over that is still out of step.
     pub fn finish(&mut self, out: &mut String) -> Result<(), RecordingError>
+        ensures left { OnOk result ((mid : List ℕ) × Stays (string_bytes out.old) mid × spec.SaysLeft self.new mid (string_bytes out.new)) }
         ensures finishes { OnOk result (spec.Finishes self.old self.new (string_bytes out.old) (string_bytes out.new)) }
         ensures lost { spec.has_lost self.old ≡ true → spec.has_lost self.new ≡ true }
         ensures layout { spec.layout self.new ≡ spec.layout self.old }
