@@ -47,13 +47,12 @@ class Watched:
         return 0, 0, status, warnings
 
     def error(self, buf):
+        if self.session.before:
+            return (replies.greeting_error(buf)[0],)
         code, _, message = replies.err_packet(buf, self.session.flags)
         return code, len(message)
 
-    def unasked_error(self, buf):
-        if self.session.before:
-            return (replies.greeting_error(buf)[0],)
-        return self.error(buf)
+    unasked_error = error
 
     def progress_report(self, buf):
         buf.take(3)
@@ -109,7 +108,7 @@ class Watched:
     def all(self, buf):
         return (len(buf.all()),)
 
-    auth_plugin_data = auth_data = statistics = infile_content = all
+    auth_plugin_data = auth_data = statistics = infile_content = clone = all
 
     def infile_end(self, _buf):
         return ()

@@ -349,6 +349,8 @@ class Watcher:
             return {"event_size": len(payload) - (3 if has_header(payload) else 1)}
         if kind == "local_infile":
             return {"file_name": shown(payload[1:])}
+        if kind in ("infile_content", "clone"):
+            return {"length": len(payload)}
         return {}
 
     def wanted(self, packet):

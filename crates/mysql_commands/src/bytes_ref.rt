@@ -1,7 +1,7 @@
 //! Bytes that stay in their packet, to its end.
 #![tactic(auto, unfolding(mysql_wire::specs::Writing::saturated))]
 
-ghost use Rattle.std.specs.Prelude.{◌≡◌, refl};
+ghost use Rattle.std.specs.Prelude.{◌≡◌, ⊤, refl};
 
 use mysql_wire::{AnyWidth, Buffer, FaultOf, MyDeserialize, MySerialize, ParseBuf};
 use std::alloc::AllocError;
@@ -45,6 +45,8 @@ impl<'a> BytesRef<'a> {
 
 impl Clone for BytesRef<'_> {
     ghost is_clone = { λ b copy. copy ≡ b };
+
+    ghost is_infallible = { λ _. ⊤ };
 
     fn clone(&self) -> Result<Self, AllocError> {
         Ok(BytesRef { bytes: self.bytes })

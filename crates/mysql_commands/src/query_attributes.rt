@@ -1,7 +1,7 @@
 //! The attributes of a query, where they lie.
 #![tactic(auto, using(mysql_wire::proofs::Packets::packets))]
 
-ghost use Rattle.std.specs.Prelude.{◌≡◌, refl};
+ghost use Rattle.std.specs.Prelude.{◌≡◌, ⊤, refl};
 ghost use Rattle.mysql_prepared.specs.Attributes.{IsGood, attributes_read};
 ghost use Rattle.mysql_commands.specs.QueryAttributes as spec;
 
@@ -69,6 +69,8 @@ impl<'a> QueryAttributesRef<'a> {
 
 impl Clone for QueryAttributesRef<'_> {
     ghost is_clone = { λ q copy. copy ≡ q };
+
+    ghost is_infallible = { λ _. ⊤ };
 
     fn clone(&self) -> Result<Self, AllocError> {
         Ok(QueryAttributesRef {

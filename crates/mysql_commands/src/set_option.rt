@@ -53,10 +53,7 @@ impl ComSetOption {
         ensures code { result.code ≡ spec.option_code option }
     {
         ComSetOption {
-            code: match option {
-                ServerOption::MultiStatementsOn => 0,
-                ServerOption::MultiStatementsOff => 1,
-            },
+            code: option as u16,
         }
     }
 

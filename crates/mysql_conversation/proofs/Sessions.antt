@@ -143,7 +143,7 @@ once_by a b s t c d true true front back x y xs ys e f l g h m n =
     (agreed_same s t c d a b (greeted_same s t f.0 h.0 q.0 f.3 h.3) (client_same true true c d x y q.1.0 l m) g n, q.1.1)
 
 -- what both agreed on, and what comes after the login, is one thing
-logged_in_once : (a b : Agreed) (front back : List Numbered) (x y : Numbered) (xs ys : List Numbered) → front ++ x ∷ xs ≡ back ++ y ∷ ys
+pub logged_in_once : (a b : Agreed) (front back : List Numbered) (x y : Numbered) (xs ys : List Numbered) → front ++ x ∷ xs ≡ back ++ y ∷ ys
     → IsLoggedIn a front x → IsLoggedIn b back y → (a ≡ b) × (xs ≡ ys)
 logged_in_once a b front back x y xs ys e g h = once_by a b g.0 h.0 g.1 h.1 g.2 h.2 front back x y xs ys e g.3 g.4 g.5 h.3 h.4 h.5
 

@@ -232,7 +232,10 @@ pub(crate) fn is_shut(state: &State) -> bool
 pub(crate) fn rests(state: &State) -> bool
     ensures { result ≡ spec.rests state.now }
 {
-    matches!(state, State::Rest | State::Clone | State::Quit | State::Over)
+    matches!(
+        state,
+        State::Rest | State::Clone | State::Quit | State::Over
+    )
 }
 
 /// Whether the client may answer by a packet that is no command.

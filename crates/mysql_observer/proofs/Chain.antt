@@ -15,7 +15,7 @@ use Rattle.mysql_observer.specs.Observed.{IsTrackedAs, Tracks, AreTracked}
 use Rattle.mysql_observer.specs.Order.{Step, items_of, step_after, after_steps, AreEarlyAfter}
 use Rattle.mysql_observer.specs.PacketContext.{IsEarly}
 use Rattle.mysql_observer.specs.Tracked.{Tracked, tracked_after, nothing}
-use Rattle.mysql_observer.proofs.Once.{logged_in_once}
+use Rattle.mysql_conversation.proofs.Sessions.{logged_in_once}
 
 -- ---- after the login
 

@@ -6,5 +6,4 @@ pub mod Ordered
 pub mod InOrder
 pub mod Orderly
 pub mod OfSession
-pub mod Once
 pub mod Chain

@@ -1,6 +1,7 @@
 //! What a packet of the server says.
 
 use crate::change_fields::append_changes;
+use crate::client_fields::append_length;
 use crate::values::{append_row, append_text_row};
 use mysql_auth::{AuthNextFactorRef, AuthSwitchRequestRef, HandshakePacketRef};
 use mysql_fields::{

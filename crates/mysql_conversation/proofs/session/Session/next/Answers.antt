@@ -52,7 +52,6 @@ returns-in-Commands-clause-same c = on_err c.next.result
     (λ st. same_commands c.args.self.now.phase c.in-Commands.pipeline c.next.new.self c.in-Commands.is c.next.ensures.agreed c.next.ensures.opening c.next.ensures.limit st)
     c.next.ensures.err
 
-
 pub returns-in-Server-clause-taken : goal.returns-in-Server-clause-taken
 returns-in-Server-clause-taken c = lift_ok c.served.result
     (λ x h items t. subst (λ side. TakenIn c.served.new.self.phase (items ++ place side c.args.payload.now x.0 x.1 ∷ [])) (sym c.in-Server.is)
