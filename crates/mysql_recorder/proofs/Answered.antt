@@ -49,7 +49,7 @@ writes_after w layout (x ∷ xs) a b h = (w ++ h.0, appends_after w layout (entr
 
 refused_after : (w : List ℕ) (all : List KindName) (layout : Layout) (side : Side) (sequence : ℕ) (payload : List ℕ) (items : List Numbered) (why : Refusal) (a b : List ℕ)
     → ShowsRefused all layout side sequence payload items why a b → ShowsRefused all layout side sequence payload items why (w ++ a) (w ++ b)
-refused_after w all layout side sequence payload items why a b h = (h.0, h.1, h.2, is_after w a b _ h.3, h.4, h.5, h.6, h.7, h.8)
+refused_after w all layout side sequence payload items why a b h = (h.0, h.1, h.2, is_after w a b _ h.3, h.4, h.5, h.6)
 
 stops_in_after : (w : List ℕ) (all : List KindName) (layout : Layout) (side : Side) (bytes : List ℕ) (items : List Item) (why : Refusal) (a b : List ℕ)
     → StopsIn all layout side bytes items why a b → StopsIn all layout side bytes items why (w ++ a) (w ++ b)

@@ -26,7 +26,7 @@ pub session_reason : {T : Type 0} (r : Result T Refusal) (c : Connection) (s : S
 session_reason (Ok x) c s side payload is unasked encrypted compressed full memory = tt
 session_reason (Err refusal.Unexpected) c s side payload is unasked encrypted compressed full memory = subst (λ d. IsReasonOf d side payload refusal.Unexpected) (sym is) (λ items kind number h b. unasked items kind number refl h b)
 session_reason (Err refusal.Full) c s side payload is unasked encrypted compressed full memory = subst (λ d. IsReasonOf d side payload refusal.Full) (sym is) (full.0 refl)
-session_reason (Err refusal.Memory) c s side payload is unasked encrypted compressed full memory = subst (λ d. IsReasonOf d side payload refusal.Memory) (sym is) (memory refl)
+session_reason (Err refusal.Memory) c s side payload is unasked encrypted compressed full memory = let m = memory refl in subst (λ d. IsReasonOf d side payload refusal.Memory) (sym is) (m.0, m.1, (m.2, m.3, m.4, m.5))
 session_reason (Err refusal.Encrypted) c s side payload is unasked encrypted compressed full memory = subst (λ d. IsReasonOf d side payload refusal.Encrypted) (sym is) (encrypted.0 refl)
 session_reason (Err refusal.Compressed) c s side payload is unasked encrypted compressed full memory = subst (λ d. IsReasonOf d side payload refusal.Compressed) (sym is) (compressed.0 refl)
 

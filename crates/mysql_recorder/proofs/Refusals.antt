@@ -30,7 +30,7 @@ module _ (all : List KindName) (layout : Layout) (old new : Followed) (side : Si
   shows items h r =
       let f = stays items h in
       let for = refused_for old.connection items side payload why h.0 reason in
-      (new.last, r.0, r.1 items f, r.2, λ e kind number. unasked items kind number e h, f.2, for.0, for.1, for.2)
+      (new.last, r.0, r.1 items f, r.2, λ e kind number. unasked items kind number e h, f.2, for)
 
   pub refused_ok : (r : Result Taken RecordingError)
       → IfOk r (λ taken. (taken ≢ taken_as.Shown) × Refuses all layout new side sequence payload why before after)

@@ -164,3 +164,12 @@ next_place place.Start c = begun_by c
 next_place (place.Between side) c = if c == 10 then Some place.Start else after_byte side c
 next_place (place.Half side high) c = option_map (λ low. place.Between side) (digit_value c)
 next_place place.Silent c = if c == 10 then Some place.Start else Some place.Silent
+
+-- after a text, unless a line of it is none of a recording's
+abbrev pub place_from : Option Place → List ℕ → Option Place
+place_from None text = None
+place_from (Some at) [] = Some at
+place_from (Some at) (c ∷ text) = place_from (next_place at c) text
+
+abbrev pub place_after : Place → List ℕ → Option Place
+place_after at text = place_from (Some at) text

@@ -38,6 +38,10 @@ KeepsSettings old new = sides.KeepsSettings old.sides new.sides
 abbrev pub last_exchange : Recording → ℕ
 last_exchange r = r.sides.packets.followed.last
 
+-- how far its line has come
+abbrev pub place : Recording → Place
+place r = r.place
+
 -- something is lost
 abbrev pub has_lost : Recording → Bool
 has_lost r = sides.has_lost r.sides

@@ -33,3 +33,12 @@ IfRefused error.Line P = Unit {0}
 IfRefused error.OutOfOrder P = Unit {0}
 IfRefused error.TooLong P = Unit {0}
 IfRefused error.Missing P = Unit {0}
+
+-- where the error is that a line is none of a recording's, this is so
+abbrev pub IfLine : RecordingError → Type 0 → Type 0
+IfLine error.Line P = P
+IfLine (error.Refused why) P = Unit {0}
+IfLine error.Memory P = Unit {0}
+IfLine error.OutOfOrder P = Unit {0}
+IfLine error.TooLong P = Unit {0}
+IfLine error.Missing P = Unit {0}

@@ -37,6 +37,7 @@ fn number_of(text: &[u8]) -> (u64, &[u8])
 /// How many bytes a line says that the capture lacks, where it is a mark.
 pub(crate) fn missing_of(line: &[u8]) -> Option<u64>
     ensures some { IfSome result (λ count. spec.IsMarkOf line.now count) }
+    ensures mark { IfSome result (λ count. spec.IsMark line.now) }
     ensures none { IfNone result ((count : ℕ) → spec.IsMarkOf line.now count → ⊥) }
 {
     let Some((first, text)) = line.split_first() else {

@@ -9,7 +9,7 @@ ghost use Rattle.mysql_recorder.specs.Entries.{entry_as};
 ghost use Rattle.mysql_conversation.specs.declared.kind_name.KindName as names_of;
 ghost use Rattle.mysql_conversation.specs.declared.pipeline.Refusal as refusals;
 ghost use Rattle.mysql_recorder.specs.Refused.{ShowsRefused, expected_fields, refusal_text};
-ghost use Rattle.mysql_recorder.specs.Refusals.{AppendsRefused, Expects, IfRefused, Refuses};
+ghost use Rattle.mysql_recorder.specs.Refusals.{AppendsRefused, Expects, IfLine, IfRefused, Refuses};
 ghost use Rattle.mysql_recorder.specs.Shown.{Appends};
 ghost use Rattle.mysql_recorder.specs.Steps.{remark_exchange, remark_text};
 ghost use Rattle.mysql_recorder.specs.Sums.{AppendsSomeSums};
@@ -191,8 +191,8 @@ impl Packets {
         field: Field<'_>,
         out: &mut String,
     ) -> Result<(), AllocError>
-        ensures text { OnOk result (have_float (field ∷ []) ≡ false → string_bytes out.new
-            ≡ string_bytes out.old ++ remark_text self.now.layout side (remark_exchange kind.now side self.now.followed.last) kind.now (field ∷ [])) }
+        ensures text { OnOk result (have_float (field.entry ∷ []) ≡ false → string_bytes out.new
+            ≡ string_bytes out.old ++ remark_text self.now.layout side (remark_exchange kind.now side self.now.followed.last) kind.now (field.entry ∷ [])) }
         ensures stays { OnOk result (Stays (string_bytes out.old) (string_bytes out.new)) }
     {
         let remark = Remark {
@@ -230,6 +230,7 @@ impl Packets {
         ensures may_wait { may_wait self.new.followed ≡ may_wait self.old.followed }
         ensures deciphered { self.new.followed.is_deciphered ≡ self.old.followed.is_deciphered }
         ensures sums { is_some self.new.sums ≡ is_some self.old.sums }
+        ensures no_line { IfErr result (λ e. IfLine e ⊥) }
     {
         let is_between = self.followed.is_at_rest();
         match self.followed.next(side, payload) {
@@ -259,6 +260,7 @@ impl Packets {
     ) -> Result<Taken, RecordingError>
         ensures ok { IfOk result (λ taken. (taken ≢ taken_as.Shown) × Refuses KindName.ALL self.now.layout self.now.followed side sequence payload.now why (string_bytes out.old) (string_bytes out.new)) }
         ensures err { IfErr result (λ e. IfRefused e (λ shown. (shown ≡ why) × Refuses KindName.ALL self.now.layout self.now.followed side sequence payload.now why (string_bytes out.old) (string_bytes out.new))) }
+        ensures no_line { IfErr result (λ e. IfLine e ⊥) }
     {
         let packet = Packet {
             side,

@@ -5,7 +5,7 @@ ghost use Rattle.mysql_fields.specs.Entries.{Stays};
 ghost use Rattle.mysql_recorder.specs.Followed.{IsTakenUp, IsTakenUpAfter};
 ghost use Rattle.mysql_recorder.specs.Frames.{Piece};
 ghost use Rattle.mysql_recorder.specs.Losses.{PieceLoses, PieceLosesIn};
-ghost use Rattle.mysql_recorder.specs.Refusals.{IfRefused};
+ghost use Rattle.mysql_recorder.specs.Refusals.{IfLine, IfRefused};
 ghost use Rattle.mysql_recorder.specs.Shown.{Item};
 ghost use Rattle.mysql_recorder.specs.Sides as spec;
 ghost use Rattle.mysql_recorder.specs.Steps as steps;
@@ -146,6 +146,7 @@ impl Sides {
         ensures settings { spec.KeepsSettings self.old self.new }
         ensures loses { PieceLoses result KindName.ALL side piece.now self.old self.new (string_bytes out.old) (string_bytes out.new) }
         ensures text { OnOk result (Stays (string_bytes out.old) (string_bytes out.new)) }
+        ensures no_line { IfErr result (λ e. IfLine e ⊥) }
     {
         if is_beginning && self.passed(side).is_some() {
             self.begin_line(side, piece, out)
@@ -165,6 +166,7 @@ impl Sides {
         ensures lost { spec.has_lost self.old ≡ true → spec.has_lost self.new ≡ true }
         ensures settings { spec.KeepsSettings self.old self.new }
         ensures text { OnOk result (Stays (string_bytes out.old) (string_bytes out.new)) }
+        ensures no_line { IfErr result (λ e. IfLine e ⊥) }
     {
         self.take_up(side, piece, out)?;
         self.take_piece(side, piece, out)
@@ -178,6 +180,7 @@ impl Sides {
         ensures lost { spec.has_lost self.old ≡ true → spec.has_lost self.new ≡ true }
         ensures settings { spec.KeepsSettings self.old self.new }
         ensures text { OnOk result (Stays (string_bytes out.old) (string_bytes out.new)) }
+        ensures no_line { IfErr result (λ e. IfLine e ⊥) }
     {
         let Some(passed) = self.passed(side) else {
             return Ok(());
@@ -276,6 +279,7 @@ impl Sides {
         ensures refused { IfErr result (λ e. IfRefused e (λ why. ⊥)) }
         ensures settings { spec.KeepsSettings self.old self.new }
         ensures text { OnOk result (Stays (string_bytes out.old) (string_bytes out.new)) }
+        ensures no_line { IfErr result (λ e. IfLine e ⊥) }
     {
         let Some(agreed) = self.packets.agreed() else {
             return Err(RecordingError::from(loss));
@@ -300,6 +304,7 @@ impl Sides {
         ensures taken_up { (front : List ℕ) × IsTakenUpAfter self.new.packets.followed agreed front (self.old.packets.followed.last - 1) }
         ensures refused { IfErr result (λ e. IfRefused e (λ why. ⊥)) }
         ensures settings { spec.KeepsSettings self.old self.new }
+        ensures no_line { IfErr result (λ e. IfLine e ⊥) }
     {
         self.has_lost = true;
         self.server.lose();
@@ -313,6 +318,7 @@ impl Sides {
         ensures taken_up { IsTakenUp self.new.packets.followed agreed [] self.old.packets.followed.last }
         ensures refused { IfErr result (λ e. IfRefused e (λ why. ⊥)) }
         ensures settings { spec.KeepsSettings self.old self.new }
+        ensures no_line { IfErr result (λ e. IfLine e ⊥) }
     {
         self.has_lost = true;
         self.client.lose();
@@ -334,6 +340,7 @@ impl Sides {
         ensures settings { spec.KeepsSettings self.old self.new }
         ensures loses { PieceLoses result KindName.ALL side piece.now self.old self.new (string_bytes out.old) (string_bytes out.new) }
         ensures text { OnOk result (Stays (string_bytes out.old) (string_bytes out.new)) }
+        ensures no_line { IfErr result (λ e. IfLine e ⊥) }
     {
         if self.passed(side).is_some() {
             self.pass_over(side, piece.len());
@@ -360,6 +367,7 @@ impl Sides {
         ensures settings { spec.KeepsSettings self.old self.new }
         ensures refused { IfErr result (λ e. IfRefused e (λ why. ⊥)) }
         ensures text { OnOk result (Stays (string_bytes out.old) (string_bytes out.new)) }
+        ensures no_line { IfErr result (λ e. IfLine e ⊥) }
     {
         self.await_answer(side, first);
         match came {
@@ -391,6 +399,7 @@ impl Sides {
         ensures settings { spec.KeepsSettings self.old self.new }
         ensures loses { IfOk result (λ came. came ≢ came_as.Whole → PieceLosesIn KindName.ALL side piece.now self.old (string_bytes out.old) (string_bytes out.new)) }
         ensures stays { IfOk result (λ came. Stays (string_bytes out.old) (string_bytes out.new)) }
+        ensures no_line { IfErr result (λ e. IfLine e ⊥) }
     {
         match side {
             Side::Client => {

@@ -11,6 +11,11 @@ returns-then-eq-clause-some c =
     let end : c.number_of-number.result.1.now ≡ mark_end = (slice_eq-Decides Decides-eqb _ _ _ c.eq.ensures).0 c.if-eq.true in
     is_mark c.args.line.now c.in-Some.first.now c.in-Some.text.now c.number_of-number.result.1.now c.number_of-number.result.0 c.in-Some.ensures.cases.0 c.if-first-eq-BEFORE.true c.number_of-number.ensures c.if-rest-text.true end
 
+pub returns-then-eq-clause-mark : goal.returns-then-eq-clause-mark
+returns-then-eq-clause-mark c =
+    let end : c.number_of-number.result.1.now ≡ mark_end = (slice_eq-Decides Decides-eqb _ _ _ c.eq.ensures).0 c.if-eq.true in
+    (c.number_of-number.result.0, is_mark c.args.line.now c.in-Some.first.now c.in-Some.text.now c.number_of-number.result.1.now c.number_of-number.result.0 c.in-Some.ensures.cases.0 c.if-first-eq-BEFORE.true c.number_of-number.ensures c.if-rest-text.true end)
+
 pub returns-else-first-eq-BEFORE-clause-none : goal.returns-else-first-eq-BEFORE-clause-none
 returns-else-first-eq-BEFORE-clause-none c =
     no_mark c.args.line.now c.in-Some.first.now c.in-Some.text.now c.number_of-number.result.1.now c.number_of-number.result.0 c.in-Some.ensures.cases.0 c.number_of-number.ensures

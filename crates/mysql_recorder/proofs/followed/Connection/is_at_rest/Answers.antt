@@ -13,4 +13,4 @@ pub returns-in-TakenUp-clause-whole : goal.returns-in-TakenUp-clause-whole
 returns-in-TakenUp-clause-whole c = λ items h. absurd (not_whole c.args.self.now c.in-TakenUp.pipeline c.in-TakenUp.field-1 items c.in-TakenUp.is h)
 
 pub returns-in-TakenUp-clause-rests : goal.returns-in-TakenUp-clause-rests
-returns-in-TakenUp-clause-rests c = λ yes. subst IsAtRest (sym c.in-TakenUp.is) (λ items h. (c.is_at_rest.ensures items h).0 yes)
+returns-in-TakenUp-clause-rests c = λ yes. subst IsAtRest (sym c.in-TakenUp.is) (λ items h. (c.is_at_rest-in-TakenUp.ensures items h).0 yes)

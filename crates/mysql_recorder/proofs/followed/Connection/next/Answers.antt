@@ -11,4 +11,4 @@ returns-in-Whole-clause-reason c =
 
 pub returns-in-TakenUp-clause-reason : goal.returns-in-TakenUp-clause-reason
 returns-in-TakenUp-clause-reason c =
-    pipe_reason c.next.result c.args.self.now c.in-TakenUp.pipeline c.in-TakenUp.field-1 c.args.side c.args.payload.now c.in-TakenUp.is c.next.ensures.refused c.next.ensures.full c.next.ensures.memory c.next.ensures.ours
+    pipe_reason c.next-in-TakenUp.result c.args.self.now c.in-TakenUp.pipeline c.in-TakenUp.field-1 c.args.side c.args.payload.now c.in-TakenUp.is c.next-in-TakenUp.ensures.refused c.next-in-TakenUp.ensures.full c.next-in-TakenUp.ensures.memory c.next-in-TakenUp.ensures.ours
