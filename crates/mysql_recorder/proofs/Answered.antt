@@ -6,7 +6,9 @@ use Rattle.mysql_conversation.specs.declared.kind.Side.{Side}
 use Rattle.mysql_conversation.specs.declared.kind_name.KindName.{KindName}
 use Rattle.mysql_conversation.specs.declared.pipeline.Refusal.{Refusal}
 use Rattle.mysql_fields.specs.Entries.{Stays}
+use Rattle.mysql_fields.specs.Fields.{Said}
 use Rattle.mysql_fields.specs.declared.entry.Layout.{Layout}
+use Rattle.mysql_fields.specs.declared.entry.Layout.TheVariants as layouts
 use Rattle.mysql_recorder.specs.Answers.{BeginsMade, Ends, EndsWith, error_line, error_name, FailsIn, GoesNoFurther, HasLost, IsAnswer, IsDone, IsErrorWritten, IsLineEnd, IsMade, IsRefused, lost_status, LostIn, RefusedIn, SaysError, SaysName, Takes}
 use Rattle.mysql_recorder.specs.Losses.{IsAtFeed, IsLost, Loses, LosesIn}
 use Rattle.mysql_output.specs.Output.{Answer, IsWritten}
@@ -15,7 +17,7 @@ use Rattle.mysql_recorder.specs.Recorded.{Recorded}
 use Rattle.mysql_recorder.specs.Refusals.{IfRefused}
 use Rattle.mysql_recorder.specs.Refused.{ShowsRefused}
 use Rattle.mysql_recorder.specs.Shown as shown
-use Rattle.mysql_recorder.specs.Shown.{Entry, entry_of, Item, Writes}
+use Rattle.mysql_recorder.specs.Shown.{AppendsEntry, Entry, entry_line, entry_of, Item, Writes}
 use Rattle.mysql_recorder.specs.Stops.{StopsAfter, StopsIn}
 use Rattle.mysql_recorder.specs.declared.error.RecordingError.{RecordingError}
 use Rattle.mysql_recorder.specs.declared.error.RecordingError.TheVariants as error
@@ -34,8 +36,12 @@ is_after w a b more e = ap (λ (l : List ℕ). w ++ l) e ∙ sym (append_assoc w
 stays_after : (w a b : List ℕ) → Stays a b → Stays (w ++ a) (w ++ b)
 stays_after w a b h = (h.0, is_after w a b h.0 h.1)
 
+entry_after : (w : List ℕ) (layout : Layout) (e : Entry) (fields : List Said) (a b : List ℕ) → AppendsEntry layout e fields a b → AppendsEntry layout e fields (w ++ a) (w ++ b)
+entry_after w layouts.Lines e fields a b h = (h.0, h.1, is_after w (a ++ entry_line e) b h.0 h.2 ∙ ap (λ (l : List ℕ). l ++ h.0) (sym (append_assoc w a (entry_line e))))
+entry_after w layouts.Json e fields a b h = (h.0, h.1, is_after w a b _ h.2)
+
 appends_after : (w : List ℕ) (layout : Layout) (e : Entry) (a b : List ℕ) → shown.Appends layout e a b → shown.Appends layout e (w ++ a) (w ++ b)
-appends_after w layout e a b h = (h.0, λ none. is_after w a b _ (h.1 none), (h.2.0, is_after w a b _ h.2.1))
+appends_after w layout e a b h = (h.0, λ none. is_after w a b _ (h.1 none), entry_after w layout e h.0 a b h.2)
 
 writes_after : (w : List ℕ) (layout : Layout) (xs : List Item) (a b : List ℕ) → Writes layout xs a b → Writes layout xs (w ++ a) (w ++ b)
 writes_after w layout [] a b h = ap (λ (l : List ℕ). w ++ l) h
@@ -43,7 +49,7 @@ writes_after w layout (x ∷ xs) a b h = (w ++ h.0, appends_after w layout (entr
 
 refused_after : (w : List ℕ) (all : List KindName) (layout : Layout) (side : Side) (sequence : ℕ) (payload : List ℕ) (items : List Numbered) (why : Refusal) (a b : List ℕ)
     → ShowsRefused all layout side sequence payload items why a b → ShowsRefused all layout side sequence payload items why (w ++ a) (w ++ b)
-refused_after w all layout side sequence payload items why a b h = (h.0, h.1, h.2, is_after w a b _ h.3, h.4)
+refused_after w all layout side sequence payload items why a b h = (h.0, h.1, h.2, is_after w a b _ h.3, h.4, h.5, h.6)
 
 stops_in_after : (w : List ℕ) (all : List KindName) (layout : Layout) (side : Side) (bytes : List ℕ) (items : List Item) (why : Refusal) (a b : List ℕ)
     → StopsIn all layout side bytes items why a b → StopsIn all layout side bytes items why (w ++ a) (w ++ b)

@@ -4,7 +4,10 @@ use Rattle.std.proofs.KnownBytes.{Appends-nil, Appends-trans, Consumes-kept, Con
 use Rattle.std.specs.Io.KnownBytes.{Appends, Consumes, IsAtEnd, Keeps}
 use Rattle.mysql_conversation.specs.declared.kind_name.KindName.{KindName}
 use Rattle.mysql_fields.specs.declared.entry.Layout.{Layout}
-use Rattle.mysql_recorder.specs.Answers.{error_line, error_name, InputEnds, IsAnswer, IsAnswered, memory_line, PieceEnds, PieceGoesOn, SaysError, SaysName}
+use Rattle.mysql_recorder.specs.Answers.{error_line, error_name, InputEnds, IsAnswer, IsAnswered, IsCallAnswered, IsRun, memory_line, PieceEnds, PieceGoesOn, SaysError, SaysName, usage}
+use Rattle.mysql_recorder.specs.Calls.{call_of}
+use Rattle.mysql_output.specs.Output.{IsWritten}
+use Rattle.mysql_recorder.specs.declared.program.Call.{Call}
 use Rattle.mysql_recorder.specs.Recorded as recorded
 use Rattle.mysql_recorder.specs.Recorded.{Recorded}
 use Rattle.mysql_recorder.specs.declared.error.RecordingError.{RecordingError}
@@ -105,3 +108,11 @@ answered_from all layout limit was sums from to before after old new status e f 
   answers = λ t. subst (λ n. IsAnswer all layout n sums (IsAtEnd after) h.input h.answer) e (h.answers (f t));
   written = h.written;
 }
+
+-- a bad call
+pub bad_call : (all : List KindName) (words : List (List ℕ)) (before old new : Option (List ℕ)) (status : ℕ) → None ≡ call_of words → IsWritten usage old new status → IsRun all words before before old new status
+bad_call all words before old new status asked written = subst (λ call. IsCallAnswered all call before before old new status) asked (refl, written)
+
+pub good_call : (all : List KindName) (words : List (List ℕ)) (call : Call) (before after old new : Option (List ℕ)) (status : ℕ) → Some call ≡ call_of words
+    → IsAnswered all call.layout call.longest call.sums (call.agreed ≡ None) before after old new status → IsRun all words before after old new status
+good_call all words call before after old new status asked answered = subst (λ c. IsCallAnswered all c before after old new status) asked answered

@@ -1,8 +1,12 @@
 -- One more byte of a line.
-use Rattle.std.proofs.Common.{◌≡◌, inl, inr, ℕ, ◌+◌, ◌*◌, ◌≤◌, List, [], ◌∷◌, ◌++◌, refl, sym, ap, ◌∙◌, subst, append_assoc, append-nil, ◌%◌, Option, Some, None, IfSome, arith}
+use Rattle.std.proofs.Common.{zero, suc, length, take, get_or, ◌<◌, Result, Ok, Err, OnOk, ◌≡◌, inl, inr, ℕ, ◌+◌, ◌*◌, ◌≤◌, List, [], ◌∷◌, ◌++◌, refl, sym, ap, ◌∙◌, subst, append_assoc, append-nil, ◌%◌, Option, Some, None, IfSome, arith}
 use Rattle.mysql_conversation.specs.declared.kind.Side.{Side}
 use Rattle.mysql_conversation.specs.declared.kind.Side.TheVariants.{Client}
-use Rattle.mysql_recorder.specs.Lines.{Heard, heard, IsLowerDigit, IsDigit, IsSpace, Spells, nothing, space, byte, IsSign, SaysBytes, IsHalf, Stands, Passes}
+use Rattle.mysql_recorder.specs.Lines.{Heard, heard, IsLowerDigit, IsDigit, IsSpace, Spells, nothing, space, byte, IsSign, SaysBytes, IsHalf, Stands, Passes, next_place, place_from}
+use Rattle.mysql_recorder.specs.Refusals.{IfLine}
+use Rattle.mysql_recorder.specs.declared.error.RecordingError.{RecordingError}
+use Rattle.mysql_recorder.specs.declared.error.RecordingError.TheVariants as error
+use Rattle.mysql_recorder.specs.declared.line.Place.{Place}
 use Rattle.mysql_recorder.specs.declared.line.Place.TheVariants as place
 
 pub heard-append : (side : Side) (a b : List ℕ) → heard side (a ++ b) ≡ heard side a ++ heard side b
@@ -69,3 +73,34 @@ stands_value side line before high d low h q small =
     let high_small : high ≤ 15 = half_small side line before high h in
     let value : (high * 16 % 256 + low) % 256 ≡ 16 * high + low = omega arith in
     subst (λ v. Stands (place.Between side) (line ++ d ∷ []) (before ++ record { from = side; byte = v } ∷ [])) (sym value) (stands_byte side line before high d low h q)
+
+-- ---- places
+
+-- one more byte of an input
+pub place_more : (o : Option Place) (input : List ℕ) (i : ℕ) (mid new : Place) → i < length input → place_from o (take i input) ≡ Some mid → next_place mid (get_or input i 0) ≡ Some new
+    → place_from o (take (i + 1) input) ≡ Some new
+place_more None input i mid new less h e = absurd (let no : None ≡ Some mid = h in cc)
+place_more (Some at) [] i mid new less h e = absurd (omega (arith, less))
+place_more (Some at) (c ∷ input) zero mid new less h e = let same : at ≡ mid = cc h in ap (λ p. place_from p []) (subst (λ p. next_place p c ≡ Some new) (sym same) e)
+place_more (Some at) (c ∷ input) (suc i) mid new less h e =
+    let next : suc (i + 1) ≡ suc i + 1 = omega arith in
+    subst (λ n. place_from (Some at) (take n (c ∷ input)) ≡ Some new) next (place_more (next_place at c) input i mid new (omega (arith, less)) h e)
+
+-- a byte stands in no line there
+pub place_stops : (o : Option Place) (input : List ℕ) (i : ℕ) (mid : Place) → i < length input → place_from o (take i input) ≡ Some mid → next_place mid (get_or input i 0) ≡ None → place_from o input ≡ None
+place_stops None input i mid less h e = refl
+place_stops (Some at) [] i mid less h e = absurd (omega (arith, less))
+place_stops (Some at) (c ∷ input) zero mid less h e = let same : at ≡ mid = cc h in ap (λ p. place_from p input) (subst (λ p. next_place p c ≡ None) (sym same) e)
+place_stops (Some at) (c ∷ input) (suc i) mid less h e = place_stops (next_place at c) input i mid (omega (arith, less)) h e
+
+pub if_line : (e : RecordingError) (P Q : Type 0) → (P → Q) → IfLine e P → IfLine e Q
+if_line error.Line P Q f h = f h
+if_line (error.Refused why) P Q f h = tt
+if_line error.Memory P Q f h = tt
+if_line error.OutOfOrder P Q f h = tt
+if_line error.TooLong P Q f h = tt
+if_line error.Missing P Q f h = tt
+
+pub on_ok_of : {E : Type 0} (r : Result (Unit {0}) E) (P : Type 0) → P → OnOk r P
+on_ok_of (Ok u) P h = h
+on_ok_of (Err e) P h = tt

@@ -11,6 +11,8 @@ use Rattle.mysql_conversation.specs.declared.pipeline.Refusal.TheVariants as ref
 use Rattle.mysql_fields.specs.Entries.{Stays}
 use Rattle.mysql_fields.specs.declared.entry.Layout.{Layout}
 use Rattle.mysql_recorder.specs.Followed.{IsFollowed}
+use Rattle.mysql_recorder.specs.Reasons.{IsReasonOf}
+use Rattle.mysql_recorder.proofs.Reasons.{refused_for}
 use Rattle.mysql_recorder.specs.Refused.{ShowsRefused, refused_entry, refused_fields}
 use Rattle.mysql_recorder.specs.Refusals.{Refuses, IfRefused}
 use Rattle.mysql_recorder.specs.Shown.{entry_text}
@@ -22,9 +24,13 @@ use Rattle.mysql_recorder.specs.declared.packets.Taken.TheVariants as taken_as
 
 module _ (all : List KindName) (layout : Layout) (old new : Followed) (side : Side) (sequence : ℕ) (payload : List ℕ) (why : Refusal) (before after : List ℕ)
     (stays : (items : List Numbered) → IsFollowed old items → IsFollowed new items)
-    (unasked : (items : List Numbered) (kind : Kind) (number : ℕ) → why ≡ refusal.Unexpected → IsFollowed old items → IsSessionBeginning (items ++ place side payload kind number ∷ []) → ⊥) where
+    (unasked : (items : List Numbered) (kind : Kind) (number : ℕ) → why ≡ refusal.Unexpected → IsFollowed old items → IsSessionBeginning (items ++ place side payload kind number ∷ []) → ⊥)
+    (reason : IsReasonOf old.connection side payload why) where
   shows : (items : List Numbered) → IsFollowed old items → Refuses all layout new side sequence payload why before after → ShowsRefused all layout side sequence payload items why before after
-  shows items h r = (r.0, r.1.0, r.1.1 items (stays items h), r.1.2, λ e kind number. unasked items kind number e h)
+  shows items h r =
+      let f = stays items h in
+      let for = refused_for old.connection items side payload why h.0 reason in
+      (new.last, r.0, r.1 items f, r.2, λ e kind number. unasked items kind number e h, f.2, for)
 
   pub refused_ok : (r : Result Taken RecordingError)
       → IfOk r (λ taken. (taken ≢ taken_as.Shown) × Refuses all layout new side sequence payload why before after)
@@ -47,5 +53,5 @@ module _ (all : List KindName) (layout : Layout) (old new : Followed) (side : Si
 pub refused_stays : {E : Type 0} (r : Result Taken E) (all : List KindName) (layout : Layout) (f : Followed) (side : Side) (sequence : ℕ) (payload : List ℕ) (why : Refusal) (before after : List ℕ)
     → IfOk r (λ taken. (taken ≢ taken_as.Shown) × Refuses all layout f side sequence payload why before after) → IfOk r (λ taken. Stays before after)
 refused_stays (Ok taken) all layout f side sequence payload why before after h =
-    (entry_text layout (refused_entry side sequence h.1.0 payload) (refused_fields payload why h.1.1.0), h.1.1.2)
+    (entry_text layout (refused_entry side sequence f.last payload) (refused_fields payload why h.1.0), h.1.2)
 refused_stays (Err e) all layout f side sequence payload why before after h = tt

@@ -3,7 +3,7 @@ use Rattle.std.proofs.Common.{◌≡◌, inl, inr, ◌↔◌, IsTrue, ℕ, Bool,
 use Rattle.mysql_conversation.specs.Pipelined.{Numbered}
 use Rattle.mysql_conversation.specs.declared.kind_name.KindName.{KindName}
 use Rattle.mysql_conversation.specs.declared.pipeline.Refusal.{Refusal}
-use Rattle.mysql_fields.specs.Entries.{Begins, packet_front, packet_text}
+use Rattle.mysql_fields.specs.Entries.{AppendsPacket, packet_text}
 use Rattle.mysql_fields.specs.Fields.{Said, said, Bytes, Word, have_float}
 use Rattle.mysql_fields.specs.declared.entry.Layout.{Layout}
 use Rattle.mysql_fields.specs.declared.entry.Layout.TheVariants as layouts
@@ -11,7 +11,7 @@ use Rattle.mysql_fields.specs.declared.entry.Packet.{Packet}
 use Rattle.mysql_recorder.specs.Entries.{entry_as}
 use Rattle.mysql_recorder.specs.Refused.{expected_fields, refused_fields, refusal_text, MayCome, AreExpected}
 use Rattle.mysql_recorder.specs.Refusals.{AppendsRefused, Expects}
-use Rattle.mysql_recorder.specs.Shown.{Appends, entry_front, entry_text}
+use Rattle.mysql_recorder.specs.Shown.{Appends, entry_text}
 use Rattle.mysql_recorder.specs.declared.followed.Followed.{Followed}
 
 pub expected-append : (a b : List KindName) → expected_fields (a ++ b) ≡ expected_fields a ++ expected_fields b
@@ -57,16 +57,12 @@ entry_is : (layout : Layout) (p : Packet) (fields : List Said) → packet_text l
 entry_is layouts.Lines p fields = refl
 entry_is layouts.Json p fields = refl
 
-front_is : (layout : Layout) (p : Packet) → packet_front layout p ≡ entry_front layout (entry_as p)
-front_is layouts.Lines p = refl
-front_is layouts.Json p = refl
-
 -- an entry with these fields
 pub appends : {E : Type 0} (r : Result (Unit {0}) E) (layout : Layout) (p : Packet) (fields : List Said) (before after : List ℕ)
-    → OnOk r (have_float fields ≡ false → after ≡ before ++ packet_text layout p fields) → OnOk r (Begins (packet_front layout p) before after) → OnOk r (Appends layout (entry_as p) before after)
-appends (Ok u) layout p fields before after ok begins =
-    (fields, λ none. ok none ∙ ap (λ t. before ++ t) (entry_is layout p fields), (begins.0, begins.1 ∙ ap (λ t. before ++ (t ++ begins.0)) (front_is layout p)))
-appends (Err e) layout p fields before after ok begins = tt
+    → OnOk r (have_float fields ≡ false → after ≡ before ++ packet_text layout p fields) → OnOk r (AppendsPacket layout p fields before after) → OnOk r (Appends layout (entry_as p) before after)
+appends (Ok u) layouts.Lines p fields before after ok shown = (fields, ok, shown)
+appends (Ok u) layouts.Json p fields before after ok shown = (fields, ok, shown)
+appends (Err e) layout p fields before after ok shown = tt
 
 pub appends_refused : {E : Type 0} (r : Result (Unit {0}) E) (all : List KindName) (layout : Layout) (f : Followed) (p : Packet) (why : Refusal) (before after : List ℕ) (fields : List Said) (names : List KindName)
     → fields ≡ refused_fields p.payload.now why names → Expects f all names

@@ -1,8 +1,9 @@
 -- What stands in an output stays there.
-use Rattle.std.proofs.Common.{ℕ, List, [], ◌++◌, Result, Ok, Err, OnOk, sym, ap, ◌∙◌, append_assoc, append-nil}
+use Rattle.std.proofs.Common.{ℕ, List, [], ◌++◌, Result, Ok, Err, OnOk, sym, ap, ◌∙◌, append_assoc, append-nil, codes}
 use Rattle.mysql_fields.specs.Entries.{Begins, Stays}
 use Rattle.mysql_fields.specs.declared.entry.Layout.{Layout}
-use Rattle.mysql_recorder.specs.Shown.{Appends, Entry, entry_front}
+use Rattle.mysql_fields.specs.declared.entry.Layout.TheVariants as layouts
+use Rattle.mysql_recorder.specs.Shown.{Appends, Entry, entry_line}
 
 pub stays_same : (a : List ℕ) → Stays a a
 stays_same a = ([], sym (append-nil a))
@@ -19,4 +20,5 @@ front_stays (Ok u) front a b h = (front ++ h.0, h.1)
 front_stays (Err e) front a b h = tt
 
 pub appended_stays : (layout : Layout) (entry : Entry) (a b : List ℕ) → Appends layout entry a b → Stays a b
-appended_stays layout entry a b h = (entry_front layout entry ++ h.2.0, h.2.1)
+appended_stays layouts.Lines entry a b h = (entry_line entry ++ h.2.0, h.2.2 ∙ append_assoc a (entry_line entry) h.2.0)
+appended_stays layouts.Json entry a b h = (h.2.0 ++ codes "\n", h.2.2)

@@ -1,5 +1,5 @@
 -- A connection from its greeting on, or one that is taken up.
-use Rattle.std.proofs.Common.{◌≡◌, ◌↔◌, ◌⊎◌, inl, inr, IsTrue, ℕ, Bool, true, false, List, [], ◌∷◌, ◌++◌, None, Result, Ok, Err, IfErr, IfOk, OnErr, sym, subst, ◌∙◌}
+use Rattle.std.proofs.Common.{arith, max, ◌≡◌, ◌↔◌, ◌⊎◌, inl, inr, IsTrue, ℕ, Bool, true, false, List, [], ◌∷◌, ◌++◌, None, Result, Ok, Err, IfErr, IfOk, OnErr, sym, subst, ◌∙◌}
 use Rattle.mysql_conversation.specs.Agreements.{Agreed}
 use Rattle.mysql_conversation.specs.Piped as pipe
 use Rattle.mysql_conversation.specs.Piped.{PipeTaken, place, stands}
@@ -16,10 +16,10 @@ use Rattle.mysql_conversation.specs.declared.pipeline.Pipeline.{Pipeline}
 use Rattle.mysql_conversation.specs.declared.session.Session.{Session}
 use Rattle.mysql_conversation.proofs.SessionEnds.{taken_is_beginning}
 use Rattle.mysql_recorder.specs.Followed as follows
-use Rattle.mysql_recorder.specs.Followed.{IsFollowed, IsTakenUpAfter}
+use Rattle.mysql_recorder.specs.Followed.{highest_exchange, IsAtRest, IsFollowed, IsTakenUpAfter}
 use Rattle.mysql_recorder.specs.Frames.{Piece}
 use Rattle.mysql_recorder.specs.Shown.{Item, placed}
-use Rattle.mysql_recorder.specs.Sides.{InStep, IsWhole, Stand}
+use Rattle.mysql_recorder.specs.Sides.{HasEnded, InStep, IsWhole, Stand}
 use Rattle.mysql_recorder.specs.declared.followed.Connection.{Connection}
 use Rattle.mysql_recorder.specs.declared.followed.Connection.TheVariants as connection
 use Rattle.mysql_recorder.specs.declared.followed.Followed.{Followed}
@@ -45,6 +45,14 @@ pub whole_refused : {T : Type 0} (r : Result T Refusal) (c : Connection) (s : Se
 whole_refused (Ok x) c s side payload e g = tt
 whole_refused (Err why) c s side payload e g = λ items kind number u h b. g items kind number u (of_session c s items e h) b
 
+highest_more : (items : List Numbered) (x : Numbered) → highest_exchange (items ++ x ∷ []) ≡ max (highest_exchange items) x.number
+highest_more [] x = omega arith
+highest_more (y ∷ items) x = let h = highest_more items x in omega (arith, h)
+
+-- the highest number of what came, with one more
+pub highest_now : (items : List Numbered) (x : Numbered) (was now : ℕ) → was ≡ highest_exchange items → now ≡ max was x.number → now ≡ highest_exchange (items ++ x ∷ [])
+highest_now items x was now h e = let more = highest_more items x in omega (arith, h, e, more)
+
 -- one of two
 pub first_comes : {P Q : Type 0} (b : Bool) → (IsTrue b ↔ P) → b ≡ true → IsTrue b ↔ (P ⊎ Q)
 first_comes b p e = (λ t. inl (p.0 t), λ t. e)
@@ -69,6 +77,11 @@ whole_where s pieces items client server rests h c d e is so =
     let of_server = none_held s.server s.longest server h.server d in
     let of_all = e (placed items) h.followed in
     (λ t. (of_client.0 is, of_server.0 so, of_all.0 t), λ w. of_all.1 w.2)
+
+pub ended_where : (s : Sides) (client server : Bool)
+    → (IsTrue client ↔ ((s.client.passed ≡ None) × (s.client.reader.held ≡ []))) → (IsTrue server ↔ ((s.server.passed ≡ None) × (s.server.reader.held ≡ [])))
+    → IsAtRest s.packets.followed.connection → client ≡ true → server ≡ true → HasEnded s
+ended_where s client server c d rests is so = record { client = c.0 is; server = d.0 so; rests = rests }
 
 -- ---- a connection that is taken up
 

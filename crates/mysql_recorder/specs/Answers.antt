@@ -6,6 +6,7 @@ use Rattle.mysql_conversation.specs.declared.pipeline.Refusal.{Refusal}
 use Rattle.mysql_fields.specs.Entries.{Stays}
 use Rattle.mysql_fields.specs.declared.entry.Layout.{Layout}
 use Rattle.mysql_fields.specs.declared.entry.Layout.TheVariants as layout
+use Rattle.mysql_recorder.specs.Calls.{call_of}
 use Rattle.mysql_recorder.specs.Lines.{Heard}
 use Rattle.mysql_recorder.specs.Losses.{IsAtFeed, IsLost, Loses, TextLoses}
 use Rattle.mysql_output.specs.Output.{Answer, IsFront, IsWritten}
@@ -13,6 +14,7 @@ use Rattle.mysql_recorder.specs.Recorded.{Finishes, GoesOn, IsShown, Recorded}
 use Rattle.mysql_recorder.specs.Recorded as recorded
 use Rattle.mysql_recorder.specs.Refusals.{IfRefused}
 use Rattle.mysql_recorder.specs.Shown.{Item, Writes}
+use Rattle.mysql_recorder.specs.Sums.{AppendsSomeSums}
 use Rattle.mysql_recorder.specs.Stops.{Stops, StopsAfter, TextStops}
 use Rattle.mysql_recorder.specs.declared.error.RecordingError.{RecordingError}
 use Rattle.mysql_recorder.specs.declared.error.RecordingError.TheVariants as error
@@ -140,11 +142,9 @@ abbrev pub IsCallAnswered : List KindName → Option Call → Option (List ℕ) 
 IsCallAnswered all None before after old new status = (after ≡ before) × IsWritten usage old new status
 IsCallAnswered all (Some call) before after old new status = IsAnswered all call.layout call.longest call.sums (call.agreed ≡ None) before after old new status
 
--- So many words ask for something, or are a bad call; which of them is not said, but that more than five are.
-pub record IsRun (all : List KindName) (words : ℕ) (before after old new : Option (List ℕ)) (status : ℕ) : Type 0 where
-  pub asked : Option Call
-  pub at_most : OnSome asked (words ≤ 6)
-  pub answered : IsCallAnswered all asked before after old new status
+-- what the words ask for
+abbrev pub IsRun : List KindName → (words : List (List ℕ)) → (before after old new : Option (List ℕ)) → ℕ → Type 0
+IsRun all words before after old new status = IsCallAnswered all (call_of words) before after old new status
 
 -- ---- its steps
 
@@ -163,6 +163,12 @@ pub record Ends (r : Result (Unit {0}) RecordingError) (all : List KindName) (ol
   pub refused : IfErr r (λ e. TextStops all old e [] text)
   pub loses : TextLoses r all (Unit {0}) old new [] text
   pub lost : recorded.has_lost old ≡ true → recorded.has_lost new ≡ true
+
+-- the sums are written, and the status; or there is no memory for them
+abbrev pub SumsWritten : Layout → ℕ → (old new : Option (List ℕ)) → ℕ → Type 0
+SumsWritten layout status old new written =
+    ((sums : List ℕ) × AppendsSomeSums layout [] sums × IsWritten (record { text = sums; status = status }) old new written)
+    ⊎ IsWritten (record { text = memory_line; status = 1 }) old new written
 
 -- a text with the line for an error after it, as an answer that is written
 abbrev pub IsErrorWritten : Layout → (sums : Bool) → RecordingError → List ℕ → Option (List ℕ) → Option (List ℕ) → ℕ → Type 0

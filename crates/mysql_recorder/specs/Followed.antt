@@ -1,11 +1,11 @@
 -- What is followed of a connection.
-use Rattle.std.specs.Prelude.{◌≡◌, ◌⊎◌, ℕ, List, [], ◌∷◌}
+use Rattle.std.specs.Prelude.{◌≡◌, ◌⊎◌, ℕ, max, List, [], ◌∷◌}
 use Rattle.mysql_conversation.specs.Agreements.{Agreed}
 use Rattle.mysql_conversation.specs.Piped as pipe
 use Rattle.mysql_conversation.specs.Piped.{PipeTaken, place}
-use Rattle.mysql_conversation.specs.Pipelined.{Numbered}
+use Rattle.mysql_conversation.specs.Pipelined.{IsPipelined, Numbered}
 use Rattle.mysql_conversation.specs.Session as session
-use Rattle.mysql_conversation.specs.Session.{SessionTaken}
+use Rattle.mysql_conversation.specs.Session.{IsSession, SessionTaken}
 use Rattle.mysql_conversation.specs.declared.kind.Kind.{Kind}
 use Rattle.mysql_conversation.specs.declared.kind.Opening.TheVariants.{Commands}
 use Rattle.mysql_conversation.specs.declared.kind.Side.TheVariants.{Client}
@@ -19,8 +19,13 @@ use Rattle.mysql_recorder.specs.declared.followed.Followed.{Followed}
 abbrev pub IsWhole : Connection → List Numbered → Type 0
 IsWhole c items = (s : Session) × (c ≡ connection.Whole s) × SessionTaken s items
 
+-- the highest number of an exchange
+abbrev pub highest_exchange : List Numbered → ℕ
+highest_exchange [] = 0
+highest_exchange (x ∷ xs) = max x.number (highest_exchange xs)
+
 abbrev pub IsFollowed : Followed → List Numbered → Type 0
-IsFollowed f items = IsWhole f.connection items × (f.before ≡ 0)
+IsFollowed f items = IsWhole f.connection items × (f.before ≡ 0) × (f.last ≡ highest_exchange items)
 
 -- how many commands may wait
 abbrev pub limit_of : Connection → ℕ
@@ -40,3 +45,8 @@ IsTakenUp f a items before =
 abbrev pub IsTakenUpAfter : Followed → Agreed → List ℕ → ℕ → Type 0
 IsTakenUpAfter f a command before =
     ((kind : Kind) × (number : ℕ) × IsTakenUp f a (place Client command kind number ∷ []) before) ⊎ IsTakenUp f a [] before
+
+-- all that was asked for is answered
+abbrev pub IsAtRest : Connection → Type 0
+IsAtRest (connection.Whole s) = (items : List Numbered) → SessionTaken s items → IsSession items
+IsAtRest (connection.TakenUp p agreed) = (items : List Numbered) → PipeTaken p items → IsPipelined (pipe.agreed p) (pipe.opening p) items

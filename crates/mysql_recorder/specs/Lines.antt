@@ -1,5 +1,5 @@
 -- The lines that a recording is given by, and what they say.
-use Rattle.std.specs.Prelude.{◌≡◌, ◌≢◌, ◌⊎◌, ℕ, ◌+◌, ◌*◌, ◌≤◌, List, [], ◌∷◌, ◌++◌, Option, Some, None}
+use Rattle.std.specs.Prelude.{◌≡◌, ◌≢◌, ◌⊎◌, ℕ, ◌+◌, ◌-◌, ◌*◌, ◌≤◌, ◌==◌, ◌||◌, ◌&&◌, nat_le, Bool, List, [], ◌∷◌, ◌++◌, Option, Some, None, option_map, if◌then◌else◌}
 use Rattle.std.specs.List.{All}
 use Rattle.mysql_conversation.specs.declared.kind.Side.{Side}
 use Rattle.mysql_conversation.specs.declared.kind.Side.TheVariants.{Client, Server}
@@ -131,3 +131,45 @@ abbrev pub IsRead : List ℕ → Place → List Heard → Type 0
 IsRead text at said =
     (lines : List Line) × (line : List ℕ) × (more : List Heard) × AreLines lines
     × (text ≡ text_of lines ++ line) × (said ≡ said_by lines ++ more) × Stands at line more
+
+-- ---- byte by byte: where a line stands after one more, unless the byte stands in no line there
+
+abbrev pub is_between : ℕ → ℕ → ℕ → Bool
+is_between low c high = nat_le low c && nat_le c high
+
+abbrev pub lower_value : ℕ → Option ℕ
+lower_value c = if is_between 48 c 57 then Some (c - 48) else (if is_between 97 c 102 then Some (c - 97 + 10) else None)
+
+abbrev pub digit_value : ℕ → Option ℕ
+digit_value c = if is_between 65 c 70 then Some (c - 65 + 10) else lower_value c
+
+abbrev pub half : Side → ℕ → Place
+half side high = place.Half side high
+
+-- after the first byte of a line
+abbrev pub begun_by : ℕ → Option Place
+begun_by c =
+    if c == 62 then Some (place.Between Client)
+    else (if c == 60 || c == 9 then Some (place.Between Server)
+    else (if c == 10 then Some place.Start
+    else (if c == 13 || (c == 35 || (c == 61 || (c == 70 || c == 78))) then Some place.Silent
+    else option_map (half Client) (lower_value c))))
+
+-- after one more byte of a side's line: a space and a carriage return say nothing
+abbrev pub after_byte : Side → ℕ → Option Place
+after_byte side c = if c == 32 || c == 13 then Some (place.Between side) else option_map (half side) (digit_value c)
+
+abbrev pub next_place : Place → ℕ → Option Place
+next_place place.Start c = begun_by c
+next_place (place.Between side) c = if c == 10 then Some place.Start else after_byte side c
+next_place (place.Half side high) c = option_map (λ low. place.Between side) (digit_value c)
+next_place place.Silent c = if c == 10 then Some place.Start else Some place.Silent
+
+-- after a text, unless a line of it is none of a recording's
+abbrev pub place_from : Option Place → List ℕ → Option Place
+place_from None text = None
+place_from (Some at) [] = Some at
+place_from (Some at) (c ∷ text) = place_from (next_place at c) text
+
+abbrev pub place_after : Place → List ℕ → Option Place
+place_after at text = place_from (Some at) text

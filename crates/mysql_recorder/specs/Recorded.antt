@@ -7,6 +7,7 @@ use Rattle.mysql_recorder.specs.Lines.{AreLines, Heard, heard, IsRead, IsOfSide,
 use Rattle.mysql_recorder.specs.Shown.{Item, Writes}
 use Rattle.mysql_recorder.specs.Sides.{Stand}
 use Rattle.mysql_recorder.specs.Sides as sides
+use Rattle.mysql_recorder.specs.Steps as steps
 use Rattle.mysql_recorder.specs.declared.line.Place.{Place}
 use Rattle.mysql_recorder.specs.declared.recording.Recording.{Recording}
 
@@ -37,6 +38,10 @@ KeepsSettings old new = sides.KeepsSettings old.sides new.sides
 abbrev pub last_exchange : Recording → ℕ
 last_exchange r = r.sides.packets.followed.last
 
+-- how far its line has come
+abbrev pub place : Recording → Place
+place r = r.place
+
 -- something is lost
 abbrev pub has_lost : Recording → Bool
 has_lost r = sides.has_lost r.sides
@@ -60,6 +65,14 @@ pub record Recorded (r : Recording) (text : List ℕ) (items : List Item) : Type
 -- these packets are a whole session, and of neither side a byte is held of a payload that is cut
 abbrev pub IsWhole : Recording → List Item → Type 0
 IsWhole r items = sides.IsWhole r.sides items
+
+-- also after a loss: both streams are in step, no payload is cut, and all that was asked for is answered
+abbrev pub HasEnded : Recording → Type 0
+HasEnded r = sides.HasEnded r.sides
+
+-- what is said at the end of the streams that are still out of step
+abbrev pub SaysLeft : Recording → (old new : List ℕ) → Type 0
+SaysLeft r old new = steps.SaysLeft r.sides old new
 
 -- From this place in the text on, the connection is taken up at its next command, under what both sides agreed on: both streams are out of
 -- step up to there. Exchanges are counted on.

@@ -21,8 +21,9 @@ abbrev pub AppendsRefused : List KindName → Layout → Followed → Entry → 
 AppendsRefused all layout f entry why before after =
     (names : List KindName) × Expects f all names × (after ≡ before ++ entry_text layout entry (refused_fields entry.payload why names))
 
+-- of the exchange that came last
 abbrev pub Refuses : List KindName → Layout → Followed → Side → ℕ → List ℕ → Refusal → List ℕ → List ℕ → Type 0
-Refuses all layout f side sequence payload why before after = (exchange : ℕ) × AppendsRefused all layout f (refused_entry side sequence exchange payload) why before after
+Refuses all layout f side sequence payload why before after = AppendsRefused all layout f (refused_entry side sequence f.last payload) why before after
 
 -- where the error is a refusal, this is so of its reason
 abbrev pub IfRefused : RecordingError → (Refusal → Type 0) → Type 0
@@ -32,3 +33,12 @@ IfRefused error.Line P = Unit {0}
 IfRefused error.OutOfOrder P = Unit {0}
 IfRefused error.TooLong P = Unit {0}
 IfRefused error.Missing P = Unit {0}
+
+-- where the error is that a line is none of a recording's, this is so
+abbrev pub IfLine : RecordingError → Type 0 → Type 0
+IfLine error.Line P = P
+IfLine (error.Refused why) P = Unit {0}
+IfLine error.Memory P = Unit {0}
+IfLine error.OutOfOrder P = Unit {0}
+IfLine error.TooLong P = Unit {0}
+IfLine error.Missing P = Unit {0}

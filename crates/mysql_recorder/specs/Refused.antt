@@ -12,6 +12,8 @@ use Rattle.mysql_conversation.specs.declared.pipeline.Refusal.{Refusal}
 use Rattle.mysql_conversation.specs.declared.pipeline.Refusal.TheVariants as refusal
 use Rattle.mysql_fields.specs.Fields.{Said, said, Bytes, Word}
 use Rattle.mysql_fields.specs.declared.entry.Layout.{Layout}
+use Rattle.mysql_recorder.specs.Followed.{highest_exchange}
+use Rattle.mysql_recorder.specs.Reasons.{IsRefusedFor}
 use Rattle.mysql_recorder.specs.Shown.{Entry, entry_text}
 
 abbrev pub refusal_text : Refusal → List ℕ
@@ -43,9 +45,11 @@ AreExpected items (name ∷ all) names =
 abbrev pub refused_entry : Side → ℕ → ℕ → List ℕ → Entry
 refused_entry side sequence exchange payload = record { side = side; sequence = sequence; exchange = exchange; kind = codes "refused"; payload = payload }
 
--- After these packets, of which `all` are the names of kinds that there are, the packet is shown as one that doesn't come.
+-- After these packets, of which `all` are the names of kinds that there are, the packet is shown as one that doesn't come. It is of the
+-- exchange that came last.
 abbrev pub ShowsRefused : List KindName → Layout → Side → ℕ → List ℕ → List Numbered → Refusal → List ℕ → List ℕ → Type 0
 ShowsRefused all layout side sequence payload items why before after =
     (exchange : ℕ) × (names : List KindName) × AreExpected items all names
     × (after ≡ before ++ entry_text layout (refused_entry side sequence exchange payload) (refused_fields payload why names))
     × (why ≡ refusal.Unexpected → (kind : Kind) (number : ℕ) → IsSessionBeginning (items ++ place side payload kind number ∷ []) → ⊥)
+    × (exchange ≡ highest_exchange items) × IsRefusedFor items side payload why

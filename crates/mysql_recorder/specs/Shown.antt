@@ -5,9 +5,9 @@ use Rattle.mysql_conversation.specs.Piped.{place}
 use Rattle.mysql_conversation.specs.Pipelined.{Numbered}
 use Rattle.mysql_conversation.specs.declared.kind.Kind.{Kind}
 use Rattle.mysql_conversation.specs.declared.kind.Side.{Side}
-use Rattle.mysql_fields.specs.Entries.{Begins, sign_of, name_of_side}
-use Rattle.mysql_fields.specs.FieldObject.{object_line}
-use Rattle.mysql_fields.specs.FieldText.{lines_of}
+use Rattle.mysql_fields.specs.Entries.{sign_of, name_of_side}
+use Rattle.mysql_fields.specs.FieldObject.{AppendsObject, object_line}
+use Rattle.mysql_fields.specs.FieldText.{AppendsLines, lines_of}
 use Rattle.mysql_fields.specs.Fields.{Said, said, Number, Word, Digits, have_float}
 use Rattle.mysql_fields.specs.declared.entry.Layout.{Layout}
 use Rattle.mysql_fields.specs.declared.entry.Layout.TheVariants as layout
@@ -59,16 +59,15 @@ abbrev pub entry_text : Layout → Entry → List Said → List ℕ
 entry_text layout.Lines e fields = entry_line e ++ lines_of fields
 entry_text layout.Json e fields = object_line (entry_head e) fields
 
--- its front, whatever its fields hold: the line; in an object the members stand in the order of their names
-abbrev pub entry_front : Layout → Entry → List ℕ
-entry_front layout.Lines e = entry_line e
-entry_front layout.Json e = []
+-- also where a field is a float, of which the digits are not known: after its line the entry's fields are appended, or its object is
+abbrev pub AppendsEntry : Layout → Entry → List Said → (old new : List ℕ) → Type 0
+AppendsEntry layout.Lines e fields old new = AppendsLines fields (old ++ entry_line e) new
+AppendsEntry layout.Json e fields old new = AppendsObject (entry_head e) fields old new
 
--- An entry with some fields is appended: what stood before stays, and then comes its front. Where none of the fields is a float, the text is
--- the entry's; of a float the digits are not known.
-abbrev pub Appends : Layout → Entry → List ℕ → List ℕ → Type 0
+-- An entry with some fields is appended. Where none of them is a float, the text is the entry's.
+abbrev pub Appends : Layout → Entry → (old new : List ℕ) → Type 0
 Appends layout entry old new =
-    (fields : List Said) × (have_float fields ≡ false → new ≡ old ++ entry_text layout entry fields) × Begins (entry_front layout entry) old new
+    (fields : List Said) × (have_float fields ≡ false → new ≡ old ++ entry_text layout entry fields) × AppendsEntry layout entry fields old new
 
 -- an entry for each of these packets is appended, in their order
 abbrev pub Writes : Layout → List Item → List ℕ → List ℕ → Type 0

@@ -79,6 +79,12 @@ pub record KeepsSettings (old new : Sides) : Type 0 where
 abbrev pub IsWhole : Sides → List Item → Type 0
 IsWhole s items = (s.client.reader.held ≡ []) × (s.server.reader.held ≡ []) × IsSession (placed items)
 
+-- Both streams are in step, no payload is cut, and all that was asked for is answered: of what is followed now, also after a loss.
+pub record HasEnded (s : Sides) : Type 0 where
+  pub client : (s.client.passed ≡ None) × (s.client.reader.held ≡ [])
+  pub server : (s.server.passed ≡ None) × (s.server.reader.held ≡ [])
+  pub rests : connection.IsAtRest s.packets.followed.connection
+
 -- A stream is out of step, and nothing of it came yet.
 pub record IsAwaited (stream : Stream) (longest : ℕ) : Type 0 where
   pub passed : stream.passed ≡ Some 0

@@ -1,5 +1,8 @@
 //! What a packet of the client says.
 
+ghost use Rattle.std.specs.Prelude.{OnOk};
+ghost use Rattle.mysql_recorder.specs.LoginFields.{AddsLogin};
+
 use crate::command_fields::append_command;
 use mysql_auth::{HandshakeResponseRef, SslRequest};
 use mysql_fields::Field;
@@ -46,10 +49,13 @@ fn append_ssl_request<'p>(
     ))?)
 }
 
+/// Appends what a login says, but not its scramble.
 fn append_login<'p>(
     login: &HandshakeResponseRef<'p>,
     fields: &mut Vec<Field<'p>>,
-) -> Result<(), AllocError> {
+) -> Result<(), AllocError>
+    ensures { OnOk result (AddsLogin login.now fields.old.items fields.new.items) }
+{
     fields.push(Field::number("capabilities", u64::from(login.capabilities().bits())))?;
     fields.push(Field::number("max_packet_size", u64::from(login.max_packet_size())))?;
     fields.push(Field::number("collation", u64::from(login.collation())))?;

@@ -42,9 +42,9 @@ impl From<AllocError> for RecordingError {
 }
 
 impl From<FrameError> for RecordingError {
-    ghost use Rattle.mysql_recorder.specs.Refusals.{IfRefused};
+    ghost use Rattle.mysql_recorder.specs.Refusals.{IfLine, IfRefused};
 
-    ghost from_gives = { λ _ e. IfRefused e (λ why. ⊥) };
+    ghost from_gives = { λ _ e. IfRefused e (λ why. ⊥) × IfLine e ⊥ };
 
     fn from(error: FrameError) -> Self {
         match error {
@@ -56,9 +56,9 @@ impl From<FrameError> for RecordingError {
 }
 
 impl From<Loss> for RecordingError {
-    ghost use Rattle.mysql_recorder.specs.Refusals.{IfRefused};
+    ghost use Rattle.mysql_recorder.specs.Refusals.{IfLine, IfRefused};
 
-    ghost from_gives = { λ _ e. IfRefused e (λ why. ⊥) };
+    ghost from_gives = { λ _ e. IfRefused e (λ why. ⊥) × IfLine e ⊥ };
 
     fn from(loss: Loss) -> Self {
         match loss {

@@ -21,13 +21,15 @@ enum Connection {
 
 impl Connection {
     ghost use Rattle.mysql_conversation.specs.declared.pipeline.Refusal.TheVariants as refusal;
-    ghost use Rattle.mysql_recorder.specs.Followed.{IsWhole, limit_of};
+    ghost use Rattle.mysql_recorder.specs.Followed.{IsAtRest, IsWhole, limit_of};
+    ghost use Rattle.mysql_recorder.specs.Reasons.{IsReasonOf};
 
     /// Which packet it is, and the number of its exchange, counted from the first that is followed here.
     fn next(&mut self, side: Side, payload: &[u8]) -> Result<(Kind, u64), Refusal>
         ensures taken { IfOk result (λ x. (items : List Numbered) → IsWhole self.old items → IsWhole self.new (items ++ place side payload.now x.0 x.1 ∷ [])) }
         ensures refused { IfErr result (λ why. (items : List Numbered) (kind : declared.Kind) (number : ℕ) → why ≡ refusal.Unexpected → IsWhole self.old items
             → IsSessionBeginning (items ++ place side payload.now kind number ∷ []) → ⊥) }
+        ensures reason { IfErr result (λ why. IsReasonOf self.old side payload.now why) }
         ensures err { OnErr result ((items : List Numbered) → IsWhole self.old items → IsWhole self.new items) }
         ensures limit { limit_of self.new ≡ limit_of self.old }
     {
@@ -59,7 +61,8 @@ impl Connection {
 
     /// Whether all that was asked for is answered.
     fn is_at_rest(&self) -> bool
-        ensures { (items : List Numbered) → IsWhole self.now items → IsTrue result ↔ IsSession items }
+        ensures whole { (items : List Numbered) → IsWhole self.now items → IsTrue result ↔ IsSession items }
+        ensures rests { IsTrue result → IsAtRest self.now }
     {
         match self {
             Connection::Whole(session) => session.is_at_rest(),
@@ -97,7 +100,8 @@ pub(crate) struct Followed {
 
 impl Followed {
     ghost use Rattle.mysql_conversation.specs.declared.pipeline.Refusal.TheVariants as refusal;
-    ghost use Rattle.mysql_recorder.specs.Followed.{IsFollowed, IsTakenUp, IsTakenUpAfter, may_wait};
+    ghost use Rattle.mysql_recorder.specs.Followed.{IsAtRest, IsFollowed, IsTakenUp, IsTakenUpAfter, may_wait};
+    ghost use Rattle.mysql_recorder.specs.Reasons.{IsReasonOf};
 
     /// A connection from its greeting on, in which as many commands may wait.
     pub(crate) fn whole(alloc: Global, waiting: usize) -> Self
@@ -167,6 +171,8 @@ impl Followed {
         // Of no kind and exchange does the packet go on with what came.
         ensures refused { IfErr result (λ why. (items : List Numbered) (kind : declared.Kind) (number : ℕ) → why ≡ refusal.Unexpected → IsFollowed self.old items
             → IsSessionBeginning (items ++ place side payload.now kind number ∷ []) → ⊥) }
+        // Also of a connection that is taken up amid it:
+        ensures reason { IfErr result (λ why. IsReasonOf self.old.connection side payload.now why) }
         ensures err { OnErr result ((items : List Numbered) → IsFollowed self.old items → IsFollowed self.new items) }
         ensures may_wait { may_wait self.new ≡ may_wait self.old }
         ensures deciphered { self.new.is_deciphered ≡ self.old.is_deciphered }
@@ -197,7 +203,9 @@ impl Followed {
     }
 
     /// The highest number of an exchange that came.
-    pub(crate) fn last(&self) -> u64 {
+    pub(crate) fn last(&self) -> u64
+        ensures { result ≡ self.now.last }
+    {
         self.last
     }
 
@@ -211,7 +219,8 @@ impl Followed {
 
     /// Whether all that was asked for is answered.
     pub(crate) fn is_at_rest(&self) -> bool
-        ensures { (items : List Numbered) → IsFollowed self.now items → IsTrue result ↔ IsSession items }
+        ensures whole { (items : List Numbered) → IsFollowed self.now items → IsTrue result ↔ IsSession items }
+        ensures rests { IsTrue result → IsAtRest self.now.connection }
     {
         self.connection.is_at_rest()
     }

@@ -4,7 +4,7 @@
 //! `tshark -z follow,tcp,raw` prints is read too: lower-case digits at the line's beginning are of the client, after a tab of the
 //! server, and its other lines (`===`, `Follow:`, `Filter:`, `Node`) say nothing. An empty line and one after `#` say nothing either.
 
-ghost use Rattle.std.specs.Prelude.{ℕ, ◌≤◌, List, [], ◌∷◌, ◌++◌, IfOk, IfSome, None};
+ghost use Rattle.std.specs.Prelude.{◌≡◌, ℕ, ◌≤◌, List, [], ◌∷◌, ◌++◌, IfOk, IfSome, None, Some, MatchResult};
 ghost use Rattle.mysql_recorder.specs.Lines as spec;
 ghost use Rattle.mysql_recorder.specs.declared.line.Place.TheVariants as variants;
 
@@ -40,7 +40,8 @@ pub(crate) enum Said {
 
 /// The value of a digit in lower case.
 fn lower_digit(byte: u8) -> Option<u8>
-    ensures { IfSome result (λ value. spec.IsLowerDigit byte value × (value ≤ 15)) }
+    ensures value { result ≡ spec.lower_value byte }
+    ensures digit { IfSome result (λ value. spec.IsLowerDigit byte value × (value ≤ 15)) }
 {
     match byte {
         b'0'..=b'9' => Some(byte - b'0'),
@@ -51,7 +52,8 @@ fn lower_digit(byte: u8) -> Option<u8>
 
 /// The value of a digit.
 fn digit(byte: u8) -> Option<u8>
-    ensures { IfSome result (λ value. spec.IsDigit byte value × (value ≤ 15)) }
+    ensures value { result ≡ spec.digit_value byte }
+    ensures digit { IfSome result (λ value. spec.IsDigit byte value × (value ≤ 15)) }
 {
     match byte {
         b'A'..=b'F' => Some(byte - b'A' + 10),
@@ -64,6 +66,8 @@ impl Place {
     pub(crate) fn pass(&mut self, byte: u8) -> Result<Option<Said>, LineError>
         ensures passes { IfOk result (λ said. (line : List ℕ) (before : List spec.Heard) → spec.Stands self.old line before → spec.Passes said byte line before self.new) }
         ensures side { IfOk result (λ said. spec.StaysOf said self.old self.new) }
+        // The byte is refused exactly where it stands in no line there.
+        ensures place { MatchResult result (λ said. spec.next_place self.old byte ≡ Some self.new) (λ e. spec.next_place self.old byte ≡ None) }
     {
         match *self {
             Place::Start => {
@@ -98,6 +102,7 @@ impl Place {
 /// Where a line stands after its first byte.
 fn begun_by(byte: u8) -> Result<Place, LineError>
     ensures begins { IfOk result (λ place. (line : List ℕ) (before : List spec.Heard) → spec.Stands variants.Start line before → spec.Passes None byte line before place) }
+    ensures place { MatchResult result (λ place. spec.begun_by byte ≡ Some place) (λ e. spec.begun_by byte ≡ None) }
 {
     match byte {
         b'>' => Ok(Place::Between(Side::Client)),
@@ -115,6 +120,7 @@ fn begun_by(byte: u8) -> Result<Place, LineError>
 fn after_byte(side: Side, byte: u8) -> Result<Place, LineError>
     ensures goes_on { IfOk result (λ place. (line : List ℕ) (before : List spec.Heard) → spec.Stands (variants.Between side) line before → spec.Stands place (line ++ byte ∷ []) before) }
     ensures side { IfOk result (λ place. spec.IsOfSide side place) }
+    ensures place { MatchResult result (λ place. spec.after_byte side byte ≡ Some place) (λ e. spec.after_byte side byte ≡ None) }
 {
     match byte {
         b' ' | b'\r' => Ok(Place::Between(side)),

@@ -1,5 +1,8 @@
 //! What is lost of a recording, and where it is taken up again.
 
+ghost use Rattle.std.specs.Prelude.{◌≡◌};
+ghost use Rattle.mysql_recorder.specs.Steps as spec;
+
 use mysql_fields::Field;
 use mysql_frames::FrameError;
 use mysql_wire::{ConstValue, ServerCommand};
@@ -34,7 +37,9 @@ impl Loss {
 pub(crate) const HEAD: usize = 5;
 
 /// Whether a line of the client begins with a command: a frame with the number 0, whose first byte is a command's.
-pub(crate) fn begins_command(line: &[u8]) -> bool {
+pub(crate) fn begins_command(line: &[u8]) -> bool
+    ensures { result ≡ spec.begins_command line.now }
+{
     match line {
         [low, middle, high, 0, code, ..] => {
             (*low, *middle, *high) != (0, 0, 0) && ServerCommand::from_code(*code).is_some()
@@ -44,7 +49,9 @@ pub(crate) fn begins_command(line: &[u8]) -> bool {
 }
 
 /// Whether a line of the server begins with a frame of this number.
-pub(crate) fn begins_with(number: u8, line: &[u8]) -> bool {
+pub(crate) fn begins_with(number: u8, line: &[u8]) -> bool
+    ensures { result ≡ spec.begins_with number line.now }
+{
     match line {
         [_, _, _, first, ..] => *first == number,
         _ => false,

@@ -3,7 +3,7 @@
 //! Where a segment of a stream is not in the capture, `tshark` has a line of its own in the place of these bytes: as digits, the text
 //! `[1460 bytes missing in capture file]` and a byte 0.
 
-ghost use Rattle.std.specs.Prelude.{◌≡◌, ◌≤◌, ℕ, IfSome, drop};
+ghost use Rattle.std.specs.Prelude.{◌≡◌, ◌<◌, ◌≤◌, ℕ, IfSome, IfNone, drop};
 ghost use Rattle.mysql_recorder.specs.Marks as spec;
 
 /// What a mark begins with.
@@ -17,7 +17,7 @@ const DIGITS: usize = 19;
 
 /// The number after so many digits of a text's front, with what stands after them.
 fn number_of(text: &[u8]) -> (u64, &[u8])
-    ensures { (n : ℕ) × (n ≤ 19) × spec.BeginsWithDigits n text.now × (result.1.now ≡ drop n text.now) }
+    ensures { (n : ℕ) × (n ≤ 19) × spec.BeginsWithDigits n text.now × (result.1.now ≡ drop n text.now) × (result.0 ≡ spec.number_at n text.now) × (n < 19 → spec.EndsDigits n text.now) }
 {
     let mut number: u64 = 0;
     let end = text.len().min(DIGITS);
@@ -36,7 +36,9 @@ fn number_of(text: &[u8]) -> (u64, &[u8])
 
 /// How many bytes a line says that the capture lacks, where it is a mark.
 pub(crate) fn missing_of(line: &[u8]) -> Option<u64>
-    ensures { IfSome result (λ count. spec.IsMark line.now) }
+    ensures some { IfSome result (λ count. spec.IsMarkOf line.now count) }
+    ensures mark { IfSome result (λ count. spec.IsMark line.now) }
+    ensures none { IfNone result ((count : ℕ) → spec.IsMarkOf line.now count → ⊥) }
 {
     let Some((first, text)) = line.split_first() else {
         return None;

@@ -4,14 +4,16 @@ ghost use Rattle.std.specs.Prelude.{◌≡◌, ◌≢◌, ◌↔◌, ◌-◌, []
 ghost use Rattle.mysql_conversation.specs.Pipelined.{Numbered};
 ghost use Rattle.mysql_fields.specs.Entries.{Stays};
 ghost use Rattle.mysql_conversation.specs.Session.{IsSession};
-ghost use Rattle.mysql_recorder.specs.Followed.{IsFollowed, IsTakenUp, IsTakenUpAfter, may_wait};
+ghost use Rattle.mysql_recorder.specs.Followed.{IsAtRest, IsFollowed, IsTakenUp, IsTakenUpAfter, may_wait};
 ghost use Rattle.mysql_recorder.specs.Entries.{entry_as};
 ghost use Rattle.mysql_conversation.specs.declared.kind_name.KindName as names_of;
 ghost use Rattle.mysql_conversation.specs.declared.pipeline.Refusal as refusals;
 ghost use Rattle.mysql_recorder.specs.Refused.{ShowsRefused, expected_fields, refusal_text};
-ghost use Rattle.mysql_recorder.specs.Refusals.{AppendsRefused, Expects, IfRefused, Refuses};
+ghost use Rattle.mysql_recorder.specs.Refusals.{AppendsRefused, Expects, IfLine, IfRefused, Refuses};
 ghost use Rattle.mysql_recorder.specs.Shown.{Appends};
+ghost use Rattle.mysql_recorder.specs.Steps.{remark_exchange, remark_text};
 ghost use Rattle.mysql_recorder.specs.Sums.{AppendsSomeSums};
+ghost use Rattle.mysql_fields.specs.Fields.{have_float};
 ghost use Rattle.mysql_recorder.specs.Taken.{ShowsPacket};
 ghost use Rattle.mysql_recorder.specs.declared.packets.Taken.TheVariants as taken_as;
 
@@ -127,7 +129,8 @@ impl Packets {
 
     /// Whether all that was asked for is answered.
     pub(crate) fn is_at_rest(&self) -> bool
-        ensures { (items : List Numbered) → IsFollowed self.now.followed items → IsTrue result ↔ IsSession items }
+        ensures whole { (items : List Numbered) → IsFollowed self.now.followed items → IsTrue result ↔ IsSession items }
+        ensures rests { IsTrue result → IsAtRest self.now.followed.connection }
     {
         self.followed.is_at_rest()
     }
@@ -188,15 +191,24 @@ impl Packets {
         field: Field<'_>,
         out: &mut String,
     ) -> Result<(), AllocError>
-        ensures { OnOk result (Stays (string_bytes out.old) (string_bytes out.new)) }
+        ensures text { OnOk result (have_float (field.entry ∷ []) ≡ false → string_bytes out.new
+            ≡ string_bytes out.old ++ remark_text self.now.layout side (remark_exchange kind.now side self.now.followed.last) kind.now (field.entry ∷ [])) }
+        ensures stays { OnOk result (Stays (string_bytes out.old) (string_bytes out.new)) }
     {
-        let is_next = kind == "taken_up" && side == Side::Client;
         let remark = Remark {
             side,
-            exchange: self.followed.last().saturating_add(u64::from(is_next)),
+            exchange: self.remark_exchange(kind, side),
             kind,
         };
         remark.append(self.alloc, self.layout, &[field], out)
+    }
+
+    /// The exchange that came last; where the client's stream is taken up, the one that begins.
+    fn remark_exchange(&self, kind: &str, side: Side) -> u64
+        ensures { result ≡ remark_exchange kind.now side self.now.followed.last }
+    {
+        let is_next = kind == "taken_up" && side == Side::Client;
+        self.followed.last().saturating_add(u64::from(is_next))
     }
 
     /// Takes a packet, and appends what it says.
@@ -218,6 +230,7 @@ impl Packets {
         ensures may_wait { may_wait self.new.followed ≡ may_wait self.old.followed }
         ensures deciphered { self.new.followed.is_deciphered ≡ self.old.followed.is_deciphered }
         ensures sums { is_some self.new.sums ≡ is_some self.old.sums }
+        ensures no_line { IfErr result (λ e. IfLine e ⊥) }
     {
         let is_between = self.followed.is_at_rest();
         match self.followed.next(side, payload) {
@@ -247,6 +260,7 @@ impl Packets {
     ) -> Result<Taken, RecordingError>
         ensures ok { IfOk result (λ taken. (taken ≢ taken_as.Shown) × Refuses KindName.ALL self.now.layout self.now.followed side sequence payload.now why (string_bytes out.old) (string_bytes out.new)) }
         ensures err { IfErr result (λ e. IfRefused e (λ shown. (shown ≡ why) × Refuses KindName.ALL self.now.layout self.now.followed side sequence payload.now why (string_bytes out.old) (string_bytes out.new))) }
+        ensures no_line { IfErr result (λ e. IfLine e ⊥) }
     {
         let packet = Packet {
             side,

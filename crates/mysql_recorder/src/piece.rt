@@ -5,7 +5,7 @@ ghost use Rattle.mysql_fields.specs.Entries.{Stays};
 ghost use Rattle.mysql_recorder.specs.Followed.{may_wait};
 ghost use Rattle.mysql_recorder.specs.Frames.{IsNumbered, NoneComes};
 ghost use Rattle.mysql_recorder.specs.Losses.{LosesIn};
-ghost use Rattle.mysql_recorder.specs.Refusals.{IfRefused};
+ghost use Rattle.mysql_recorder.specs.Refusals.{IfLine, IfRefused};
 ghost use Rattle.mysql_recorder.specs.Shown.{Item};
 ghost use Rattle.mysql_recorder.specs.Sides as spec;
 ghost use Rattle.mysql_recorder.specs.Stops.{StopsIn};
@@ -51,6 +51,7 @@ pub(crate) fn read_packets(
     ensures may_wait { may_wait packets.new.followed ≡ may_wait packets.old.followed }
     ensures deciphered { packets.new.followed.is_deciphered ≡ packets.old.followed.is_deciphered }
     ensures sums { is_some packets.new.sums ≡ is_some packets.old.sums }
+    ensures no_line { IfErr result (λ e. IfLine e ⊥) }
 {
     let mut input = piece;
     'packets: loop {

@@ -1,9 +1,10 @@
 //! `mypackets conversation [MAX] [caps=CAPS] [mariadb=CAPS] [--deciphered] [--json] [--sum]`.
 
-ghost use Rattle.std.specs.Prelude.{◌≡◌, ◌≤◌, ◌++◌, ℕ, length, List, OnSome, [], Option, Some, None, IfOk, IfSome, MatchOption, string_bytes};
+ghost use Rattle.std.specs.Prelude.{◌≡◌, ◌++◌, ◌^◌, ℕ, List, [], Option, Some, None, true, IfOk, IfSome, MatchOption, map, string_bytes};
 ghost use Rattle.mysql_recorder.specs.Answers as spec;
+ghost use Rattle.mysql_recorder.specs.Calls as calls;
 ghost use Rattle.mysql_output.specs.Output.{Answer, IsFront, IsWritten};
-ghost use Rattle.mysql_recorder.specs.Recorded.{Recorded, has_lost, layout, longest};
+ghost use Rattle.mysql_recorder.specs.Recorded.{Recorded, has_lost, has_sums, layout, longest};
 ghost use Rattle.mysql_recorder.specs.Shown.{Item};
 
 use crate::error::RecordingError;
@@ -44,7 +45,7 @@ struct Call {
 
 /// The call that the words after the command's name give, unless it is a bad one.
 fn call_of(words: &[String]) -> Option<Call>
-    ensures { OnSome result (length words.now ≤ 6) }
+    ensures { result ≡ calls.call_of (map string_bytes words.now) }
 {
     let mut call = Call {
         layout: Layout::Lines,
@@ -75,12 +76,17 @@ fn call_of(words: &[String]) -> Option<Call>
 }
 
 /// Flags in hexadecimal.
-fn flags_of(digits: &str) -> Option<u32> {
+#[tactic(auto, using(crate::proofs::Calls::numbers))]
+fn flags_of(digits: &str) -> Option<u32>
+    ensures { result ≡ calls.number_in 16 (2 ^ 32) digits.now }
+{
     u32::from_str_radix(digits, 16).ok()
 }
 
 /// What both sides agreed on, where that is said.
-fn agreed_of(caps: Option<u32>, mariadb: u32) -> Option<SessionCapabilities> {
+fn agreed_of(caps: Option<u32>, mariadb: u32) -> Option<SessionCapabilities>
+    ensures { result ≡ calls.agreed_of caps mariadb }
+{
     let caps = caps?;
     Some(SessionCapabilities {
         mysql: CapabilityFlags::from_bits_retain(caps),
@@ -99,7 +105,7 @@ fn agreed_of(caps: Option<u32>, mariadb: u32) -> Option<SessionCapabilities> {
 ///
 /// It keeps no more of the input than a payload of each side and the commands that wait.
 pub fn run<R: Read, W: Write>(alloc: Global, words: &[String], reader: &mut R, writer: &mut W) -> u8
-    ensures { spec.IsRun KindName.ALL (length words.now) (R.remaining reader.old) (R.remaining reader.new) (W.contents writer.old) (W.contents writer.new) result }
+    ensures { spec.IsRun KindName.ALL (map string_bytes words.now) (R.remaining reader.old) (R.remaining reader.new) (W.contents writer.old) (W.contents writer.new) result }
 {
     let Some(call) = call_of(words) else {
         return end(writer, USAGE, 2);
@@ -320,7 +326,8 @@ fn end_with_sums<W: Write>(
     writer: &mut W,
     status: u8,
 ) -> u8
-    ensures { (answer : Answer) × spec.EndsWith sums [] status answer × IsWritten answer (W.contents writer.old) (W.contents writer.new) result }
+    ensures ends { (answer : Answer) × spec.EndsWith sums [] status answer × IsWritten answer (W.contents writer.old) (W.contents writer.new) result }
+    ensures sums { sums ≡ true → has_sums recording.now ≡ true → spec.SumsWritten (layout recording.now) status (W.contents writer.old) (W.contents writer.new) result }
 {
     if sums {
         let mut out = String::new(alloc);

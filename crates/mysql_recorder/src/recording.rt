@@ -1,10 +1,11 @@
 //! A recording: what both sides of a connection sent.
 
-ghost use Rattle.std.specs.Prelude.{◌≡◌, ◌↔◌, ◌∷◌, [], ℕ, List, IfErr, IsTrue, OnOk, false, true, string_bytes};
+ghost use Rattle.std.specs.Prelude.{◌≡◌, ◌↔◌, ◌∷◌, [], ℕ, List, IfErr, IsTrue, None, OnOk, Some, false, true, string_bytes};
 ghost use Rattle.mysql_fields.specs.Entries.{Stays};
 ghost use Rattle.mysql_recorder.specs.Losses.{LineEndLoses, LineLoses, Loses, TextLoses};
+ghost use Rattle.mysql_recorder.specs.Lines.{next_place, place_after};
 ghost use Rattle.mysql_recorder.specs.Recorded as spec;
-ghost use Rattle.mysql_recorder.specs.Refusals.{IfRefused};
+ghost use Rattle.mysql_recorder.specs.Refusals.{IfLine, IfRefused};
 ghost use Rattle.mysql_recorder.specs.Shown.{Item};
 ghost use Rattle.mysql_recorder.specs.Stops.{LineStops, Stops, TextStops};
 ghost use Rattle.mysql_recorder.specs.Sums.{AppendsSomeSums};
@@ -126,6 +127,8 @@ impl Recording {
         // What waits of a line is in none of the packets.
         ensures recorded { (text : List ℕ) (items : List Item) → spec.Recorded self.now text items → IsTrue result ↔ spec.IsWhole self.now items }
         ensures finished { (text : List ℕ) (items : List Item) → spec.IsFinished self.now text items → IsTrue result ↔ spec.IsWhole self.now items }
+        // After a loss, of what is followed since:
+        ensures ended { IsTrue result → spec.HasEnded self.now }
     {
         self.sides.is_whole()
     }
@@ -151,6 +154,9 @@ impl Recording {
         ensures refused { IfErr result (λ e. Stops KindName.ALL input.now self.old self.new e (string_bytes out.old) (string_bytes out.new)) }
         ensures loses { Loses result KindName.ALL input.now self.old self.new (string_bytes out.old) (string_bytes out.new) }
         ensures text { OnOk result (Stays (string_bytes out.old) (string_bytes out.new)) }
+        // The error is `Line` only where a line of the input is none of a recording's, and then it is an error.
+        ensures place { OnOk result (place_after (spec.place self.old) input.now ≡ Some (spec.place self.new)) }
+        ensures line { IfErr result (λ e. IfLine e (place_after (spec.place self.old) input.now ≡ None)) }
     {
         for byte in input {
             self.take_byte(*byte, out)?;
@@ -166,6 +172,8 @@ impl Recording {
         ensures refused { IfErr result (λ e. TextStops KindName.ALL self.old e (string_bytes out.old) (string_bytes out.new)) }
         ensures loses { TextLoses result KindName.ALL ⊥ self.old self.new (string_bytes out.old) (string_bytes out.new) }
         ensures text { OnOk result (Stays (string_bytes out.old) (string_bytes out.new)) }
+        ensures no_line { IfErr result (λ e. IfLine e ⊥) }
+        ensures place { self.new.place ≡ self.old.place }
     {
         if self.may_be_taken() {
             self.take_line(out)
@@ -182,6 +190,8 @@ impl Recording {
         ensures refused { IfErr result (λ e. TextStops KindName.ALL self.old e (string_bytes out.old) (string_bytes out.new)) }
         ensures loses { TextLoses result KindName.ALL (byte ≡ 10) self.old self.new (string_bytes out.old) (string_bytes out.new) }
         ensures text { OnOk result (Stays (string_bytes out.old) (string_bytes out.new)) }
+        ensures place { OnOk result (next_place self.old.place byte ≡ Some self.new.place) }
+        ensures line { IfErr result (λ e. IfLine e (next_place self.old.place byte ≡ None)) }
     {
         match self.place.pass(byte)? {
             Some(Said::Byte(side, value)) => {
@@ -195,6 +205,7 @@ impl Recording {
 
     /// Says that the input is at its end, and appends how much of each stream is passed over that is still out of step.
     pub fn finish(&mut self, out: &mut String) -> Result<(), RecordingError>
+        ensures left { OnOk result ((mid : List ℕ) × Stays (string_bytes out.old) mid × spec.SaysLeft self.new mid (string_bytes out.new)) }
         ensures finishes { OnOk result (spec.Finishes self.old self.new (string_bytes out.old) (string_bytes out.new)) }
         ensures lost { spec.has_lost self.old ≡ true → spec.has_lost self.new ≡ true }
         ensures layout { spec.layout self.new ≡ spec.layout self.old }
@@ -205,6 +216,7 @@ impl Recording {
         ensures refused { IfErr result (λ e. TextStops KindName.ALL self.old e (string_bytes out.old) (string_bytes out.new)) }
         ensures loses { TextLoses result KindName.ALL (Unit {0}) self.old self.new (string_bytes out.old) (string_bytes out.new) }
         ensures text { OnOk result (Stays (string_bytes out.old) (string_bytes out.new)) }
+        ensures no_line { IfErr result (λ e. IfLine e ⊥) }
     {
         self.end_line(out)?;
         Ok(self.sides.say_unheard(out)?)
@@ -228,6 +240,7 @@ impl Recording {
         ensures loses { LineEndLoses result KindName.ALL self.old self.new (string_bytes out.old) (string_bytes out.new) }
         ensures text { OnOk result (Stays (string_bytes out.old) (string_bytes out.new)) }
         ensures untaken { self.new.line.is_untaken ≡ true }
+        ensures no_line { IfErr result (λ e. IfLine e ⊥) }
     {
         let taken = self.take_last(out);
         self.line.is_untaken = true;
@@ -244,6 +257,7 @@ impl Recording {
         ensures refused { IfErr result (λ e. LineStops KindName.ALL self.old e (string_bytes out.old) (string_bytes out.new)) }
         ensures loses { LineEndLoses result KindName.ALL self.old self.new (string_bytes out.old) (string_bytes out.new) }
         ensures text { OnOk result (Stays (string_bytes out.old) (string_bytes out.new)) }
+        ensures no_line { IfErr result (λ e. IfLine e ⊥) }
     {
         let missing = missing_of(self.line.bytes.as_slice());
         match missing {
@@ -261,6 +275,7 @@ impl Recording {
         ensures stays { spec.has_lost self.old ≡ true → spec.has_lost self.new ≡ true }
         ensures refused { IfErr result (λ e. IfRefused e (λ why. ⊥)) }
         ensures text { OnOk result (Stays (string_bytes out.old) (string_bytes out.new)) }
+        ensures no_line { IfErr result (λ e. IfLine e ⊥) }
     {
         self.sides.lose(self.line.side, Loss::Missing(count), out)?;
         self.line.bytes.clear();
@@ -278,6 +293,7 @@ impl Recording {
         ensures loses { LineLoses result KindName.ALL self.old self.new (string_bytes out.old) (string_bytes out.new) }
         ensures text { OnOk result (Stays (string_bytes out.old) (string_bytes out.new)) }
         ensures taken { self.new.line.is_untaken ≡ false }
+        ensures no_line { IfErr result (λ e. IfLine e ⊥) }
     {
         let (side, is_untaken) = (self.line.side, self.line.is_untaken);
         let piece = mem::replace(&mut self.line.bytes, Vec::new(self.alloc));

@@ -1,13 +1,14 @@
 //! Both sides of a connection: their streams, and what is shown of them.
 
-ghost use Rattle.std.specs.Prelude.{◌≡◌, ◌≢◌, ◌↔◌, ◌-◌, ◌∷◌, [], ℕ, List, IfOk, IfErr, IsTrue, OnOk, None, true, false, string_bytes};
+ghost use Rattle.std.specs.Prelude.{◌≡◌, ◌≢◌, ◌↔◌, ◌-◌, ◌∷◌, [], ◌++◌, ℕ, List, IfOk, IfErr, IsTrue, OnOk, None, true, false, string_bytes};
 ghost use Rattle.mysql_fields.specs.Entries.{Stays};
 ghost use Rattle.mysql_recorder.specs.Followed.{IsTakenUp, IsTakenUpAfter};
 ghost use Rattle.mysql_recorder.specs.Frames.{Piece};
 ghost use Rattle.mysql_recorder.specs.Losses.{PieceLoses, PieceLosesIn};
-ghost use Rattle.mysql_recorder.specs.Refusals.{IfRefused};
+ghost use Rattle.mysql_recorder.specs.Refusals.{IfLine, IfRefused};
 ghost use Rattle.mysql_recorder.specs.Shown.{Item};
 ghost use Rattle.mysql_recorder.specs.Sides as spec;
+ghost use Rattle.mysql_recorder.specs.Steps as steps;
 ghost use Rattle.mysql_recorder.specs.Stops.{PieceStops};
 ghost use Rattle.mysql_recorder.specs.Sums.{AppendsSomeSums};
 ghost use Rattle.mysql_recorder.specs.declared.piece.Came.TheVariants as came_as;
@@ -102,7 +103,9 @@ impl Sides {
 
     /// Whether all that was asked for is answered, and no packet is cut.
     pub(crate) fn is_whole(&self) -> bool
-        ensures { (pieces : List Piece) (items : List Item) → spec.Stand self.now pieces items → IsTrue result ↔ spec.IsWhole self.now items }
+        ensures stand { (pieces : List Piece) (items : List Item) → spec.Stand self.now pieces items → IsTrue result ↔ spec.IsWhole self.now items }
+        // Also after a loss:
+        ensures ended { IsTrue result → spec.HasEnded self.now }
     {
         self.client.is_between() && self.server.is_between() && self.packets.is_at_rest()
     }
@@ -143,6 +146,7 @@ impl Sides {
         ensures settings { spec.KeepsSettings self.old self.new }
         ensures loses { PieceLoses result KindName.ALL side piece.now self.old self.new (string_bytes out.old) (string_bytes out.new) }
         ensures text { OnOk result (Stays (string_bytes out.old) (string_bytes out.new)) }
+        ensures no_line { IfErr result (λ e. IfLine e ⊥) }
     {
         if is_beginning && self.passed(side).is_some() {
             self.begin_line(side, piece, out)
@@ -162,6 +166,7 @@ impl Sides {
         ensures lost { spec.has_lost self.old ≡ true → spec.has_lost self.new ≡ true }
         ensures settings { spec.KeepsSettings self.old self.new }
         ensures text { OnOk result (Stays (string_bytes out.old) (string_bytes out.new)) }
+        ensures no_line { IfErr result (λ e. IfLine e ⊥) }
     {
         self.take_up(side, piece, out)?;
         self.take_piece(side, piece, out)
@@ -169,10 +174,13 @@ impl Sides {
 
     /// Has a stream in step again, where it is out of step and a line of it begins as it must.
     fn take_up(&mut self, side: Side, line: &[u8], out: &mut String) -> Result<(), RecordingError>
+        // Also after a loss.
+        ensures steps { OnOk result (steps.StepsIn side line.now self.old self.new) }
         ensures goes { OnOk result (spec.GoesOn [] self.old self.new (string_bytes out.old) (string_bytes out.new)) }
         ensures lost { spec.has_lost self.old ≡ true → spec.has_lost self.new ≡ true }
         ensures settings { spec.KeepsSettings self.old self.new }
         ensures text { OnOk result (Stays (string_bytes out.old) (string_bytes out.new)) }
+        ensures no_line { IfErr result (λ e. IfLine e ⊥) }
     {
         let Some(passed) = self.passed(side) else {
             return Ok(());
@@ -187,7 +195,9 @@ impl Sides {
     }
 
     /// Whether a line begins as the next exchange of its stream must.
-    fn begins(&self, side: Side, line: &[u8]) -> bool {
+    fn begins(&self, side: Side, line: &[u8]) -> bool
+        ensures { result ≡ steps.begins side self.now line.now }
+    {
         match (side, self.answer) {
             (Side::Client, _) => begins_command(line),
             (Side::Server, Some(number)) => begins_with(number, line),
@@ -197,6 +207,7 @@ impl Sides {
 
     /// Has a stream in step.
     fn step_in(&mut self, side: Side)
+        ensures passed { spec.passed_of side self.new ≡ None }
         ensures lost { spec.has_lost self.new ≡ spec.has_lost self.old }
         ensures settings { spec.KeepsSettings self.old self.new }
     {
@@ -219,6 +230,7 @@ impl Sides {
 
     /// Appends how much of each stream is passed over that is still out of step.
     pub(crate) fn say_unheard(&self, out: &mut String) -> Result<(), AllocError>
+        ensures left { OnOk result (steps.SaysLeft self.now (string_bytes out.old) (string_bytes out.new)) }
         ensures none { OnOk result (spec.SaysNothing self.now (string_bytes out.old) (string_bytes out.new)) }
         ensures stays { OnOk result (Stays (string_bytes out.old) (string_bytes out.new)) }
     {
@@ -228,6 +240,7 @@ impl Sides {
 
     /// The same of one of them.
     fn say_left(&self, side: Side, out: &mut String) -> Result<(), AllocError>
+        ensures text { OnOk result (string_bytes out.new ≡ string_bytes out.old ++ steps.left_text side self.now) }
         ensures none { OnOk result (spec.passed_of side self.now ≡ None → string_bytes out.new ≡ string_bytes out.old) }
         ensures stays { OnOk result (Stays (string_bytes out.old) (string_bytes out.new)) }
     {
@@ -247,7 +260,8 @@ impl Sides {
         passed: u64,
         out: &mut String,
     ) -> Result<(), AllocError>
-        ensures { OnOk result (Stays (string_bytes out.old) (string_bytes out.new)) }
+        ensures text { OnOk result (string_bytes out.new ≡ string_bytes out.old ++ steps.passed_text self.now kind.now side passed) }
+        ensures stays { OnOk result (Stays (string_bytes out.old) (string_bytes out.new)) }
     {
         let field = Field::number("passed_over", passed);
         self.packets.append_remark(kind, side, field, out)
@@ -265,6 +279,7 @@ impl Sides {
         ensures refused { IfErr result (λ e. IfRefused e (λ why. ⊥)) }
         ensures settings { spec.KeepsSettings self.old self.new }
         ensures text { OnOk result (Stays (string_bytes out.old) (string_bytes out.new)) }
+        ensures no_line { IfErr result (λ e. IfLine e ⊥) }
     {
         let Some(agreed) = self.packets.agreed() else {
             return Err(RecordingError::from(loss));
@@ -289,6 +304,7 @@ impl Sides {
         ensures taken_up { (front : List ℕ) × IsTakenUpAfter self.new.packets.followed agreed front (self.old.packets.followed.last - 1) }
         ensures refused { IfErr result (λ e. IfRefused e (λ why. ⊥)) }
         ensures settings { spec.KeepsSettings self.old self.new }
+        ensures no_line { IfErr result (λ e. IfLine e ⊥) }
     {
         self.has_lost = true;
         self.server.lose();
@@ -302,6 +318,7 @@ impl Sides {
         ensures taken_up { IsTakenUp self.new.packets.followed agreed [] self.old.packets.followed.last }
         ensures refused { IfErr result (λ e. IfRefused e (λ why. ⊥)) }
         ensures settings { spec.KeepsSettings self.old self.new }
+        ensures no_line { IfErr result (λ e. IfLine e ⊥) }
     {
         self.has_lost = true;
         self.client.lose();
@@ -323,6 +340,7 @@ impl Sides {
         ensures settings { spec.KeepsSettings self.old self.new }
         ensures loses { PieceLoses result KindName.ALL side piece.now self.old self.new (string_bytes out.old) (string_bytes out.new) }
         ensures text { OnOk result (Stays (string_bytes out.old) (string_bytes out.new)) }
+        ensures no_line { IfErr result (λ e. IfLine e ⊥) }
     {
         if self.passed(side).is_some() {
             self.pass_over(side, piece.len());
@@ -349,6 +367,7 @@ impl Sides {
         ensures settings { spec.KeepsSettings self.old self.new }
         ensures refused { IfErr result (λ e. IfRefused e (λ why. ⊥)) }
         ensures text { OnOk result (Stays (string_bytes out.old) (string_bytes out.new)) }
+        ensures no_line { IfErr result (λ e. IfLine e ⊥) }
     {
         self.await_answer(side, first);
         match came {
@@ -380,6 +399,7 @@ impl Sides {
         ensures settings { spec.KeepsSettings self.old self.new }
         ensures loses { IfOk result (λ came. came ≢ came_as.Whole → PieceLosesIn KindName.ALL side piece.now self.old (string_bytes out.old) (string_bytes out.new)) }
         ensures stays { IfOk result (λ came. Stays (string_bytes out.old) (string_bytes out.new)) }
+        ensures no_line { IfErr result (λ e. IfLine e ⊥) }
     {
         match side {
             Side::Client => {

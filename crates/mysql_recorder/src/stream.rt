@@ -121,7 +121,11 @@ impl Stream {
     }
 
     /// It is in step again.
-    pub(crate) fn take_up(&mut self) {
+    pub(crate) fn take_up(&mut self)
+        ensures passed { self.new.passed ≡ None }
+        ensures held { self.new.reader.held ≡ [] }
+        ensures limit { self.new.reader.limit ≡ self.old.reader.limit }
+    {
         self.passed = None;
         self.unfinished = 0;
         self.reader.expect(0);

@@ -1,14 +1,15 @@
-use Rattle.std.proofs.Common.{Some, None, refl}
+use Rattle.std.proofs.Common.{◌≡◌, ◌∙◌, List, ℕ, Option, Some, None, refl, sym, subst, string_bytes, map}
 use Rattle.mysql_conversation.specs.declared.kind_name.TheConstants.KindName.{ALL}
-use Rattle.mysql_recorder.proofs.Fed.{answered_from}
+use Rattle.mysql_output.specs.Output.{IsWritten}
+use Rattle.mysql_recorder.specs.Answers.{IsAnswered, IsCallAnswered, IsRun, usage}
+use Rattle.mysql_recorder.specs.Calls.{call_of}
+use Rattle.mysql_recorder.specs.declared.program.Call.{Call}
+use Rattle.mysql_recorder.proofs.Fed.{answered_from, bad_call, good_call}
 use Rattle.mysql_recorder.proofs.program.run.Goals as goal
 
 pub returns-in_default : goal.returns-in_default
-returns-in_default g c = record { asked = None; at_most = tt; answered = (refl, c.end.ensures) }
+returns-in_default g c = bad_call ALL (map string_bytes c.args.words.now) _ _ _ _ (sym c.in_default.is ∙ c.call_of.ensures) c.end.ensures
 
 pub returns : goal.returns
-returns g c = record {
-  asked = Some c.in-Some.call;
-  at_most = c.in-Some.ensures;
-  answered = answered_from ALL _ _ _ _ _ _ _ _ _ _ _ c.begun-recording.ensures.longest c.begun-recording.ensures.recorded c.show.ensures.answer;
-}
+returns g c = good_call ALL (map string_bytes c.args.words.now) c.in-Some.call _ _ _ _ _ (sym c.in-Some.is ∙ c.call_of.ensures)
+    (answered_from ALL _ _ _ _ _ _ _ _ _ _ _ c.begun-recording.ensures.longest c.begun-recording.ensures.recorded c.show.ensures.answer)

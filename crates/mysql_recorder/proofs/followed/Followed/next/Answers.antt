@@ -7,12 +7,13 @@ use Rattle.mysql_conversation.specs.declared.kind.Kind.{Kind}
 use Rattle.mysql_conversation.specs.declared.pipeline.Refusal.{Refusal}
 use Rattle.mysql_conversation.specs.declared.pipeline.Refusal.TheVariants as refusal
 use Rattle.mysql_recorder.specs.Followed.{IsFollowed}
+use Rattle.mysql_recorder.proofs.Wholes.{highest_now}
 use Rattle.mysql_recorder.proofs.followed.Followed.next.Goals as goal
 
 pub returns-clause-taken : goal.returns-clause-taken
 returns-clause-taken c = λ items h.
     let e : c.saturating_add-exchange.result ≡ c.in_ok-kind.number = omega (arith, h.1, c.saturating_add-exchange.ensures) in
-    c.pass_request.ensures.followed (items ++ place c.args.side c.args.payload.now c.in_ok-kind.kind c.saturating_add-exchange.result ∷ []) (rw e (c.in_ok-kind.ensures.taken items h.0, h.1))
+    c.pass_request.ensures.followed (items ++ place c.args.side c.args.payload.now c.in_ok-kind.kind c.saturating_add-exchange.result ∷ []) (rw e (c.in_ok-kind.ensures.taken items h.0, h.1, highest_now items (place c.args.side c.args.payload.now c.in_ok-kind.kind c.in_ok-kind.number) c.args.self.now.last c.max-self.result h.2 (omega (arith, e, c.max-self.ensures))))
 
 pub returns-in_err-kind-clause-refused : goal.returns-in_err-kind-clause-refused
 returns-in_err-kind-clause-refused c =

@@ -21,12 +21,12 @@ returns-in_ok-show-in-Ok-clause-shown c = λ e items h. (
 pub returns-in-Err-clause-lost : goal.returns-in-Err-clause-lost
 returns-in-Err-clause-lost c =
     refused_ok ALL c.args.self.now.layout c.args.self.now.followed c.next.new.self c.args.side c.args.sequence c.args.payload.now c.in-Err.why (string_bytes c.args.out.now) (string_bytes c.refuse.new.out)
-    c.in-Err.ensures.err (λ items kind number. c.in-Err.ensures.refused items kind number) c.refuse.result c.refuse.ensures.ok
+    c.in-Err.ensures.err (λ items kind number. c.in-Err.ensures.refused items kind number) c.in-Err.ensures.reason c.refuse.result c.refuse.ensures.ok
 
 pub returns-in-Err-clause-refused : goal.returns-in-Err-clause-refused
 returns-in-Err-clause-refused c =
     refused_err ALL c.args.self.now.layout c.args.self.now.followed c.next.new.self c.args.side c.args.sequence c.args.payload.now c.in-Err.why (string_bytes c.args.out.now) (string_bytes c.refuse.new.out)
-    c.in-Err.ensures.err (λ items kind number. c.in-Err.ensures.refused items kind number) c.refuse.result c.refuse.ensures.err
+    c.in-Err.ensures.err (λ items kind number. c.in-Err.ensures.refused items kind number) c.in-Err.ensures.reason c.refuse.result c.refuse.ensures.err
 
 pub returns-in_ok-show-in-Ok-clause-stays : goal.returns-in_ok-show-in-Ok-clause-stays
 returns-in_ok-show-in-Ok-clause-stays c = appended_stays c.args.self.now.layout _ (string_bytes c.args.out.now) (string_bytes c.show.new.out) c.in_ok-show-in-Ok.ensures.ok

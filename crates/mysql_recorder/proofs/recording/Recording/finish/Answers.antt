@@ -43,3 +43,6 @@ returns-in_err-end_line-clause-refused c =
     subst (λ r. IfErr r (λ e. TextStops ALL c.args.self.now e (string_bytes c.args.out.now) (string_bytes c.end_line.new.out))) (sym p.1)
     (subst (λ e. TextStops ALL c.args.self.now e (string_bytes c.args.out.now) (string_bytes c.end_line.new.out)) same
     (text_stops (Err c.in_err-end_line.field-0.0) ALL c.args.self.now (string_bytes c.args.out.now) (string_bytes c.end_line.new.out) c.in_err-end_line.ensures.refused))
+
+pub returns-clause-left : goal.returns-clause-left
+returns-clause-left c = (string_bytes c.end_line.new.out, c.in_ok-end_line.ensures.text, c.in_ok-say_unheard.ensures.left)

@@ -1,6 +1,7 @@
-use Rattle.std.proofs.Common.{◌≡◌, true, take, Ok, string_bytes}
+use Rattle.std.proofs.Common.{◌≡◌, true, take, Ok, Some, string_bytes}
 use Rattle.mysql_conversation.specs.declared.kind_name.TheConstants.KindName.{ALL}
 use Rattle.mysql_fields.specs.Entries.{Stays}
+use Rattle.mysql_recorder.specs.Lines.{place_after}
 use Rattle.mysql_recorder.specs.Losses.{Loses}
 use Rattle.mysql_recorder.specs.Recorded.{GoesOn, has_lost, has_sums, is_deciphered, layout, longest, may_wait}
 use Rattle.mysql_recorder.proofs.recording.Recording.take.Given as goal
@@ -15,5 +16,6 @@ invariant-loop-byte l = record {
   deciphered : is_deciphered l.self ≡ is_deciphered l.fn.self;
   sums : has_sums l.self ≡ has_sums l.fn.self;
   loses : Loses (Ok tt) ALL (take l.byte-index l.input) l.fn.self l.self (string_bytes l.fn.out) (string_bytes l.out);
+  place : place_after l.fn.self.place (take l.byte-index l.input) ≡ Some l.self.place;
   text : Stays (string_bytes l.fn.out) (string_bytes l.out);
 }

@@ -1,0 +1,78 @@
+-- Where a stream is in step again, and what is said of one that isn't.
+use Rattle.std.specs.Prelude.{◌≡◌, ℕ, ◌+◌, ◌-◌, ◌^◌, ◌==◌, ◌||◌, ◌&&◌, min, nat_lt, not, Bool, true, false, List, [], ◌∷◌, ◌++◌, Option, Some, None, is_some, codes, if◌then◌else◌}
+use Rattle.std.specs.Str.{bytes_eq}
+use Rattle.mysql_conversation.specs.declared.kind.Side.{Side}
+use Rattle.mysql_conversation.specs.declared.kind.Side.TheVariants.{Client, Server}
+use Rattle.mysql_fields.specs.Entries.{name_of_side, sign_of}
+use Rattle.mysql_fields.specs.FieldObject.{object_line}
+use Rattle.mysql_fields.specs.FieldText.{lines_of}
+use Rattle.mysql_fields.specs.Fields.{Said, said, Number, Word}
+use Rattle.mysql_fields.specs.declared.entry.Layout.{Layout}
+use Rattle.mysql_fields.specs.declared.entry.Layout.TheVariants as layouts
+use Rattle.mysql_wire.specs.ServerCommand.{server_command_of}
+use Rattle.mysql_recorder.specs.Frames.{is_side}
+use Rattle.mysql_recorder.specs.Sides.{has_lost, layout, passed_of}
+use Rattle.mysql_recorder.specs.declared.sides.Sides.{Sides}
+
+-- ---- in step again
+
+-- a line begins with a command: a frame with the number 0, which is not empty, and whose first byte is a command's
+abbrev pub begins_command : List ℕ → Bool
+begins_command (low ∷ middle ∷ high ∷ number ∷ code ∷ line) = (number == 0) && (not (low == 0 && (middle == 0 && high == 0)) && is_some (server_command_of code))
+begins_command _ = false
+
+-- a line begins with a frame of this number
+abbrev pub begins_with : ℕ → List ℕ → Bool
+begins_with number (a ∷ b ∷ c ∷ first ∷ line) = first == number
+begins_with number _ = false
+
+abbrev pub answers : Option ℕ → List ℕ → Bool
+answers None line = false
+answers (Some number) line = begins_with number line
+
+-- a line begins as the next exchange of its stream must: the client's with a command, the server's with the frame that answers it
+abbrev pub begins : Side → Sides → List ℕ → Bool
+begins Client s line = begins_command line
+begins Server s line = answers s.answer line
+
+-- where a stream is out of step and the line begins so, it is in step now; else it stays as it is
+abbrev pub StepsIn : Side → List ℕ → Sides → Sides → Type 0
+StepsIn side line old new = (begins side old line ≡ true → passed_of side new ≡ None) × (begins side old line ≡ false → passed_of side new ≡ passed_of side old)
+
+-- ---- remarks
+
+abbrev pub remark_head : Side → (exchange : ℕ) → (kind : List ℕ) → List Said
+remark_head side exchange kind =
+    said (codes "side") (Word (name_of_side side)) ∷ said (codes "exchange") (Number exchange) ∷ said (codes "kind") (Word kind) ∷ []
+
+-- what is said of a side's stream between its packets
+abbrev pub remark_text : Layout → Side → (exchange : ℕ) → (kind : List ℕ) → List Said → List ℕ
+remark_text layouts.Lines side exchange kind fields = (sign_of side ++ (codes " " ++ (kind ++ codes "\n"))) ++ lines_of fields
+remark_text layouts.Json side exchange kind fields = object_line (remark_head side exchange kind) fields
+
+-- the exchange that came last; where the client's stream is taken up, the one that begins
+abbrev pub exchange_after : (is_next : Bool) → ℕ → ℕ
+exchange_after true last = min (last + 1) (2 ^ 64 - 1)
+exchange_after false last = last
+
+abbrev pub remark_exchange : (kind : List ℕ) → Side → ℕ → ℕ
+remark_exchange kind side last = exchange_after (bytes_eq kind (codes "taken_up") && is_side Client side) last
+
+-- how many bytes of a stream were passed over
+abbrev pub passed_over : ℕ → List Said
+passed_over count = said (codes "passed_over") (Number count) ∷ []
+
+abbrev pub passed_text : Sides → (kind : List ℕ) → Side → ℕ → List ℕ
+passed_text s kind side count = remark_text (layout s) side (remark_exchange kind side s.packets.followed.last) kind (passed_over count)
+
+-- of a stream that is still out of step; nothing is said where nothing is lost and nothing was passed over
+abbrev pub left_of : Sides → Side → Option ℕ → List ℕ
+left_of s side None = []
+left_of s side (Some count) = if has_lost s || nat_lt 0 count then passed_text s (codes "not_taken_up") side count else []
+
+abbrev pub left_text : Side → Sides → List ℕ
+left_text side s = left_of s side (passed_of side s)
+
+-- what is said of both at the end, the client's first
+abbrev pub SaysLeft : Sides → (old new : List ℕ) → Type 0
+SaysLeft s old new = new ≡ (old ++ left_text Client s) ++ left_text Server s
