@@ -32,7 +32,10 @@ pub(crate) fn client_fields<'p>(
 }
 
 /// How many bytes there are.
-pub(crate) fn append_length<'p>(bytes: &[u8], fields: &mut Vec<Field<'p>>) -> Result<(), AllocError> {
+pub(crate) fn append_length<'p>(
+    bytes: &[u8],
+    fields: &mut Vec<Field<'p>>,
+) -> Result<(), AllocError> {
     Ok(fields.push(Field::number("length", bytes.len() as u64))?)
 }
 

@@ -14,9 +14,11 @@ returns-in_ok-push-in-Some c =
     let f = added base _ c.push-4.new.self.items c.push-5.new.self.items c.bytes.result _ e c.in_ok-push-5.ensures.items (c.bytes.ensures.value ∙ ap (λ n. said (codes "user") (Bytes n)) c.user.ensures.value) in
     let g = added base _ c.push-5.new.self.items c.push-6.new.self.items c.optional_bytes.result _ f c.in_ok-push-6.ensures.items (c.optional_bytes.ensures.value ∙ ap (λ n. said (codes "db_name") (optional Bytes n)) c.db_name.ensures.value) in
     let h = added base _ c.push-6.new.self.items c.push-7.new.self.items c.optional_bytes-2.result _ g c.in_ok-push-7.ensures.items c.optional_bytes-2.ensures.value in
-    let z = added base _ c.push-7.new.self.items c.push-in-Some.new.self.items c.number-in-Some.result _ h c.in_ok-push-in-Some.ensures.items (c.number-in-Some.ensures.value ∙ ap (λ n. said (codes "zstd_level") (Number n)) c.from-in-Some.ensures) in
-    (option_map (λ s. s.now) c.auth_plugin_name.result, plugin_is c.auth_plugin_name.result ∙ c.auth_plugin_name.ensures.value,
-    z ∙ ap (λ level. base ++ (login_head c.args.login.now (option_map (λ s. s.now) c.auth_plugin_name.result) ++ zstd_fields level)) (sym c.in-Some.is ∙ c.zstd_level.ensures.value))
+    let z = added base _ c.push-7.new.self.items c.push-in-Some.new.self.items c.number-in-Some.result _ h c.in_ok-push-in-Some.ensures.items (c.number-in-Some.ensures.value ∙ ap (λ n. said (codes "zstd_level") (Number n)) c.from-in-Some.ensures) in (
+      option_map (λ s. s.now) c.auth_plugin_name.result,
+      plugin_is c.auth_plugin_name.result ∙ c.auth_plugin_name.ensures.value,
+      z ∙ ap (λ level. base ++ (login_head c.args.login.now (option_map (λ s. s.now) c.auth_plugin_name.result) ++ zstd_fields level)) (sym c.in-Some.is ∙ c.zstd_level.ensures.value),
+    )
 
 pub returns-in-None : goal.returns-in-None
 returns-in-None c =
@@ -27,6 +29,8 @@ returns-in-None c =
     let e = added base _ c.push-3.new.self.items c.push-4.new.self.items c.number-4.result _ d c.in_ok-push-4.ensures.items (c.number-4.ensures.value ∙ ap (λ n. said (codes "mariadb_ext_capabilities") (Number n)) (c.from-4.ensures ∙ c.bits-2.ensures tt ∙ ap (λ f. f.0) c.mariadb_ext_capabilities.ensures.value)) in
     let f = added base _ c.push-4.new.self.items c.push-5.new.self.items c.bytes.result _ e c.in_ok-push-5.ensures.items (c.bytes.ensures.value ∙ ap (λ n. said (codes "user") (Bytes n)) c.user.ensures.value) in
     let g = added base _ c.push-5.new.self.items c.push-6.new.self.items c.optional_bytes.result _ f c.in_ok-push-6.ensures.items (c.optional_bytes.ensures.value ∙ ap (λ n. said (codes "db_name") (optional Bytes n)) c.db_name.ensures.value) in
-    let h = added base _ c.push-6.new.self.items c.push-7.new.self.items c.optional_bytes-2.result _ g c.in_ok-push-7.ensures.items c.optional_bytes-2.ensures.value in
-    (option_map (λ s. s.now) c.auth_plugin_name.result, plugin_is c.auth_plugin_name.result ∙ c.auth_plugin_name.ensures.value,
-    h ∙ ap (λ level. base ++ (login_head c.args.login.now (option_map (λ s. s.now) c.auth_plugin_name.result) ++ zstd_fields level)) (sym c.in-None.is ∙ c.zstd_level.ensures.value))
+    let h = added base _ c.push-6.new.self.items c.push-7.new.self.items c.optional_bytes-2.result _ g c.in_ok-push-7.ensures.items c.optional_bytes-2.ensures.value in (
+      option_map (λ s. s.now) c.auth_plugin_name.result,
+      plugin_is c.auth_plugin_name.result ∙ c.auth_plugin_name.ensures.value,
+      h ∙ ap (λ level. base ++ (login_head c.args.login.now (option_map (λ s. s.now) c.auth_plugin_name.result) ++ zstd_fields level)) (sym c.in-None.is ∙ c.zstd_level.ensures.value),
+    )
