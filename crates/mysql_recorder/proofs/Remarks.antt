@@ -13,7 +13,7 @@ use Rattle.mysql_recorder.specs.declared.sides.Sides.{Sides}
 
 -- what is said of a stream that is out of step
 pub left_is : (s : Sides) (side : Side) (count : ℕ) → passed_of side s ≡ Some count → s.has_lost || nat_lt 0 count ≡ true → left_text side s ≡ passed_text s (codes "not_taken_up") side count
-left_is s side count is told = ap (λ o. left_of s side o) is ∙ ap (λ b. if b then passed_text s (codes "not_taken_up") side count else []) told
+left_is s side count is said = ap (λ o. left_of s side o) is ∙ ap (λ b. if b then passed_text s (codes "not_taken_up") side count else []) said
 
 pub is_told : (b : Bool) (count : ℕ) → (b ≡ true) ⊎ ((b ≡ false) × (0 < count)) → b || nat_lt 0 count ≡ true
 is_told true count h = refl

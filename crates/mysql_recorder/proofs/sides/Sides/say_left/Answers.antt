@@ -4,6 +4,6 @@ use Rattle.mysql_recorder.proofs.sides.Sides.say_left.Goals as goal
 
 pub returns-in-Some-clause-text : goal.returns-in-Some-clause-text
 returns-in-Some-clause-text c =
-    let told = is_told c.args.self.now.has_lost c.in-Some.passed c.if-passed-gt0.either in
+    let said = is_told c.args.self.now.has_lost c.in-Some.passed c.if-passed-gt0.either in
     subst (λ t. OnOk c.say_passed.result (string_bytes c.say_passed.new.out ≡ string_bytes c.args.out.now ++ t))
-    (sym (left_is c.args.self.now c.args.side c.in-Some.passed (sym c.passed.ensures ∙ c.in-Some.is) told)) c.say_passed.ensures.text
+    (sym (left_is c.args.self.now c.args.side c.in-Some.passed (sym c.passed.ensures ∙ c.in-Some.is) said)) c.say_passed.ensures.text
