@@ -25,7 +25,7 @@ call bench_statements_read, bench_statements_written, bench_columns_read, bench_
     bench_ok_packets_sent, bench_rows_sent, bench_text_rows_sent, bench_executions_received,
     bench_handshakes_read, bench_handshakes_written, bench_responses_written, bench_registrations_written, bench_gtid_dumps_read,
     bench_gtid_dumps_written, bench_packets_passed, bench_payloads_found, bench_payloads_joined, bench_payloads_framed, bench_rows_distinguished,
-    bench_exchanges_followed, bench_text_rows_streamed;
+    bench_exchanges_followed, bench_text_rows_streamed, bench_text_rows_in_session, bench_text_rows_observed, bench_exchanges_observed;
 
 struct batch {
     uint8_t *bytes;
@@ -471,6 +471,9 @@ static const struct operation {
     { "exchanges_passed", 10000, "two payloads in a batch, passed", put_exchange, bench_packets_passed },
     { "exchanges_followed", 10000, "query and its OK packet, distinguished", put_exchange, bench_exchanges_followed },
     { "text_rows_streamed", 10000, "text row of 10 columns, from a stream to its values", put_framed_row, bench_text_rows_streamed },
+    { "text_rows_in_session", 10000, "text row of 10 columns, from a stream to its values, by a session", put_framed_row, bench_text_rows_in_session },
+    { "text_rows_observed", 10000, "text row of 10 columns, from a stream to its values, by an observer", put_framed_row, bench_text_rows_observed },
+    { "exchanges_observed", 10000, "query and its OK packet, read by an observer", put_exchange, bench_exchanges_observed },
 };
 
 __attribute__((noinline)) uint64_t measured(call *run, const struct batch *batch)

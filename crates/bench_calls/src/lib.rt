@@ -9,6 +9,7 @@ mod columns;
 mod errors;
 mod executions;
 mod handshakes;
+mod observed;
 mod ok_packets;
 mod packets;
 mod replication;

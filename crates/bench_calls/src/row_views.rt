@@ -31,7 +31,13 @@ fn binary(alloc: Global, columns: &[Column], packet: &[u8]) -> Result<u64, Fault
 
 #[inline(always)]
 pub(crate) fn text(alloc: Global, packet: &[u8]) -> Result<u64, Fault> {
-    let mut row = TextRowView::new(10, ParseBuf::new(alloc, packet));
+    sum_of_text(TextRowView::new(10, ParseBuf::new(alloc, packet)))
+}
+
+/// A sum over the values of a row.
+#[inline(always)]
+pub(crate) fn sum_of_text(row: TextRowView<'_>) -> Result<u64, Fault> {
+    let mut row = row;
     let mut sum = 0u64;
     while let Some(value) = row.next_value()? {
         sum = sum.wrapping_add(part(value));

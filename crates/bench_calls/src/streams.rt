@@ -9,7 +9,7 @@ use mysql_wire::{CapabilityFlags, Fault, Flags, MariadbCapabilities};
 use std::alloc::Global;
 
 /// The longest payload that is joined.
-const LIMIT: usize = 1 << 30;
+pub(crate) const LIMIT: usize = 1 << 30;
 
 /// How many bytes come at a time: what a TCP segment carries over Ethernet.
 const SEGMENT: usize = 1460;
@@ -98,7 +98,7 @@ pub extern "C" fn bench_payloads_framed(alloc: Global, batch: &[u8]) -> u64 {
 
 /// What keeps a stream from being read.
 #[derive(Clone, Copy, Debug)]
-enum Wrong {
+pub(crate) enum Wrong {
     Frame,
     Packet,
     Value,

@@ -1,5 +1,0 @@
-use Rattle.std.proofs.Common.{◌≡◌}
-use Rattle.bench_calls.proofs.row_views.text.Given as goal
-
-abbrev pub decreases-loop-value : goal.decreases-loop-value
-decreases-loop-value l = l.row.left
