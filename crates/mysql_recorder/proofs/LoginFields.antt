@@ -1,5 +1,5 @@
 -- Fields that are added one after another.
-use Rattle.std.proofs.Common.{◌≡◌, ◌∙◌, ℕ, List, [], ◌∷◌, ◌++◌, Option, Some, None, option_map, append_assoc, ap, refl, sym, Bor}
+use Rattle.std.proofs.Common.{◌≡◌, ◌∙◌, ℕ, List, [], ◌∷◌, ◌++◌, Option, Some, None, option_map, append_assoc, ap, refl, Bor}
 use Rattle.mysql_auth.specs.AuthPlugin.{plugin_of}
 use Rattle.mysql_fields.specs.Fields.{Said}
 

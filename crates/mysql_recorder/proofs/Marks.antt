@@ -1,7 +1,7 @@
 -- Marks of missing bytes.
-use Rattle.std.proofs.Common.{◌≡◌, inl, inr, ℕ, ◌+◌, ◌*◌, ◌-◌, ◌^◌, ◌%◌, ◌<◌, ◌≤◌, zero, suc, List, [], ◌∷◌, ◌++◌, length, drop, slice_index, arith, refl, sym, ap, subst, ◌∙◌}
+use Rattle.std.proofs.Common.{◌≡◌, ℕ, ◌+◌, ◌*◌, ◌-◌, ◌^◌, ◌%◌, ◌<◌, ◌≤◌, zero, suc, List, [], ◌∷◌, length, drop, slice_index, arith, sym, ap, subst, ◌∙◌}
 use Rattle.std.proofs.Math.Nat.{pow-le-pow_right}
-use Rattle.mysql_recorder.specs.Marks.{BeginsWithDigits, EndsDigits, IsDecimalDigit, IsMarkOf, mark_end, number_at}
+use Rattle.mysql_recorder.specs.Marks.{BeginsWithDigits, EndsDigits, IsMarkOf, mark_end, number_at}
 
 -- what is shorter is after a digit at least
 some_digits : (n : ℕ) (text : List ℕ) → length (drop n text) < length text → 1 ≤ n

@@ -13,7 +13,7 @@ use Rattle.mysql_conversation.specs.declared.pipeline.Refusal.{Refusal}
 use Rattle.mysql_conversation.specs.declared.pipeline.Refusal.TheVariants as refusal
 use Rattle.mysql_conversation.specs.declared.session.Session.{Session}
 use Rattle.mysql_recorder.specs.Followed.{IsWhole}
-use Rattle.mysql_recorder.specs.Reasons.{IsPipeReason, IsReason, IsReasonOf, IsRefusedFor}
+use Rattle.mysql_recorder.specs.Reasons.{IsReasonOf, IsRefusedFor}
 use Rattle.mysql_recorder.specs.declared.followed.Connection.{Connection}
 use Rattle.mysql_recorder.specs.declared.followed.Connection.TheVariants as connection
 

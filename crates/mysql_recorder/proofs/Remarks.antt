@@ -1,5 +1,5 @@
 -- Remarks on a stream.
-use Rattle.std.proofs.Common.{◌≡◌, ◌⊎◌, ◌<◌, inl, inr, arith, ◌∙◌, ◌||◌, ◌++◌, ◌∷◌, ℕ, true, false, nat_lt, Option, Some, codes, refl, ap, sym, subst, Bool, if◌then◌else◌, List, [], Result, Ok, Err, OnOk}
+use Rattle.std.proofs.Common.{◌≡◌, ◌⊎◌, ◌<◌, inl, inr, arith, ◌∙◌, ◌||◌, ◌++◌, ◌∷◌, ℕ, true, false, nat_lt, Some, codes, refl, ap, Bool, if◌then◌else◌, List, [], Result, Ok, Err, OnOk}
 use Rattle.std.proofs.lemmas.Grind.{common_steps}
 use Rattle.mysql_conversation.specs.declared.kind.Side.{Side}
 use Rattle.mysql_fields.specs.Entries as entries

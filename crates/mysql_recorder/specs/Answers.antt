@@ -1,5 +1,5 @@
 -- What the program makes of a recording.
-use Rattle.std.specs.Prelude.{◌≡◌, ◌≤◌, ◌⊎◌, ℕ, OnSome, Bool, true, false, List, [], ◌++◌, Option, Some, None, Result, OnOk, Ok, IfErr, MatchResult, codes}
+use Rattle.std.specs.Prelude.{◌≡◌, ◌⊎◌, ℕ, Bool, true, false, List, [], ◌++◌, Option, Some, None, Result, OnOk, Ok, IfErr, MatchResult, codes}
 use Rattle.std.specs.Io.KnownBytes.{Appends, Consumes, IsAtEnd}
 use Rattle.mysql_conversation.specs.declared.kind_name.KindName.{KindName}
 use Rattle.mysql_conversation.specs.declared.pipeline.Refusal.{Refusal}

@@ -8,6 +8,7 @@ ghost use Rattle.mysql_recorder.specs.Followed.{IsAtRest, IsFollowed, IsTakenUp,
 ghost use Rattle.mysql_recorder.specs.Entries.{entry_as};
 ghost use Rattle.mysql_conversation.specs.declared.kind_name.KindName as names_of;
 ghost use Rattle.mysql_conversation.specs.declared.pipeline.Refusal as refusals;
+ghost use Rattle.mysql_recorder.specs.Reasons.{IsReasonOf};
 ghost use Rattle.mysql_recorder.specs.Refused.{ShowsRefused, expected_fields, refusal_text};
 ghost use Rattle.mysql_recorder.specs.Refusals.{AppendsRefused, Expects, IfLine, IfRefused, Refuses};
 ghost use Rattle.mysql_recorder.specs.Shown.{Appends};
@@ -225,6 +226,8 @@ impl Packets {
             → (why : refusals.Refusal) × ShowsRefused KindName.ALL self.old.layout side sequence payload.now items why (string_bytes out.old) (string_bytes out.new)) }
         ensures refused { IfErr result (λ e. (items : List Numbered) → IsFollowed self.old.followed items
             → IfRefused e (λ why. ShowsRefused KindName.ALL self.old.layout side sequence payload.now items why (string_bytes out.old) (string_bytes out.new))) }
+        // Also of a connection that is taken up amid it:
+        ensures reason { IfErr result (λ e. IfRefused e (λ why. IsReasonOf self.old.followed.connection side payload.now why)) }
         ensures stays { IfOk result (λ taken. Stays (string_bytes out.old) (string_bytes out.new)) }
         ensures layout { self.new.layout ≡ self.old.layout }
         ensures may_wait { may_wait self.new.followed ≡ may_wait self.old.followed }

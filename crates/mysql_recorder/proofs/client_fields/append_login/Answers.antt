@@ -1,5 +1,5 @@
-use Rattle.std.proofs.Common.{◌≡◌, ◌∙◌, ◌++◌, ◌∷◌, [], List, ℕ, Option, Some, None, option_map, append-nil, ap, codes, refl, sym}
-use Rattle.mysql_fields.specs.Fields.{Said, said, optional, Number, Bytes}
+use Rattle.std.proofs.Common.{◌∙◌, ◌++◌, [], option_map, append-nil, ap, codes, sym}
+use Rattle.mysql_fields.specs.Fields.{said, optional, Number, Bytes}
 use Rattle.mysql_recorder.specs.LoginFields.{login_head, zstd_fields}
 use Rattle.mysql_recorder.proofs.LoginFields.{added, plugin_is}
 use Rattle.mysql_recorder.proofs.client_fields.append_login.Goals as goal

@@ -1,9 +1,5 @@
-use Rattle.std.proofs.Common.{◌≡◌, ◌∙◌, List, ℕ, Option, Some, None, refl, sym, subst, string_bytes, map}
+use Rattle.std.proofs.Common.{◌∙◌, sym, string_bytes, map}
 use Rattle.mysql_conversation.specs.declared.kind_name.TheConstants.KindName.{ALL}
-use Rattle.mysql_output.specs.Output.{IsWritten}
-use Rattle.mysql_recorder.specs.Answers.{IsAnswered, IsCallAnswered, IsRun, usage}
-use Rattle.mysql_recorder.specs.Calls.{call_of}
-use Rattle.mysql_recorder.specs.declared.program.Call.{Call}
 use Rattle.mysql_recorder.proofs.Fed.{answered_from, bad_call, good_call}
 use Rattle.mysql_recorder.proofs.program.run.Goals as goal
 

@@ -1,4 +1,4 @@
-use Rattle.std.proofs.Common.{◌≡◌, ◌∙◌, ◌||◌, ◌++◌, OnOk, true, nat_lt, arith, sym, subst, string_bytes}
+use Rattle.std.proofs.Common.{◌≡◌, ◌∙◌, ◌++◌, OnOk, sym, subst, string_bytes}
 use Rattle.mysql_recorder.proofs.Remarks.{is_told, left_is}
 use Rattle.mysql_recorder.proofs.sides.Sides.say_left.Goals as goal
 

@@ -1,4 +1,4 @@
-use Rattle.std.proofs.Common.{◌∷◌, [], ap, codes, string_bytes}
+use Rattle.std.proofs.Common.{◌∷◌, [], ap, string_bytes}
 use Rattle.mysql_recorder.specs.Steps.{remark_exchange}
 use Rattle.mysql_recorder.proofs.Remarks.{passed_appended}
 use Rattle.mysql_recorder.proofs.sides.Sides.say_passed.Goals as goal
