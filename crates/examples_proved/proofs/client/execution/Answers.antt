@@ -1,9 +1,8 @@
-use Rattle.std.proofs.Common.{Bool, ◌≡◌, ◌++◌, ◌<◌, ◌+◌, ◌^◌, List, ℕ, None, Ok, [], false, true, length, refl, sym, subst, ap, arith}
+use Rattle.std.proofs.Common.{Bool, ◌≡◌, ◌++◌, None, Ok, [], true, sym, subst, ap, arith}
 use Rattle.std.proofs.lemmas.List.{length-map}
 use Rattle.mysql_packets.specs.Execution.{Execution}
-use Rattle.mysql_packets.specs.ExecuteHead.{cursor_flags, head_without_cursor}
+use Rattle.mysql_packets.specs.ExecuteHead.{head_without_cursor}
 use Rattle.mysql_packets.specs.ExecuteRead as read
-use Rattle.mysql_packets.specs.ExecuteWithOptions as request
 use Rattle.mysql_packets.specs.ReadAgain.{KnowsAll, bytes_after_head, params_as_read}
 use Rattle.mysql_packets.specs.SentParam.{sent_param, sent_params}
 use Rattle.examples_proved.proofs.client.execution.Goals as goal
