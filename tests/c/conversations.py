@@ -62,7 +62,7 @@ def first_difference(packets, sent):
             found = ours.next(packet.side, packet.payload)
             if found != kind:
                 return f"packet {at} is {found}, and {kind} by the second tracker"
-        elif kind == "login":
+        elif kind == "login" and not session.before:
             ours = Conversation(packets, session)
         if kind is None:
             break
