@@ -226,7 +226,7 @@ recorded $'> 010000000e\n< 5b33206279746573206d697373696e6720696e206361707475726
 recorded $'> 010000000e\n< 010000ff00\n< 0700000100000002000000\n' 'a line of the server that is no answer' 0 \
     $'> 0 command\ncommand: COM_PING\n< taken_up\npassed_over: 5\n< 1 ok\naffected_rows: 0\nlast_insert_id: none\nstatus_flags: 2\nwarnings: 0\ninfo: none\n' caps=0200
 recorded $'> 010000000e\n< 0100000100\n< 0700000100000002000000\n' 'nothing to be taken up at' 1 \
-    $'> 0 command\ncommand: COM_PING\n< 1 refused\nbegins: x00\nrefused: Unexpected\nexpected: command\nexpected: ok\nexpected: error\nexpected: eof\n> not_taken_up\npassed_over: 0\n< not_taken_up\npassed_over: 11\n' caps=0200
+    $'> 0 command\ncommand: COM_PING\n< 1 refused\nbegins: x00\nrefused: Unexpected\nexpected: command\nexpected: ok\nexpected: error\n> not_taken_up\npassed_over: 0\n< not_taken_up\npassed_over: 11\n' caps=0200
 recorded '< 0100000' 'half a byte at the end' 0 ''
 recorded '< 01x0' 'a line that is none' 1 $'refused: InvalidInput\n'
 recorded '! 00' 'another sign' 1 $'refused: InvalidInput\n'
