@@ -3,6 +3,7 @@
 broken, held to a second tracker and a second decoder that take up the streams where docs/PROGRAM.md says.
 
 lossy.py             asks the program that rt ci leaves
+lossy.py --rounds N  the same, and N times as many recordings again, of which something is lost twice (84 rounds are 100,000)
 lossy.py --unproved  asks the program without proof, of every tenth of them
 The last line is 'N passed, N failed'."""
 import random
@@ -68,6 +69,24 @@ def some_lines():
     yield "commands that wait are lost", start + [(CLIENT, ping * 3), (SERVER, mark(11)), (SERVER, ok), (CLIENT, ping), (SERVER, ok)]
 
 
+def changed_twice(lines, chance):
+    """Recordings of which something is lost in two places."""
+    for name, it in changed(lines, chance):
+        more = [*changed([line for line in it if line[1]], chance)]
+        if more:
+            again, twice = chance.choice(more)
+            yield f"{name}, and {again}", twice
+
+
+def asked_again(number):
+    """The recordings of another round."""
+    for path in sorted(FOLDER.glob("*.xz")):
+        chance = random.Random(f"{path.name} {number}")
+        for name, it in changed_twice(front(path), chance):
+            form = as_lines if chance.random() < 0.5 else as_followed
+            yield f"{path.name}, round {number}: {name}", "--json", form(it), recorded(it)
+
+
 def asked():
     """The recordings: a name, the words, the input, and what is wanted."""
     for path in sorted(FOLDER.glob("*.xz")):
@@ -109,21 +128,31 @@ def compared(wanted, lines):
     return "" if len(lines) == len(wanted) else f"{len(lines)} lines, and {len(wanted)} are wanted"
 
 
-def main(*names):
-    rows, passed, failed, taken_up = list(asked()), 0, 0, 0
-    if names[:1] == ("--unproved",):
-        rows = rows[::10] + rows[-9:]
+def failures(rows, run):
+    """What is wrong of these recordings, and how many streams are taken up."""
+    wrong, taken_up = [], 0
     for words in sorted({it[1] for it in rows}):
         some = [it for it in rows if it[1] == words]
-        run = tried if names[:1] == ("--unproved",) else ran
         for (name, _, _, (wanted, ends)), (lines, status) in zip(some, run(words, [it[2] for it in some]), strict=True):
-            wrong = compared(wanted, lines) or (f"the status is {status}" if status not in (None, ends) else "")
+            why = compared(wanted, lines) or (f"the status is {status}" if status not in (None, ends) else "")
             taken_up += sum(it.get("kind") == "taken_up" for it in wanted)
-            passed, failed = passed + (not wrong), failed + bool(wrong)
-            if wrong:
-                print(f"{name}: {wrong}")
-    print(f"lossy: {len(rows)} recordings, {taken_up} streams taken up")
-    print(f"{passed} passed, {failed} failed")
+            if why:
+                wrong.append(f"{name}: {why}")
+    return wrong, taken_up
+
+
+def main(how="", rounds="0"):
+    count, failed, taken_up = 0, 0, 0
+    for number in range(int(rounds) + 1):
+        rows = list(asked_again(number) if number else asked())
+        if how == "--unproved":
+            rows = rows[::10] + rows[-9:]
+        wrong, found = failures(rows, tried if how == "--unproved" else ran)
+        for it in wrong:
+            print(it)
+        count, failed, taken_up = count + len(rows), failed + len(wrong), taken_up + found
+    print(f"lossy: {count} recordings, {taken_up} streams taken up")
+    print(f"{count - failed} passed, {failed} failed")
     return 1 if failed else 0
 
 
