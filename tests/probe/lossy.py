@@ -66,6 +66,7 @@ def some_lines():
     yield "nothing after it", start + [(SERVER, b"\1\0\0\1\xff"), (SERVER, ok[:5])]
     yield "an answer of another number", start + [(CLIENT, mark(9)), (CLIENT, ping), (SERVER, ok[:3] + b"\3" + ok[4:]), (SERVER, ok), (CLIENT, ping), (SERVER, ok)]
     yield "no answer to a close", start + [(CLIENT, mark(9)), (CLIENT, b"\5\0\0\0\x19\1\0\0\0"), (SERVER, b"left over"), (CLIENT, ping), (SERVER, ok)]
+    yield "the front of a command before a loss", start + [(CLIENT, ping * 2 + b"\5\0\0\0\3"), (SERVER, mark(11)), (SERVER, ok), (CLIENT, b"ping")]
     yield "commands that wait are lost", start + [(CLIENT, ping * 3), (SERVER, mark(11)), (SERVER, ok), (CLIENT, ping), (SERVER, ok)]
 
 

@@ -31,6 +31,8 @@ pub(crate) struct Stream {
     unfinished: u64,
     /// How many bytes are passed over, where it is out of step.
     passed: Option<u64>,
+    /// The number that the frame after the last payload has.
+    number: u8,
 }
 
 impl Stream {
@@ -45,6 +47,7 @@ impl Stream {
             reader: FrameReader::new(alloc, longest),
             unfinished: 0,
             passed: if is_in_step { None } else { Some(0) },
+            number: 0,
         }
     }
 
@@ -62,9 +65,9 @@ impl Stream {
         self.passed.is_none() && self.reader.is_between()
     }
 
-    /// The number that the frame after the last one has.
+    /// The number that the frame after the last payload has: its answer begins with it, also where a part of the next payload came.
     pub(crate) fn number(&self) -> u8 {
-        self.reader.number()
+        self.number
     }
 
     /// Takes the input up to the end of the next payload, or all of it.
@@ -92,6 +95,7 @@ impl Stream {
         match found {
             Some(payload) => {
                 self.unfinished = 0;
+                self.number = self.reader.number();
                 Ok(Some(Sent { sequence, payload }))
             }
             None => Ok(None),
