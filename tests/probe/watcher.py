@@ -275,7 +275,7 @@ class Watcher:
     def command(self, payload):
         """Which statement runs."""
         self.runs, self.due = None, []
-        if payload[0] in (0x17, 0xFA, 0x1C):
+        if payload[:1] in (b"\x17", b"\xfa", b"\x1c"):
             number = int.from_bytes(payload[1:5], "little")
             self.runs = self.last if number == 0xFFFFFFFF else number
 
