@@ -1,7 +1,7 @@
 #!/usr/bin/env python3
 """Holds pages to the code that they quote and name.
 
-The quoted blocks of a file in docs/ADD_A_PACKET.md are the whole file, in order. Each line of the tour in README.md is a
+The quoted blocks of a file in docs/CONTRIBUTING.md are the whole file, in order. Each line of the tour in README.md is a
 line of the file whose calls a row makes, and each line of docs/CALLING.md a line of the proved callers. Each name of docs/PROVED.md stands in the libraries, and each file and type of docs/PROTOCOL.md.
 Each name in the code of any page stands somewhere in the sources.
 
@@ -13,7 +13,7 @@ import subprocess
 import sys
 
 TOP = os.path.dirname(os.path.dirname(os.path.realpath(__file__)))
-PAGE = "docs/ADD_A_PACKET.md"
+PAGE = "docs/CONTRIBUTING.md"
 CRATE = "crates/example_packet"
 BLOCK = re.compile(r"^```\w+ (crates/\S+)\n(.*?)^```$", re.MULTILINE | re.DOTALL)
 TOUR = re.compile(r"^```rust\n(.*?)^```$", re.MULTILINE | re.DOTALL)

@@ -1,4 +1,4 @@
-//! A packet that docs/ADD_A_PACKET.md puts together, step by step.
+//! The example packet of docs/CONTRIBUTING.md.
 #![tactic(auto)]
 
 pub mod laws;
