@@ -14,7 +14,7 @@
  * Each call answers an enum myp_code. After another code than MYP_OK what `out` points to is as it was, unless the call's
  * line says more. A struct keeps its layout: further fields come with a struct and a call of another name.
  *
- * Compile with what `pkg-config --cflags --libs mysql_packets` answers. docs/C.md has the rules of ownership, threads and codes. */
+ * Compile with what `pkg-config --cflags --libs mysql_packets` answers. docs/USING.md has the rules of ownership, threads and codes. */
 #ifndef MYSQL_PACKETS_H
 #define MYSQL_PACKETS_H
 

@@ -2,7 +2,8 @@
 """Holds pages to the code that they quote and name.
 
 The quoted blocks of a file in docs/CONTRIBUTING.md are the whole file, in order. Each line of the tour in README.md is a
-line of the file whose calls a row makes, and each line of docs/CALLING.md a line of the proved callers. Each name of docs/PROVED.md stands in the libraries, and each file and type of docs/PROTOCOL.md.
+line of the file whose calls a row makes, and each line of a block of Rust in docs/USING.md a line of the proved callers, or of the file that
+the block names. Each name of docs/PROVED.md stands in the libraries, and each file and type of docs/PROTOCOL.md.
 Each name in the code of any page stands somewhere in the sources.
 
 quoted_lines.py: the status is 0 where all of this is so.
@@ -19,6 +20,7 @@ BLOCK = re.compile(r"^```\w+ (crates/\S+)\n(.*?)^```$", re.MULTILINE | re.DOTALL
 TOUR = re.compile(r"^```rust\n(.*?)^```$", re.MULTILINE | re.DOTALL)
 TOUR_CALLS = "crates/test_calls/src/tour.rt"
 CALLERS = "crates/examples_proved/src"
+USING = "docs/USING.md"
 
 
 def lines(text):
@@ -54,11 +56,16 @@ def strange_in_the_tour():
 
 
 def strange_in_the_caller():
-    """The lines of docs/CALLING.md that no caller has."""
+    """The lines of Rust in docs/USING.md that no caller has, and those of a block that names a file that this file has not."""
+    page = read(USING)
     names = sorted(os.listdir(f"{TOP}/{CALLERS}"))
     there = {line.strip() for name in names for line in lines(read(f"{CALLERS}/{name}"))}
-    shown = [line.strip() for text in TOUR.findall(read("docs/CALLING.md")) for line in lines(text)]
-    return [line for line in shown if line not in there] if shown else ["(there is no caller)"]
+    shown = [line.strip() for text in TOUR.findall(page) for line in lines(text)]
+    strange = [(CALLERS, line) for line in shown if line not in there] if shown else [(CALLERS, "(there is no caller)")]
+    for path, quotes in quoted(page).items():
+        there = {line.strip() for line in lines(read(path))} if os.path.isfile(f"{TOP}/{path}") else set()
+        strange += [(path, line) for line in quotes if line.strip() not in there]
+    return strange
 
 
 def strange_names(page):
@@ -115,8 +122,8 @@ def main():
     for line in strange:
         print(f"README.md has a line in its tour that {TOUR_CALLS} has not: {line}")
     others = strange_in_the_caller()
-    for line in others:
-        print(f"docs/CALLING.md has a line that no file of {CALLERS} has: {line}")
+    for path, line in others:
+        print(f"{USING} has a line that {path} has not: {line}")
     unknown = [(page, it) for page in ("docs/PROVED.md", "docs/PROTOCOL.md") for it in strange_names(page)]
     for page, name in unknown:
         print(f"{page} names {name}, which no library has")

@@ -1,6 +1,6 @@
 #!/usr/bin/env python3
 """From a capture to packets in one line: a real client and a real server are captured, and the capture is read by the line that
-docs/PROGRAM.md has; and again with a segment of either side taken out of it.
+docs/USING.md has; and again with a segment of either side taken out of it.
 
 capture.py               by the program that rt ci leaves
 capture.py --unproved    by the program without proof

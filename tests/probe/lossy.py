@@ -1,6 +1,6 @@
 #!/usr/bin/env python3
 """`mypackets conversation` where something is lost: recorded conversations of which a line is missing, marked as missing, cut, doubled or
-broken, held to a second tracker and a second decoder that take up the streams where docs/PROGRAM.md says.
+broken, held to a second tracker and a second decoder that take up the streams where docs/USING.md says.
 
 lossy.py             asks the program that rt ci leaves
 lossy.py --rounds N  the same, and N times as many recordings again, of which something is lost twice (84 rounds are 100,000)

@@ -1,4 +1,4 @@
-"""What the program shows of a recording, where something is lost too: the streams are taken up where docs/PROGRAM.md says."""
+"""What the program shows of a recording, where something is lost too: the streams are taken up where docs/USING.md says."""
 import json
 import re
 import sys

@@ -1,4 +1,4 @@
-//! Callers of the library with contracts of their own, which rest on its contracts and laws: `docs/CALLING.md` walks through one.
+//! Callers of the library with contracts of their own, which rest on its contracts and laws: `docs/USING.md` walks through one.
 #![tactic(auto)]
 
 mod audit;
