@@ -139,7 +139,7 @@ static CALL int grow(struct buffer *out, size_t more)
     return 1;
 }
 
-/* Makes the buffer large enough for so many bytes more. */
+/* Makes the buffer large enough for a given number of bytes more. */
 static inline int reserve(struct buffer *out, size_t more)
 {
     return more <= out->capacity - out->len || grow(out, more);
@@ -551,7 +551,7 @@ static CALL int read_ok(struct input packet, uint64_t *sum)
     return 1;
 }
 
-uint64_t bench_ok_packets_read(const uint8_t *bytes, size_t len)
+uint64_t bench_ok_packets_viewed(const uint8_t *bytes, size_t len)
 {
     struct input batch = { bytes, bytes + len }, packet;
     uint64_t sum = 0;
@@ -930,7 +930,7 @@ uint64_t bench_payloads_joined(const uint8_t *bytes, size_t len)
     return sum;
 }
 
-/* Writes a payload as one frame, and returns how many bytes that takes: 0 where there are not so many. */
+/* Writes a payload as one frame, and returns how many bytes that takes: 0 where there are not this many. */
 static inline size_t write_frame(uint8_t *out, size_t size, uint8_t *number, struct input payload)
 {
     size_t len = left(&payload);
@@ -1418,6 +1418,7 @@ uint64_t bench_rows_sent(const uint8_t *bytes, size_t len)
 
 MISSING(bench_columns_read)
 MISSING(bench_columns_written)
+MISSING(bench_ok_packets_read)
 MISSING(bench_ok_packets_sent)
 MISSING(bench_executions_written)
 MISSING(bench_bulk_rows_made)

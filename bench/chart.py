@@ -4,7 +4,7 @@
 chart.py          draws docs/speed.svg
 chart.py --check  compares it with the figures: the status is 1 where it is out of date
 
-It has the operations that have a figure of another version, but for those that are taken off others. Of the two builds of the original it shows the faster one, linked whole."""
+It has the operations that have a figure of another version, except for those that are taken off others. Of the two builds of the original it shows the faster one, linked whole."""
 import re
 import sys
 from html import escape
@@ -52,9 +52,11 @@ def titles():
 def operations():
     """The name of each operation and its figures by version, where there is one to compare with."""
     lines = (TOP / "bench/figures.txt").read_text().splitlines()
-    rows = [it.split() for it in lines if not it.startswith("#") and len(it.split()) == 7]
-    for name, _, _, linked, _, here, hand in rows:
-        if name in [it[4] for it in rows]:
+    rows = [it.split() for it in lines if not it.startswith("#") and len(it.split()) == 6]
+    for name, here, hand, _, linked, _ in rows:
+        if name in [it[5] for it in rows]:
+            continue
+        if here == "-":
             continue
         figures = {"here": here, "hand": hand, "original": linked}
         figures = {version: int(it) for version, it in figures.items() if it != "-"}

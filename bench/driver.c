@@ -18,7 +18,7 @@ typedef uint64_t call(const uint8_t *bytes, size_t len);
 
 call bench_statements_read, bench_statements_written, bench_columns_read, bench_columns_written,
     bench_columns_borrowed, bench_executions_borrowed,
-    bench_ok_packets_read, bench_errors_read, bench_errors_written, bench_rows_read, bench_rows_counted,
+    bench_ok_packets_read, bench_ok_packets_viewed, bench_errors_read, bench_errors_written, bench_rows_read, bench_rows_counted,
     bench_rows_viewed, bench_rows_placed, bench_text_rows_viewed, bench_text_rows_placed,
     bench_executions_written, bench_bulk_rows_made, bench_bulk_rows_written, bench_bulk_rows_offered,
     bench_bulk_rows_offered_refs, bench_bulk_rows_streamed, bench_bulk_rows_iterated,
@@ -320,7 +320,7 @@ static void put_registration(struct batch *batch)
     put_framed(batch, fill_registration);
 }
 
-/* a dump by GTID set, of sids without tags that have so many intervals each */
+/* a dump by GTID set, of sids without tags that have a given number of intervals each */
 static void fill_gtid_dump(struct batch *batch, size_t sids, size_t intervals)
 {
     put_number(batch, 0x1e, 1);
@@ -433,6 +433,7 @@ static const struct operation {
     { "columns_borrowed", 10000, "column, read where it lies", put_column, bench_columns_borrowed },
     { "columns_written", 10000, "column, read and written", put_column, bench_columns_written },
     { "ok_packets_read", 10000, "OK packet, read with its session changes", put_ok_packet, bench_ok_packets_read },
+    { "ok_packets_viewed", 10000, "OK packet, read in place with its session changes", put_ok_packet, bench_ok_packets_viewed },
     { "errors_read", 10000, "error, read", put_error, bench_errors_read },
     { "errors_written", 10000, "error, read and written", put_error, bench_errors_written },
     { "rows_read", 10000, "binary row of 10 columns, read", put_row, bench_rows_read },
@@ -449,7 +450,7 @@ static const struct operation {
     { "executions_borrowed", 10000, "execution of 10 borrowed values, written at once", put_numbers, bench_executions_borrowed },
     { "bulk_rows_made", 1000000, "bulk row, made and dropped", put_bulk_row, bench_bulk_rows_made },
     { "bulk_rows_written", 1000000, "bulk row, made, built into requests and written", put_bulk_row, bench_bulk_rows_written },
-    /* (so many that they go into one request: of several, glibc puts the blocks of one together while the next is made) */
+    /* (enough that they go into one request: of several, glibc puts the blocks of one together while the next is made) */
     { "bulk_rows_iterated", 250000, "bulk row, made, built into a request at a time and written", put_bulk_row, bench_bulk_rows_iterated },
     { "bulk_rows_offered", 250000, "bulk row, made, offered as a slice, built into requests and written", put_bulk_row, bench_bulk_rows_offered },
     { "bulk_rows_offered_refs", 250000, "bulk row, offered as borrowed values, built into requests and written", put_bulk_row, bench_bulk_rows_offered_refs },

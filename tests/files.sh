@@ -21,11 +21,12 @@ expect 'HANDLES holds another line' cmp -s HANDLES <(printf 'Handles allowed: no
 expect 'the table of recorded packets is out of date' tests/captured/versions.py --check
 expect 'a page quotes other lines than the crate has, or names what no library has' tools/quoted_lines.py
 
+expect 'a page is too long, or a public item has no docs that make sense alone' tools/docs.py
 expect 'the chart of instruction counts is out of date' bench/chart.py --check
 
 # Words that no page of the field uses, and what stands for them: untrusted, little-endian, the initial handshake, a mutant, an
 # allocation that fails, passed or shown, after, capacity, to check, EofName, the reference decoder, X_round_trips.
-words='stranger|low (one|byte) first|says first|wrong (body|bodies)|refused growths?|told|behind|room|judge[sd]?|lastname|second reading'
+words='so many|is reckoned|hangs on|but for|stranger|low (one|byte) first|says first|wrong (body|bodies)|refused growths?|told|behind|room|judge[sd]?|lastname|second reading'
 # none_of_them: no file of the repository has one outside of a lemma's name, except for a text that a reader answers
 none_of_them() {
     ! grep -rnIiP --include='*.rt' --include='*.antt' --include='*.edit' --include='*.md' --include='*.py' --include='*.sh' \

@@ -6,9 +6,13 @@ top=$(cd -- "$(dirname -- "${BASH_SOURCE[0]}")/.." && pwd) || exit 1
 work=$(mktemp -d) || exit 1
 trap 'rm -rf -- "$work"' EXIT
 # In a copy of the checkout: beside rt ci, which ./check runs, rt waits in the same one.
-mkdir -- "$work/copy" && tar -C "$top" --exclude='crates/*/out' -cf - HANDLES crates.txt mypackets crates | tar -C "$work/copy" -xf - || exit 1
-mkdir -- "$work/copy/crates/mypackets/out" || exit 1
-[[ ! -x $top/crates/mypackets/out/mypackets ]] || cp -p -- "$top/crates/mypackets/out/mypackets" "$work/copy/crates/mypackets/out/" || exit 1
+mkdir -- "$work/copy" && tar -C "$top" --exclude='crates/*/out' -cf - HANDLES crates.txt mypackets tools/sources.sh crates | tar -C "$work/copy" -xf - || exit 1
+for name in mypackets mypackets_conversation; do
+    mkdir -- "$work/copy/crates/$name/out" || exit 1
+    for it in "$top/crates/$name/out/$name"{,.sources}; do
+        [[ ! -f $it ]] || cp -- "$it" "$work/copy/crates/$name/out/" || exit 1
+    done
+done
 top=$work/copy
 # (from another folder, and by a relative path and by a link, as it may be called)
 mkdir -- "$work/an other folder" && cd -- "$work/an other folder" || exit 1
@@ -80,6 +84,8 @@ statement=$'statement_id: 1\nnum_columns: 1\nnum_params: 2\nwarning_count: 0\nre
 
 "$top/mypackets" >build_output 2>build_errors
 hold 'the first call' "$( (($? == 2)) || cat build_errors)"
+"$top/mypackets" conversation <input >build_output 2>build_errors
+hold 'the first conversation' "$( (($? == 0)) || cat build_errors)"
 if ((failed > 0)); then
     printf '%d passed, %d failed\n' "$passed" "$failed"
     exit 1
@@ -215,18 +221,20 @@ recorded() {
 many='< 17000000ff1004546f6f206d616e7920636f6e6e656374696f6e73'
 asked=$'usage: mypackets conversation [MAX] [caps=CAPS] [mariadb=CAPS] [--deciphered] [--json] [--sum]\n'
 recorded '' 'no recording' 0 ''
-recorded "$many" 'an error in place of the greeting' 0 $'< 0 unasked_error\nerror: 1040\nsql_state: none\nmessage: x546f6f206d616e7920636f6e6e656374696f6e73\n'
+recorded "$many" 'an error in place of the greeting' 0 $'< 0 unsolicited_error\nerror: 1040\nsql_state: none\nmessage: x546f6f206d616e7920636f6e6e656374696f6e73\n'
 recorded $'# a ping\n\n> 0100 0000 0e\r\n< 07000001 00\n< 000002000000\n' 'a connection that is taken up' 0 \
     $'> 0 command\ncommand: COM_PING\n< 1 ok\naffected_rows: 0\nlast_insert_id: none\nstatus_flags: 2\nwarnings: 0\ninfo: none\n' caps=0200
 recorded "$many" 'a payload past the limit' 1 $'refused: TooLong\n' 22
 recorded "$many"$'\n> 010000000e\n' 'a packet that does not come' 1 \
-    $'< 0 unasked_error\nerror: 1040\nsql_state: none\nmessage: x546f6f206d616e7920636f6e6e656374696f6e73\n> 0 refused\nbegins: x0e\nrefused: Unexpected\n'
+    $'< 0 unsolicited_error\nerror: 1040\nsql_state: none\nmessage: x546f6f206d616e7920636f6e6e656374696f6e73\n> 0 refused\nbegins: x0e\nrefused: Unexpected\n'
 recorded $'> 010000000e\n< 5b33206279746573206d697373696e6720696e20636170747572652066696c655d00\n> 07\n> 010000000e\n< 0700000100000002000000\n' 'bytes that are missing' 1 \
-    $'> 0 command\ncommand: COM_PING\n< lost\nmissing: 3\n> taken_up\npassed_over: 1\n> 0 command\ncommand: COM_PING\n< taken_up\npassed_over: 0\n< 1 ok\naffected_rows: 0\nlast_insert_id: none\nstatus_flags: 2\nwarnings: 0\ninfo: none\n' caps=0200
+    $'> 0 command\ncommand: COM_PING\n< lost\nmissing: 3\n> resync\nskipped_bytes: 1\n> 0 command\ncommand: COM_PING\n< resync\nskipped_bytes: 0\n< 1 ok\naffected_rows: 0\nlast_insert_id: none\nstatus_flags: 2\nwarnings: 0\ninfo: none\n' caps=0200
+recorded "> 74000000$dump"$'\n< 0a000001ff150423323830303078\n' 'a dump in a conversation: the names are those of gtid' 0 \
+    $'> 0 command\ncommand: COM_BINLOG_DUMP_GTID\nserver_id: 42\nflags: 4\nfilename: x\npos: 4\n< 1 error\nerror: 1045\nsql_state: x3238303030\nmessage: x78\n' caps=0200
 recorded $'> 010000000e\n< 010000ff00\n< 0700000100000002000000\n' 'a line of the server that is no answer' 0 \
-    $'> 0 command\ncommand: COM_PING\n< taken_up\npassed_over: 5\n< 1 ok\naffected_rows: 0\nlast_insert_id: none\nstatus_flags: 2\nwarnings: 0\ninfo: none\n' caps=0200
+    $'> 0 command\ncommand: COM_PING\n< resync\nskipped_bytes: 5\n< 1 ok\naffected_rows: 0\nlast_insert_id: none\nstatus_flags: 2\nwarnings: 0\ninfo: none\n' caps=0200
 recorded $'> 010000000e\n< 0100000100\n< 0700000100000002000000\n' 'nothing to be taken up at' 1 \
-    $'> 0 command\ncommand: COM_PING\n< 1 refused\nbegins: x00\nrefused: Unexpected\nexpected: command\nexpected: ok\nexpected: error\n> not_taken_up\npassed_over: 0\n< not_taken_up\npassed_over: 11\n' caps=0200
+    $'> 0 command\ncommand: COM_PING\n< 1 refused\nbegins: x00\nrefused: Unexpected\nexpected: command\nexpected: ok\nexpected: error\n> no_resync\nskipped_bytes: 0\n< no_resync\nskipped_bytes: 11\n' caps=0200
 recorded '< 0100000' 'half a byte at the end' 0 ''
 recorded '< 01x0' 'a line that is none' 1 $'refused: InvalidInput\n'
 recorded '! 00' 'another sign' 1 $'refused: InvalidInput\n'
@@ -247,38 +255,68 @@ fewest: yes
 '
 
 # A repository of two libraries, and an rt that builds nothing, for what the first run says.
-mkdir -p -- small/bin small/crates/{mysql_upper,mysql_lower,mypackets}/{src,specs,proofs,out} && cp -- "$top/mypackets" small/
+mkdir -p -- small/bin small/tools small/crates/{mysql_upper,mysql_lower,mypackets}/{src,specs,proofs,out}
+cp -- "$top/mypackets" small/ && cp -- "$top/tools/sources.sh" small/tools/
 printf '%s\n' 'mysql_lower:' 'mysql_upper: mysql_lower  # after the one below it' 'mypackets: mysql_upper kit' 'other: mysql_upper' >small/crates.txt
 printf '%s\n' '#!/bin/sh' 'test "$1" = lib && sleep "${LIB_SECONDS:-0}" && exit "${LIB_STATUS:-0}"' \
-    'printf "#!/bin/sh\necho ran\n" >out/new.$$ && chmod +x out/new.$$ && mv out/new.$$ out/mypackets' \
-    "echo 'usage: mypackets COMMAND ARGS'" 'exit 2' >small/bin/rt
+    'printf "#!/bin/sh\necho ran \"\$@\"\n" >out/new.$$ && chmod +x out/new.$$ && mv out/new.$$ out/mypackets' \
+    'test "$*" = "run -- stmt 00"' >small/bin/rt
+printf '%s\n' stmt 00 >small/crates/mypackets/args
+for it in lower upper; do : >"small/crates/mysql_$it/src/lib.rt"; done
 chmod +x small/bin/rt
-first='mypackets: proves and builds the program and its libraries first, which takes half as long as ./check
+# said WHY OFFERED: what a run says that builds the program
+said() {
+    printf 'mypackets: %s, so it is proved and built first
+mypackets: that takes up to 1 min from nothing on four processors, and less where libraries are proved already
 mypackets: meanwhile ./mypackets --unproved WORDS answers without proof
-mypackets: mysql_lower
-'
-first_run="${first}mypackets: mysql_upper
-mypackets: mypackets
-"
+%smypackets: 1 of 3: mysql_lower
+' "$1" "${2+mypackets: and ./mypackets --built WORDS runs the program as it was built
+}"
+}
+others=$'mypackets: 2 of 3: mysql_upper\nmypackets: 3 of 3: mypackets\n'
+first=$(said 'the program has not been built yet')$'\n'
 PATH=$PWD/small/bin:$PATH
+small/mypackets --built stmt >output 2>errors
+compare 'a program that is not built' 125 '' $'mypackets: the program has not been built yet\n' "$?"
 LIB_STATUS=7 small/mypackets stmt >output 2>errors
 compare 'a first run that builds nothing' 125 '' "${first}mypackets: the program could not be built (rt ended with status 7)
 " "$?"
 small/mypackets stmt >output 2>errors
-compare 'a first run' 0 $'ran\n' "$first_run" "$?"
+compare 'a first run' 0 $'ran stmt\n' "$first$others" "$?"
 small/mypackets stmt >output 2>errors
-compare 'a second run' 0 $'ran\n' '' "$?"
+compare 'a second run' 0 $'ran stmt\n' '' "$?"
+cp -r -- small copied && find copied/crates -name '*.rt' -exec touch -d '+1 hour' {} +
+copied/mypackets stmt >output 2>errors
+compare 'a run in a copy with other file times' 0 $'ran stmt\n' '' "$?"
+echo '// changed' >copied/crates/mysql_upper/src/lib.rt
+copied/mypackets --built stmt >output 2>errors
+compare 'a program of earlier sources' 0 $'ran stmt\n' '' "$?"
+copied/mypackets stmt >output 2>errors
+compare 'a run after an edit' 0 $'ran stmt\n' \
+    "$(said 'crates/mysql_upper/src/lib.rt has changed since the program was built' offered)"$'\n'"$others" "$?"
+: >copied/crates/mysql_lower/specs/New.antt
+copied/mypackets stmt >output 2>errors
+compare 'a run after a file was added' 0 $'ran stmt\n' \
+    "$(said 'crates/mysql_lower/specs/New.antt has changed since the program was built' offered)"$'\n'"$others" "$?"
+sed -i 's/^mysql_lower:/mysql_lower: kit/' copied/crates.txt
+copied/mypackets stmt >output 2>errors
+compare 'a run after a change of crates.txt' 0 $'ran stmt\n' \
+    "$(said 'crates.txt has changed since the program was built' offered)"$'\n'"$others" "$?"
+rm -- copied/crates/mypackets/out/mypackets.sources
+copied/mypackets stmt >output 2>errors
+compare 'a program that rt built' 0 $'ran stmt\n' \
+    "$(said 'nothing says which sources the program was built from' offered)"$'\n'"$others" "$?"
 # (each begins to build before the other has ended)
 rm -- small/crates/mypackets/out/mypackets
 LIB_SECONDS=0.5 small/mypackets stmt >other_output 2>other_errors &
 # ("$!" names what compare starts, once it has run)
 other=$!
 LIB_SECONDS=0.5 small/mypackets stmt >output 2>errors
-compare 'a first run beside another' 0 $'ran\n' "$first_run" "$?"
+compare 'a first run beside another' 0 $'ran stmt\n' "$first$others" "$?"
 wait "$other"
 status=$?
 mv -- other_output output && mv -- other_errors errors
-compare 'a first run that another is beside' 0 $'ran\n' "$first_run" "$status"
+compare 'a first run that another is beside' 0 $'ran stmt\n' "$first$others" "$status"
 
 printf '%d passed, %d failed\n' "$passed" "$failed"
 ((failed == 0))

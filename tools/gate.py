@@ -140,6 +140,8 @@ class Part:
     def __init__(self, line, folder):
         self.name, self.command, *self.crates = line.split()
         self.said = Path(folder) / self.name
+        # (as they are when the gate begins)
+        self.sources = {it: subprocess.check_output([TOP / "tools/sources.sh", it]) for it in self.crates}
 
     def is_ready(self):
         """Whether all is there that it takes: what a check builds."""
@@ -148,6 +150,10 @@ class Part:
 
     def run(self):
         began = time.time()
+        for name, lines in self.sources.items():
+            for built in (TOP / "crates" / name / "out" / it for it in (name, f"{name}.a")):
+                if built.exists():
+                    built.with_name(f"{built.name}.sources").write_bytes(lines)
         with open(self.said, "w") as out:
             ran = subprocess.run([TOP / self.command], stdin=subprocess.DEVNULL, stdout=out, stderr=subprocess.STDOUT)
         self.said.with_name(f"{self.name}.ended").write_text(f"{time.time() - began:.0f} {ran.returncode}\n")

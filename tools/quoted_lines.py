@@ -3,7 +3,7 @@
 
 The quoted blocks of a file in docs/CONTRIBUTING.md are the whole file, in order. Each line of the tour in README.md is a
 line of the file whose calls a row makes, and each line of a block of Rust in docs/USING.md a line of the proved callers, or of the file that
-the block names. Each name of docs/PROVED.md stands in the libraries, and each file and type of docs/PROTOCOL.md.
+the block names. Each line of an example in a doc comment is a line of a test, a recipe or a probe. Each name of docs/PROVED.md stands in the libraries, and each file and type of docs/PROTOCOL.md.
 Each name in the code of any page stands somewhere in the sources.
 
 quoted_lines.py: the status is 0 where all of this is so.
@@ -19,6 +19,7 @@ CRATE = "crates/example_packet"
 BLOCK = re.compile(r"^```\w+ (crates/\S+)\n(.*?)^```$", re.MULTILINE | re.DOTALL)
 TOUR = re.compile(r"^```rust\n(.*?)^```$", re.MULTILINE | re.DOTALL)
 TOUR_CALLS = "crates/test_calls/src/tour.rt"
+DOC_EXAMPLE = re.compile(r"^\s*//[/!] ```\n((?:\s*//[/!].*\n)*?)\s*//[/!] ```$", re.MULTILINE)
 CALLERS = "crates/examples_proved/src"
 USING = "docs/USING.md"
 
@@ -66,6 +67,23 @@ def strange_in_the_caller():
         there = {line.strip() for line in lines(read(path))} if os.path.isfile(f"{TOP}/{path}") else set()
         strange += [(path, line) for line in quotes if line.strip() not in there]
     return strange
+
+
+def strange_examples():
+    """The lines of examples in doc comments that no test, recipe or probe has."""
+    there, shown = set(), []
+    for folder, _, names in os.walk(f"{TOP}/crates"):
+        path = os.path.relpath(folder, TOP)
+        if "/src" not in path:
+            continue
+        for name in (it for it in sorted(names) if it.endswith(".rt")):
+            text = read(f"{path}/{name}")
+            if path.startswith(("crates/test_", "crates/example")) or "tests" in f"{path}/{name}":
+                there |= {line.strip() for line in text.splitlines()}
+            for block in DOC_EXAMPLE.findall(text):
+                code = [re.sub(r"^\s*//[/!] ?", "", line).strip() for line in block.splitlines()]
+                shown += [(f"{path}/{name}", line) for line in code if line]
+    return [it for it in shown if it[1] not in there]
 
 
 def strange_names(page):
@@ -124,13 +142,16 @@ def main():
     others = strange_in_the_caller()
     for path, line in others:
         print(f"{USING} has a line that {path} has not: {line}")
+    untested = strange_examples()
+    for path, line in untested:
+        print(f"{path} has a line in an example that no test has: {line}")
     unknown = [(page, it) for page in ("docs/PROVED.md", "docs/PROTOCOL.md") for it in strange_names(page)]
     for page, name in unknown:
         print(f"{page} names {name}, which no library has")
     nowhere = [*names_that_stand_nowhere()]
     for page, name in nowhere:
         print(f"{page} names {name}, which stands nowhere")
-    return 1 if wrong or strange or others or unknown or nowhere else 0
+    return 1 if wrong or strange or others or untested or unknown or nowhere else 0
 
 
 if __name__ == "__main__":

@@ -137,6 +137,14 @@ static void put_execution(struct batch *b)
         put_number(b, varied(), 8);
 }
 
+/* a frame of its header and 20 bytes */
+static void put_frame(struct batch *b)
+{
+    put_number(b, 20, 3), put_number(b, varied(), 1);
+    for (int i = 0; i < 20; i++)
+        put_number(b, varied(), 1);
+}
+
 static void put_ten_numbers(struct batch *b)
 {
     for (int i = 0; i < COLUMNS; i++)
@@ -151,13 +159,13 @@ static myp_value row[COLUMNS];
 static uint64_t statement(const uint8_t *p, size_t n)
 {
     static myp_statement s = MYP_STATEMENT_INIT;
-    return myp_read_statement(p, n, &s) ? 0 : 1 + s.statement_id;
+    return myp_read_statement(p, n, 0, &s) ? 0 : 1 + s.statement_id;
 }
 
 static uint64_t column(const uint8_t *p, size_t n)
 {
     static myp_column c = MYP_COLUMN_INIT;
-    return myp_read_column(p, n, &c) ? 0 : c.column_length + c.name.len;
+    return myp_read_column(p, n, 0, &c) ? 0 : c.column_length + c.name.len;
 }
 
 static uint64_t ok(const uint8_t *p, size_t n)
@@ -224,13 +232,36 @@ static uint64_t text_row(const uint8_t *p, size_t n)
     return myp_read_text_row(p, n, row, COLUMNS, &used) ? 0 : used;
 }
 
+/* a text row among the rows of a query whose definitions are left out */
+static uint64_t next_row(const uint8_t *p, size_t n)
+{
+    static myp_conversation c = MYP_CONVERSATION_INIT;
+    static myp_packet k = MYP_PACKET_INIT;
+    if (!c.opening && (myp_begin_conversation(MYP_CLIENT_DEPRECATE_EOF | MYP_CLIENT_OPTIONAL_RESULTSET_METADATA, 0, MYP_OPENING_BETWEEN_COMMANDS, &c)
+                       || myp_next_packet(&c, MYP_SIDE_CLIENT, (const uint8_t *)"\3select", 7, &k)
+                       || myp_next_packet(&c, MYP_SIDE_SERVER, (const uint8_t *)"\12\0", 2, &k)))
+        return 0;
+    return myp_next_packet(&c, MYP_SIDE_SERVER, p, n, &k) ? 0 : k.kind;
+}
+
+/* a frame with as many bytes of content as the packet has, which begins at its length */
+static uint64_t next_frame(const uint8_t *p, size_t n)
+{
+    myp_bytes rest = { p, n };
+    static myp_frame frame = MYP_FRAME_INIT;
+    return myp_next_frame(&rest, &frame) ? 0 : 1 + frame.content.len;
+}
+
 static uint64_t execution_read(const uint8_t *p, size_t n)
 {
-    static const myp_param params[COLUMNS];
+    static const myp_bound_param params[COLUMNS];
     static myp_column_type sent[COLUMNS];
     static myp_execution e = MYP_EXECUTION_INIT;
     return myp_read_execution(p, n, 0, params, COLUMNS, row, COLUMNS, sent, COLUMNS, &e) ? 0 : e.used;
 }
+
+static myp_parameter params[COLUMNS];
+static const myp_execution_options options = MYP_EXECUTION_OPTIONS_INIT;
 
 static uint64_t execution(const uint8_t *p, size_t n)
 {
@@ -239,11 +270,38 @@ static uint64_t execution(const uint8_t *p, size_t n)
     size_t written = 0;
     (void)n;
     for (int i = 0; i < COLUMNS; i++)
-        row[i].kind = MYP_INT, memcpy(&row[i].number, p + 8 * i, 8);
-    return myp_write_execution(1, row, COLUMNS, out, sizeof out, &written, &as_long_data) ? 0 : written;
+        params[i].value.kind = MYP_VALUE_INT, memcpy(&params[i].value.number, p + 8 * i, 8);
+    return myp_write_execution(1, params, COLUMNS, NULL, 0, &options, 0, out, sizeof out, &written, &as_long_data) ? 0 : written;
+}
+
+/* five numbers and five strings, as they were read of a row */
+static uint64_t execution_mixed(const uint8_t *p, size_t n)
+{
+    static uint8_t out[512];
+    uint8_t as_long_data = 0;
+    size_t written = 0;
+    if (!binary_row(p, n))
+        return 0;
+    for (int i = 0; i < COLUMNS; i++)
+        params[i].value = row[i];
+    return myp_write_execution(1, params, COLUMNS, NULL, 0, &options, 0, out, sizeof out, &written, &as_long_data) ? 0 : written;
 }
 
 /* ---- what is written */
+
+/* a row of a number, 20 bytes and NULL, in a request that goes on until it is full */
+static uint64_t row_added(const uint8_t *p, size_t n)
+{
+    static const myp_column_type of[3] = { { MYP_TYPE_LONGLONG, 0 }, { MYP_TYPE_VAR_STRING, 0 }, { MYP_TYPE_LONGLONG, 0 } };
+    static uint8_t out[1 << 16];
+    static size_t used, needed;
+    myp_value values[3] = { myp_int((int64_t)n + *p), myp_text(p, 20), myp_null() };
+    if (used + 64 > sizeof out)
+        used = 0;
+    if (!used && myp_begin_bulk(1, 0, of, 3, out, sizeof out, &used))
+        return 0;
+    return myp_add_bulk_row(of, 3, values, 3, 1 << 24, out, sizeof out, &used, &needed) ? 0 : used;
+}
 
 static uint64_t header_written(const uint8_t *p, size_t n)
 {
@@ -300,13 +358,13 @@ static uint64_t ok_written(const uint8_t *p, size_t n)
 static uint64_t header_length(const uint8_t *p, size_t n)
 {
     size_t written = 0;
-    return myp_write_header((uint32_t)n, *p, NULL, 0, &written) == MYP_BUFFER_TOO_SMALL ? written : 0;
+    return myp_write_header((uint32_t)n, *p, NULL, 0, &written) == MYP_ERROR_BUFFER_TOO_SMALL ? written : 0;
 }
 
 static uint64_t close_length(const uint8_t *p, size_t n)
 {
     size_t written = 0;
-    return myp_write_close((uint32_t)n + *p, NULL, 0, &written) == MYP_BUFFER_TOO_SMALL ? written : 0;
+    return myp_write_close((uint32_t)n + *p, NULL, 0, &written) == MYP_ERROR_BUFFER_TOO_SMALL ? written : 0;
 }
 
 static uint64_t error_length(const uint8_t *p, size_t n)
@@ -315,7 +373,7 @@ static uint64_t error_length(const uint8_t *p, size_t n)
     static myp_error e = MYP_ERROR_INIT;
     size_t written = 0;
     e.code = (uint16_t)n, e.sql_state.data = state, e.sql_state.len = 5, e.message.data = p, e.message.len = n;
-    return myp_write_error(&e, NULL, 0, &written) == MYP_BUFFER_TOO_SMALL ? written : 0;
+    return myp_write_error(&e, NULL, 0, &written) == MYP_ERROR_BUFFER_TOO_SMALL ? written : 0;
 }
 
 static uint64_t ok_length(const uint8_t *p, size_t n)
@@ -324,19 +382,19 @@ static uint64_t ok_length(const uint8_t *p, size_t n)
     size_t written = 0;
     if (myp_read_ok(p, n, MYP_OK_COMMON, CAPABILITIES, &o))
         return 0;
-    return myp_write_ok(&o, MYP_OK_COMMON, CAPABILITIES, NULL, 0, &written) == MYP_BUFFER_TOO_SMALL ? written : 0;
+    return myp_write_ok(&o, MYP_OK_COMMON, CAPABILITIES, NULL, 0, &written) == MYP_ERROR_BUFFER_TOO_SMALL ? written : 0;
 }
 
 static uint64_t binary_row_length(const uint8_t *p, size_t n)
 {
     size_t written = 0;
-    return binary_row(p, n) && myp_write_binary_row(types, COLUMNS, row, COLUMNS, NULL, 0, &written) == MYP_BUFFER_TOO_SMALL ? written : 0;
+    return binary_row(p, n) && myp_write_binary_row(types, COLUMNS, row, COLUMNS, NULL, 0, &written) == MYP_ERROR_BUFFER_TOO_SMALL ? written : 0;
 }
 
 static uint64_t text_row_length(const uint8_t *p, size_t n)
 {
     size_t written = 0;
-    return text_row(p, n) && myp_write_text_row(row, COLUMNS, NULL, 0, &written) == MYP_BUFFER_TOO_SMALL ? written : 0;
+    return text_row(p, n) && myp_write_text_row(row, COLUMNS, NULL, 0, &written) == MYP_ERROR_BUFFER_TOO_SMALL ? written : 0;
 }
 
 static uint64_t execution_length(const uint8_t *p, size_t n)
@@ -345,8 +403,8 @@ static uint64_t execution_length(const uint8_t *p, size_t n)
     size_t written = 0;
     (void)n;
     for (int i = 0; i < COLUMNS; i++)
-        row[i].kind = MYP_INT, memcpy(&row[i].number, p + 8 * i, 8);
-    return myp_write_execution(1, row, COLUMNS, NULL, 0, &written, &as_long_data) == MYP_BUFFER_TOO_SMALL ? written : 0;
+        params[i].value.kind = MYP_VALUE_INT, memcpy(&params[i].value.number, p + 8 * i, 8);
+    return myp_write_execution(1, params, COLUMNS, NULL, 0, &options, 0, NULL, 0, &written, &as_long_data) == MYP_ERROR_BUFFER_TOO_SMALL ? written : 0;
 }
 
 static const struct operation {
@@ -358,6 +416,7 @@ static const struct operation {
     { "ok_changes", put_ok_changes, ok_changes }, { "error", put_error, error }, { "handshake", put_handshake, handshake },
     { "binary_row", put_binary_row, binary_row }, { "binary_row_copied", put_binary_row, binary_row_copied },
     { "execution_read", put_execution, execution_read }, { "text_row", put_text_row, text_row }, { "execution", put_ten_numbers, execution },
+    { "execution_mixed", put_binary_row, execution_mixed }, { "next_row", put_text_row, next_row }, { "next_frame", put_frame, next_frame }, { "row_added", put_binary_row, row_added },
     { "header_written", put_statement, header_written }, { "close_written", put_statement, close_written }, { "error_written", put_error, error_written },
     { "binary_row_written", put_binary_row, binary_row_written }, { "text_row_written", put_text_row, text_row_written },
     { "ok_written", put_ok_changes, ok_written }, { "header_length", put_statement, header_length },
@@ -400,7 +459,7 @@ __attribute__((noinline)) uint64_t measured_bulk(const myp_value *values, size_t
     static const myp_column_type of[3] = { { MYP_TYPE_LONGLONG, 0 }, { MYP_TYPE_VAR_STRING, 0 }, { MYP_TYPE_LONGLONG, 0 } };
     size_t written = 0, taken = 0;
     uint32_t code = myp_write_bulk(1, 0, 1 << 24, of, 3, values, 3 * rows, out, size, &written, &taken);
-    return code == (size ? MYP_OK : MYP_BUFFER_TOO_SMALL) && taken == (size ? rows : 0) ? written : 0;
+    return code == (size ? MYP_OK : MYP_ERROR_BUFFER_TOO_SMALL) && taken == (size ? rows : 0) ? written : 0;
 }
 
 /* the same, with the array of values */

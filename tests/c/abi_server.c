@@ -16,12 +16,12 @@ static int untouched(size_t from)
     memset(sent, 0xee, sizeof sent); \
     CHECK((call) == MYP_OK && n == (count) && !memcmp(sent, bytes, count) && untouched(count)); \
     memset(sent, 0xee, sizeof sent), size = (count) - 1, n = 77; \
-    CHECK((call) == MYP_BUFFER_TOO_SMALL && n == (count) && untouched(0)); \
+    CHECK((call) == MYP_ERROR_BUFFER_TOO_SMALL && n == (count) && untouched(0)); \
     memcpy(sent, bytes, count); } while (0)
 #define REFUSES(call) do { \
     uint8_t *out = sent; size_t size = sizeof sent, n = 77; \
     memset(sent, 0xee, sizeof sent); \
-    CHECK((call) == MYP_INVALID_INPUT && n == 0 && untouched(0)); } while (0)
+    CHECK((call) == MYP_ERROR_INVALID_INPUT && n == 0 && untouched(0)); } while (0)
 #define SAME(a, b) ((a).len == (b).len && !memcmp((a).data, (b).data, (a).len))
 #define TEXT(text) { (const uint8_t *)(text), sizeof(text) - 1 }
 
@@ -74,49 +74,47 @@ static void written_errors(void)
 static void written_columns(void)
 {
     static const uint8_t stmt[] = { 0, 1, 0, 0, 0, 1, 0, 2, 0, 0, 0, 0 };
-    myp_statement s = { 1, 1, 2, 0, 0 }, again = MYP_STATEMENT_INIT;
-    WRITES(stmt, sizeof stmt, myp_write_statement(&s, out, size, &n));
-    CHECK(myp_read_statement(sent, sizeof stmt, &again) == MYP_OK && again.statement_id == 1 && again.num_columns == 1 && again.num_params == 2);
+    myp_statement s = { 1, 1, 2, 0, 1, 0 }, again = MYP_STATEMENT_INIT;
+    WRITES(stmt, sizeof stmt, myp_write_statement(&s, 0, out, size, &n));
+    CHECK(myp_read_statement(sent, sizeof stmt, 0, &again) == MYP_OK && again.statement_id == 1 && again.num_columns == 1 && again.num_params == 2);
     myp_column_count c = { 256, 1, 0 }, count = MYP_COLUMN_COUNT_INIT;
-    WRITES("\xfc\x00\x01", 3, myp_write_column_count(&c, 0, out, size, &n));
-    CHECK(myp_read_column_count(sent, 3, 0, &count) == MYP_OK && count.count == 256 && count.metadata_follows == 1);
+    WRITES("\xfc\x00\x01", 3, myp_write_column_count(&c, 0, 0, out, size, &n));
+    CHECK(myp_read_column_count(sent, 3, 0, 0, &count) == MYP_OK && count.count == 256 && count.metadata_follows == 1);
     c.count = 2, c.metadata_follows = 7;
-    WRITES("\x02\x01", 2, myp_write_column_count(&c, MYP_MARIADB_CLIENT_CACHE_METADATA, out, size, &n));
+    WRITES("\x02\x01", 2, myp_write_column_count(&c, 0, MYP_MARIADB_CLIENT_CACHE_METADATA, out, size, &n));
     c.metadata_follows = 0;
-    WRITES("\x02\x00", 2, myp_write_column_count(&c, MYP_MARIADB_CLIENT_CACHE_METADATA, out, size, &n));
-    CHECK(myp_read_column_count(sent, 2, MYP_MARIADB_CLIENT_CACHE_METADATA, &count) == MYP_OK && count.count == 2 && count.metadata_follows == 0);
-    REFUSES(myp_write_column_count(&c, 0, out, size, &n));
+    WRITES("\x02\x00", 2, myp_write_column_count(&c, 0, MYP_MARIADB_CLIENT_CACHE_METADATA, out, size, &n));
+    CHECK(myp_read_column_count(sent, 2, 0, MYP_MARIADB_CLIENT_CACHE_METADATA, &count) == MYP_OK && count.count == 2 && count.metadata_follows == 0);
+    REFUSES(myp_write_column_count(&c, 0, 0, out, size, &n));
     uint32_t optional = MYP_CLIENT_OPTIONAL_RESULTSET_METADATA;
-    WRITES("\x02\x00", 2, myp_write_column_count_with_metadata(&c, optional, 0, out, size, &n));
-    REFUSES(myp_write_column_count_with_metadata(&c, ~optional, 0, out, size, &n));
+    WRITES("\x02\x00", 2, myp_write_column_count(&c, optional, 0, out, size, &n));
+    REFUSES(myp_write_column_count(&c, ~optional, 0, out, size, &n));
     c.metadata_follows = 1;
-    WRITES("\x02\x01", 2, myp_write_column_count_with_metadata(&c, optional, 0, out, size, &n));
-    WRITES("\x02\x01", 2, myp_write_column_count_with_metadata(&c, optional, MYP_MARIADB_CLIENT_CACHE_METADATA, out, size, &n));
-    WRITES("\x02", 1, myp_write_column_count_with_metadata(&c, ~optional, 0, out, size, &n));
+    WRITES("\x02\x01", 2, myp_write_column_count(&c, optional, 0, out, size, &n));
+    WRITES("\x02\x01", 2, myp_write_column_count(&c, optional, MYP_MARIADB_CLIENT_CACHE_METADATA, out, size, &n));
+    WRITES("\x02", 1, myp_write_column_count(&c, ~optional, 0, out, size, &n));
     static const uint8_t column[] = "\003def\004test\003tbl\003org\001a\001b\x0c\x3f\0\x0b\0\0\0\x08\x21\0\0\0\0";
-    myp_column d = { TEXT("test"), TEXT("tbl"), TEXT("org"), TEXT("a"), TEXT("b"), 11, 63, 33, MYP_TYPE_LONGLONG, 0, 0 }, read = MYP_COLUMN_INIT;
+    myp_column d = { TEXT("test"), TEXT("tbl"), TEXT("org"), TEXT("a"), TEXT("b"), MYP_BYTES_INIT, 11, 63, 33, MYP_TYPE_LONGLONG, 0, 0, 0 }, read = MYP_COLUMN_INIT;
     WRITES(column, sizeof column - 1, myp_write_column(&d, out, size, &n));
-    CHECK(myp_read_column(sent, sizeof column - 1, &read) == MYP_OK && SAME(read.schema, d.schema) && SAME(read.table, d.table) && SAME(read.org_table, d.org_table) && SAME(read.name, d.name) && SAME(read.org_name, d.org_name));
+    CHECK(myp_read_column(sent, sizeof column - 1, 0, &read) == MYP_OK && SAME(read.schema, d.schema) && SAME(read.table, d.table) && SAME(read.org_table, d.org_table) && SAME(read.name, d.name) && SAME(read.org_name, d.org_name));
     CHECK(read.column_length == 11 && read.character_set == 63 && read.flags == 33 && read.column_type == MYP_TYPE_LONGLONG && read.decimals == 0);
     uint8_t extended[64]; /* replies.txt: a column with a type's name and a format's */
     size_t len = hex(extended, "0364656602766501740174016a016a090004757569640101610c2d00fffffffffc9000000000");
-    myp_extended_column x = { { TEXT("ve"), TEXT("t"), TEXT("t"), TEXT("j"), TEXT("j"), 0xffffffff, 45, 144, MYP_TYPE_BLOB, 0, 9 }, { extended + 16, 9 }, 7 };
-    WRITES(extended, len, myp_write_extended_column(&x, out, size, &n));
-    myp_column_attribute format = { TEXT("a"), MYP_ATTRIBUTE_FORMAT_NAME }, type = { TEXT("uuid"), MYP_ATTRIBUTE_TYPE_NAME };
+    myp_column x = { TEXT("ve"), TEXT("t"), TEXT("t"), TEXT("j"), TEXT("j"), { extended + 16, 9 }, 0xffffffff, 45, 144, MYP_TYPE_BLOB, 0, 7, 9 };
+    WRITES(extended, len, myp_write_column(&x, out, size, &n));
+    myp_column_attribute format = { TEXT("a"), MYP_COLUMN_ATTRIBUTE_FORMAT_NAME }, type = { TEXT("uuid"), MYP_COLUMN_ATTRIBUTE_TYPE_NAME };
     WRITES(extended + 16, 6, myp_write_column_attribute(&type, out, size, &n));
     WRITES(extended + 22, 3, myp_write_column_attribute(&format, out, size, &n));
     uint8_t field[64]; /* replies.txt: columns that answer COM_FIELD_LIST */
     size_t whole = hex(field, "03646566026839056b696e6473056b696e64730269640269640c3f000b0000000303420000000130");
-    myp_field_list_column fl = { { { TEXT("h9"), TEXT("kinds"), TEXT("kinds"), TEXT("id"), TEXT("id"), 11, 63, 0x4203, MYP_TYPE_LONG, 0, 0 }, { NULL, 0 }, 0 }, TEXT("0"), 1 };
+    myp_field_list_column fl = { { TEXT("h9"), TEXT("kinds"), TEXT("kinds"), TEXT("id"), TEXT("id"), { NULL, 0 }, 11, 63, 0x4203, MYP_TYPE_LONG, 0, 0, 0 }, TEXT("0"), 1 };
     WRITES(field, whole, myp_write_field_list_column(&fl, out, size, &n));
     field[whole - 2] = 0xfb, fl.has_default_value = 0;
     WRITES(field, whole - 1, myp_write_field_list_column(&fl, out, size, &n));
-    fl.column.column.column_type = 32;
+    fl.column.column_type = 32;
     REFUSES(myp_write_field_list_column(&fl, out, size, &n));
-    x.column = d, x.has_metadata = 0;
-    WRITES(column, sizeof column - 1, myp_write_extended_column(&x, out, size, &n));
-    x.column.column_type = 32;
-    REFUSES(myp_write_extended_column(&x, out, size, &n));
+    x = d, x.metadata.data = extended + 16, x.metadata.len = 9; /* not looked at */
+    WRITES(column, sizeof column - 1, myp_write_column(&x, out, size, &n));
     d.column_type = 32;
     REFUSES(myp_write_column(&d, out, size, &n));
 }
@@ -128,18 +126,18 @@ static void written_rows(void)
     myp_value v[4] = { none, none, none, none }, again[4] = { none, none, none, none };
     myp_bytes seven = TEXT("7"), abc = TEXT("abc"), ok = TEXT("ok");
     size_t used = 0;
-    v[0].kind = v[2].kind = MYP_BYTES, v[0].bytes = seven, v[2].bytes = abc;
+    v[0].kind = v[2].kind = MYP_VALUE_BYTES, v[0].bytes = seven, v[2].bytes = abc;
     WRITES(text, sizeof text, myp_write_text_row(v, 3, out, size, &n));
-    CHECK(myp_read_text_row(sent, sizeof text, again, 3, &used) == MYP_OK && used == 7 && SAME(again[0].bytes, seven) && again[1].kind == MYP_NULL && SAME(again[2].bytes, abc));
-    v[1].kind = MYP_INT;
+    CHECK(myp_read_text_row(sent, sizeof text, again, 3, &used) == MYP_OK && used == 7 && SAME(again[0].bytes, seven) && again[1].kind == MYP_VALUE_NULL && SAME(again[2].bytes, abc));
+    v[1].kind = MYP_VALUE_INT;
     REFUSES(myp_write_text_row(v, 3, out, size, &n));
     static const uint8_t row[] = { 0, 1 << 3, 0xff, 0xff, 0xff, 0xff, 2, 'o', 'k', 7, 0xe8, 0x07, 2, 29, 23, 59, 58 };
     static const myp_column_type types[] = { { MYP_TYPE_LONG, 0 }, { MYP_TYPE_LONGLONG, 0 }, { MYP_TYPE_VAR_STRING, 0 }, { MYP_TYPE_DATETIME, 0 } };
     v[0] = v[1] = v[2] = v[3] = none;
-    v[0].kind = MYP_INT, v[0].number = (uint64_t)-1, v[2].kind = MYP_BYTES, v[2].bytes = ok;
-    v[3].kind = MYP_DATE, v[3].days = 2024, v[3].month = 2, v[3].day = 29, v[3].hour = 23, v[3].minute = 59, v[3].second = 58;
+    v[0].kind = MYP_VALUE_INT, v[0].number = (uint64_t)-1, v[2].kind = MYP_VALUE_BYTES, v[2].bytes = ok;
+    v[3].kind = MYP_VALUE_DATE, v[3].days = 2024, v[3].month = 2, v[3].day = 29, v[3].hour = 23, v[3].minute = 59, v[3].second = 58;
     WRITES(row, sizeof row, myp_write_binary_row(types, 4, v, 4, out, size, &n));
-    CHECK(myp_read_binary_row(sent, sizeof row, types, 4, again, 4, &used) == MYP_OK && used == sizeof row && again[0].number == v[0].number && again[1].kind == MYP_NULL && SAME(again[2].bytes, ok) && again[3].days == 2024 && again[3].second == 58);
+    CHECK(myp_read_binary_row(sent, sizeof row, types, 4, again, 4, &used) == MYP_OK && used == sizeof row && again[0].number == v[0].number && again[1].kind == MYP_VALUE_NULL && SAME(again[2].bytes, ok) && again[3].days == 2024 && again[3].second == 58);
     REFUSES(myp_write_binary_row(types, 4, v, 3, out, size, &n));
     v[0].number = 0x80000000;
     REFUSES(myp_write_binary_row(types, 4, v, 4, out, size, &n));
@@ -179,7 +177,7 @@ static void written_connection(void)
     static const uint8_t factor[] = "\x02" "mysql_native_password\0zQg4i6oNy6=rHN/>-b)A";
     WRITES(factor, sizeof factor, myp_write_auth_next_factor(&s, out, size, &n));
     CHECK(myp_read_auth_next_factor(sent, sizeof factor, &seen) == MYP_OK && SAME(seen.plugin_name, s.plugin_name) && SAME(seen.plugin_data, s.plugin_data));
-    CHECK(myp_read_auth_next_factor(change, sizeof change, &seen) == MYP_INVALID_DATA && myp_read_auth_next_factor(NULL, 0, &seen) == MYP_UNEXPECTED_EOF);
+    CHECK(myp_read_auth_next_factor(change, sizeof change, &seen) == MYP_ERROR_INVALID_DATA && myp_read_auth_next_factor(NULL, 0, &seen) == MYP_ERROR_UNEXPECTED_EOF);
     s.plugin_name = s.plugin_data;
     REFUSES(myp_write_auth_switch(&s, out, size, &n));
     REFUSES(myp_write_auth_next_factor(&s, out, size, &n));
@@ -190,7 +188,7 @@ static void written_connection(void)
     WRITES("\xfe", 1, myp_write_old_auth_switch(out, size, &n));
     size_t used = 9;
     CHECK(myp_read_public_key_request((const uint8_t *)"\x02", 1, &used) == MYP_OK && used == 1);
-    CHECK(myp_read_public_key_request((const uint8_t *)"\x01", 1, &used) == MYP_INVALID_DATA && myp_read_public_key_request(NULL, 0, &used) == MYP_UNEXPECTED_EOF && used == 1);
+    CHECK(myp_read_public_key_request((const uint8_t *)"\x01", 1, &used) == MYP_ERROR_INVALID_DATA && myp_read_public_key_request(NULL, 0, &used) == MYP_ERROR_UNEXPECTED_EOF && used == 1);
     WRITES("\xfb/tmp/x", 7, myp_write_local_infile((const uint8_t *)"/tmp/x", 6, out, size, &n));
     CHECK(myp_read_local_infile(sent, 7, &file) == MYP_OK && IS(file, "/tmp/x"));
 }

@@ -1,6 +1,6 @@
 #!/usr/bin/env python3
-"""Conversations by the library for C: recorded ones from the login on, and what becomes of them when packets are lost, doubled, swapped, turned
-round, cut or broken, distinguished by `myp_next_packet` and by the second tracker.
+"""Sessions by the library for C: recorded ones, and what becomes of them when packets are lost, doubled, swapped, turned round, cut or broken,
+distinguished by `myp_next_packet` and by the second tracker. The capabilities after the login are compared too.
 
 conversations.py LIBRARY: a command that comes before the answer to an earlier one is refused, and so is each packet that the second tracker
 refuses; after a refusal both structs are as they were. The last line is 'N passed, N failed'."""
@@ -18,21 +18,25 @@ from reference_decoder.conversation import CLIENT, Refused, Session
 from watcher import KINDS
 
 
-class Conversation:
-    """One of the library's."""
+class Ours:
+    """A session of the library's."""
 
-    def __init__(self, packets, session):
+    def __init__(self, packets):
         self.packets = packets
         self.stands, self.out = packets.types["myp_conversation"](), packets.types["myp_packet"]()
-        code = packets.dll.myp_begin_conversation(session.flags, session.own, packets.MYP_AFTER_LOGIN, ctypes.byref(self.stands))
+        code = packets.dll.myp_begin_session(ctypes.byref(self.stands))
         assert code == packets.MYP_OK, code
+
+    def agreed(self):
+        """The capabilities of both sides, once the client has logged in."""
+        return (self.stands.capabilities, self.stands.mariadb_capabilities) if self.stands.opening == self.packets.MYP_OPENING_AFTER_LOGIN else None
 
     def next(self, side, payload):
         """The kind of a packet as the second tracker says it, or none where it doesn't come."""
         given, before = self.packets.bytes(payload), (bytes(self.stands), bytes(self.out))
-        of = self.packets.MYP_FROM_CLIENT if side == CLIENT else self.packets.MYP_FROM_SERVER
+        of = self.packets.MYP_SIDE_CLIENT if side == CLIENT else self.packets.MYP_SIDE_SERVER
         code = self.packets.dll.myp_next_packet(ctypes.byref(self.stands), of, given.data, given.len, ctypes.byref(self.out))
-        if code == self.packets.MYP_INVALID_DATA:
+        if code in (self.packets.MYP_ERROR_INVALID_DATA, self.packets.MYP_ERROR_COMPRESSED):
             assert before == (bytes(self.stands), bytes(self.out)), "a refusal changed something"
             return None
         assert code == self.packets.MYP_OK, code
@@ -44,32 +48,32 @@ class Conversation:
             "prepare_ok": f"prepare_ok:{out.columns}:{out.params}{absent}",
         }.get(kind, kind)
 
-    def is_at_rest(self):
+    def is_idle(self):
         flag = ctypes.c_uint8(7)
-        assert self.packets.dll.myp_is_at_rest(ctypes.byref(self.stands), ctypes.byref(flag)) == self.packets.MYP_OK
+        assert self.packets.dll.myp_is_idle(ctypes.byref(self.stands), ctypes.byref(flag)) == self.packets.MYP_OK
         return flag.value == 1
 
 
 def first_difference(packets, sent):
     """Where the library and the second tracker say something else of packets, up to the first that doesn't come."""
-    session, ours = Session(0), None
+    session, ours = Session(0), Ours(packets)
     for at, packet in enumerate(sent):
         try:
             kind = session.next(packet.side, packet.payload)[0]
         except Refused:
             kind = None
-        if ours:
-            found = ours.next(packet.side, packet.payload)
-            if found != kind:
-                return f"packet {at} is {found}, and {kind} by the second tracker"
-        elif kind == "login" and not session.before:
-            ours = Conversation(packets, session)
+        found = ours.next(packet.side, packet.payload)
+        if found != kind:
+            return f"packet {at} is {found}, and {kind} by the second tracker"
         if kind is None:
             break
-        if packet.begins_tls:
-            session.decipher()
-    if ours and ours.is_at_rest() != session.is_at_rest():
-        return f"packet {at}: at rest is {ours.is_at_rest()}"
+        if kind == "ssl_request":
+            session.tls_established()
+        agreed = (session.flags, session.own) if not session.before else None
+        if ours.agreed() != agreed:
+            return f"packet {at}: the agreed capabilities are {ours.agreed()}, and {agreed} by the second tracker"
+    if ours.is_idle() != session.is_idle():
+        return f"packet {at}: at rest is {ours.is_idle()}"
     return None
 
 
@@ -84,7 +88,7 @@ def alone(packets):
             break
         kept.append(packet)
         if packet.begins_tls:
-            session.decipher()
+            session.tls_established()
     return kept
 
 
@@ -96,13 +100,15 @@ def main(library):
         for name, sent in [("whole", whole), *((f"change {n}", it) for n, it in enumerate(changed(front, random.Random(path.name))))]:
             wrong = first_difference(packets, sent)
             passed, failed = passed + (wrong is None), failed + [f"{path.name}: {name}: {wrong}"] * (wrong is not None)
-    conversation = packets.types["myp_conversation"](opening=9)
+    conversation, zeroed = packets.types["myp_conversation"](opening=9), packets.types["myp_conversation"]()
     out, flag = packets.types["myp_packet"](), ctypes.c_uint8(7)
-    calls = [packets.dll.myp_next_packet(ctypes.byref(conversation), packets.MYP_FROM_CLIENT, None, 0, ctypes.byref(out)),
-             packets.dll.myp_is_at_rest(ctypes.byref(conversation), ctypes.byref(flag)),
-             packets.dll.myp_begin_conversation(0, 0, 2, ctypes.byref(conversation))]
-    failed += [f"call {at} of no conversation answers {code}" for at, code in enumerate(calls) if code != packets.MYP_INVALID_INPUT]
-    passed += sum(code == packets.MYP_INVALID_INPUT for code in calls)
+    calls = [packets.dll.myp_next_packet(ctypes.byref(conversation), packets.MYP_SIDE_CLIENT, None, 0, ctypes.byref(out)),
+             packets.dll.myp_is_idle(ctypes.byref(conversation), ctypes.byref(flag)),
+             packets.dll.myp_begin_conversation(0, 0, 3, ctypes.byref(conversation)),
+             packets.dll.myp_next_packet(ctypes.byref(zeroed), packets.MYP_SIDE_CLIENT, None, 0, ctypes.byref(out)),
+             packets.dll.myp_is_idle(ctypes.byref(zeroed), ctypes.byref(flag))]
+    failed += [f"call {at} of no conversation answers {code}" for at, code in enumerate(calls) if code != packets.MYP_ERROR_INVALID_INPUT]
+    passed += sum(code == packets.MYP_ERROR_INVALID_INPUT for code in calls)
     return summary("conversations", passed, failed)
 
 

@@ -17,7 +17,7 @@ sys.path.insert(0, str(TOP / "tests/probe"))
 from lines import summary
 
 CRATE, WIRE = TOP / "crates/mysql_packets_c/src", TOP / "crates/mysql_wire/specs"
-KIND_NAMES = TOP / "crates/mysql_conversation/specs/KindName.antt"
+KIND_NAMES = TOP / "crates/mysql_conversation/specs/PacketKindTag.antt"
 HEADER = TOP / "include/mysql_packets.h"
 STRUCT = re.compile(r"((?:^///[^\n]*\n)+)#\[repr\(C\)\]\n(?:#\[[^\n]*\n)*pub struct (\w+)(?:<'a>)? \{(.*?)^\}", re.M | re.S)
 FIELD = re.compile(r"^    pub (\w+): ([^\n]+),$", re.M)
@@ -27,9 +27,9 @@ RENAMED = {"MYP_CLIENT_PROGRESS": "CLIENT_PROGRESS_OBSOLETE", "MYP_CLIENT_MULTI_
            "MYP_DUMP_NON_BLOCK": "BINLOG_DUMP_NON_BLOCK", "MYP_DUMP_THROUGH_POSITION": "BINLOG_THROUGH_POSITION",
            "MYP_DUMP_THROUGH_GTID": "BINLOG_THROUGH_GTID"}
 # the flags, commands and kinds, each of which the library has
-IS_IN_THE_TABLE = re.compile(r"MYP_(CLIENT|MARIADB_CLIENT|SERVER|COM|DUMP|SESSION_TRACK|PACKET)_|MYP_\w+_FLAG$|MYP_NUM_FLAG$")
+IS_IN_THE_TABLE = re.compile(r"MYP_(CLIENT|MARIADB_CLIENT|SERVER|COM|DUMP|SESSION_TRACK|PACKET|COLUMN_FLAG|ERROR)_")
 SIZES = {"u8": 1, "u16": 2, "u32": 4, "u64": 8, "usize": 8}
-C_TYPES = {"u8": "uint8_t", "u16": "uint16_t", "u32": "uint32_t", "u64": "uint64_t", "usize": "size_t"}
+C_TYPES = {"u8": "uint8_t", "u16": "uint16_t", "u32": "uint32_t", "u64": "uint64_t", "usize": "size_t", "i64": "int64_t", "f64": "double"}
 
 
 def comments_out(text):
@@ -91,11 +91,35 @@ def refused(lines, *flags):
     return [it for it in ran.stderr.splitlines() if "error" in it]
 
 
+def header_name(flag):
+    """The header's name of a flag of the library."""
+    column = re.fullmatch(r"(?!CLIENT_)(\w+)_FLAG", flag)
+    return f"MYP_COLUMN_FLAG_{column[1]}" if column else f"MYP_{flag}"
+
+
+def misnamed(header):
+    """The constants that don't begin with the name of their enum, less a last word for what its values are."""
+    found = []
+    for name, body in re.findall(r"enum myp_(\w+) \{(.*?)\};", header, re.S):
+        front = re.sub("_(kind|flag|code)$", "", name)
+        fronts = [f"MYP_{it}_".upper() for it in (name, front)] + (["MYP_ERROR_", "MYP_OK", "MYP_END"] if name == "code" else [])
+        found += [f"{it} is of enum myp_{name}" for it in re.findall(r"\bMYP_\w+", body) if not it.startswith(tuple(fronts))]
+    return found
+
+
+def unmarked(header):
+    """The calls that return a code and may be ignored, and lines that are too long."""
+    calls = re.findall(r"^uint32_t (myp_\w+)\(", header, re.M)
+    plain = {"myp_version", "myp_supported_capabilities", "myp_supported_mariadb_capabilities"}
+    found = [f"{it} isn't marked MYP_MUST_CHECK" for it in calls if it not in plain]
+    return found + [f"line {at} has more than 100 columns" for at, line in enumerate(header.splitlines(), 1) if len(line) > 100]
+
+
 def numbers_of_the_library():
     """The numbers that the library has, by the names of the header."""
     found = {}
     masks = re.findall(r"^([A-Z]\w+) = (\w+)$", (WIRE / "FlagMasks.antt").read_text(), re.M)
-    found.update({f"MYP_{name}": int(value.replace("_", ""), 0) for name, value in masks})
+    found.update({header_name(name): int(value.replace("_", ""), 0) for name, value in masks})
     found.update({ours: found[f"MYP_{theirs}"] for ours, theirs in RENAMED.items()})
     commands = re.findall(r"^server_command_code variant\.(COM_\w+) = (\d+)$", (WIRE / "ServerCommand.antt").read_text(), re.M)
     found.update({f"MYP_{name}": int(value) for name, value in commands})
@@ -108,7 +132,7 @@ def numbers_of_the_library():
     packets = re.findall(r"^index name\.(\w+) = (\d+)$", KIND_NAMES.read_text(), re.M)
     found.update({f"MYP_PACKET_{re.sub('(?<!^)(?=[A-Z])', '_', name).upper()}": int(value) for name, value in packets})
     codes = re.findall(r"^pub\(crate\) const (\w+): u32 = (\d+);$", (CRATE / "code.rt").read_text(), re.M)
-    found.update({f"MYP_{name}": int(value) for name, value in codes})
+    found.update({f"MYP_{name}" if name in ("OK", "END") else f"MYP_ERROR_{name}": int(value) for name, value in codes})
     return found
 
 
@@ -133,7 +157,7 @@ def calls(header):
             kinds = re.findall(r"\w+: ([^,]+?)(?:,|$)", " ".join(parameters.split()))
             exported[name] = [it for kind in kinds for it in passed_as(kind.strip(), names)]
     declared = {}
-    for answer, name, parameters in re.findall(r"^(\w+) (myp_\w+)\(([^)]*)\);", header, re.M):
+    for answer, name, parameters in re.findall(r"^(?:MYP_MUST_CHECK )?(\w+) (myp_\w+)\(([^)]*)\);", header, re.M):
         kinds = [re.sub(r"(\*?)\w+$", r"\1", " ".join(it.split())).strip() for it in parameters.split(",") if it.strip() != "void"]
         declared[name] = kinds if answer == "uint32_t" else [answer, *kinds]
     return exported, declared
@@ -156,6 +180,7 @@ def not_called(file, names):
 
 def main():
     header, passed, wrong = comments_out(HEADER.read_text()), 0, []
+    wrong += misnamed(header) + unmarked(HEADER.read_text())
     lines, found = asserted(header)
     failed = refused(["#include <stddef.h>", "#include <mysql_packets.h>", *lines], "-Werror")
     passed, wrong = passed + len(lines) - len(failed), wrong + found + failed
@@ -167,7 +192,7 @@ def main():
         missing = not_called(file, names)
         passed, wrong = passed + len(names) - len(missing), wrong + missing
     hosts = {"whose pointers have 4 bytes": ["-m32", "-ffreestanding"], "that is big-endian": ["-U__BYTE_ORDER__", "-D__BYTE_ORDER__=__ORDER_BIG_ENDIAN__"]}
-    taken = [it for it, flags in hosts.items() if not any("the library is one for" in line for line in refused(["#include <mysql_packets.h>"], *flags))]
+    taken = [it for it, flags in hosts.items() if not any("mysql_packets.h requires" in line for line in refused(["#include <mysql_packets.h>"], *flags))]
     passed, wrong = passed + len(hosts) - len(taken), wrong + [f"a host {it} is not refused" for it in taken]
     declared_names = set(re.findall(r"\b(MYP_\w+) =|\b(MYP_\w+),", " ".join(re.findall(r"enum \w+ \{(.*?)\};", header, re.S))))
     names = {a or b for a, b in declared_names}
@@ -180,8 +205,8 @@ def main():
     if shutil.which("mariadb_config"):
         flags = subprocess.run(["mariadb_config", "--cflags"], capture_output=True, text=True).stdout.split()
         texts = comments_out("".join(path.read_text(errors="replace") for path in Path(flags[0].removeprefix("-I")).glob("m*.h")))
-        theirs = [(name, other) for name in names for other in (name.removeprefix("MYP_"), name.replace("MYP_TYPE_", "MYSQL_TYPE_"))
-                  if name.startswith(("MYP_CLIENT_", "MYP_SERVER_", "MYP_COM_", "MYP_TYPE_", "MYP_SESSION_TRACK_")) or name.endswith("_FLAG")
+        theirs = [(name, other) for name in names for other in (name.removeprefix("MYP_"), name.replace("MYP_TYPE_", "MYSQL_TYPE_"), re.sub("^MYP_COLUMN_FLAG_(.*)$", r"\1_FLAG", name))
+                  if name.startswith(("MYP_CLIENT_", "MYP_SERVER_", "MYP_COM_", "MYP_TYPE_", "MYP_SESSION_TRACK_")) or name.startswith("MYP_COLUMN_FLAG_")
                   if re.search(rf"\b{other}\b", texts)]
         tests = [f'_Static_assert((unsigned){name} == (unsigned){other}, "{name} is not {other}");' for name, other in theirs]
         failed = refused(["#include <mysql.h>", "#include <mysql_packets.h>", *tests], *flags)

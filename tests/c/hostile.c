@@ -94,28 +94,26 @@ static void read_all(size_t len)
     myp_header head;
     memset(&head, 7, sizeof head);
     CALL(head, myp_read_header(p, len, &head));
-    uint32_t kind = 7;
-    CALL(kind, myp_reply_kind(p, len, &kind));
-    CALL(kind, myp_row_kind(p, len, caps, &kind));
     myp_column_count count;
     memset(&count, 7, sizeof count);
-    CALL(count, myp_read_column_count(p, len, caps, &count));
-    CALL(count, myp_read_column_count_with_metadata(p, len, caps, (uint32_t)varied(), &count));
+    CALL(count, myp_read_column_count(p, len, caps, (uint32_t)varied(), &count));
     myp_server_version version;
     memset(&version, 7, sizeof version);
     CALL(version, myp_read_server_version(p, len, &version));
     CALL(version, myp_read_mariadb_version(p, len, &version));
     static myp_conversation stands = MYP_CONVERSATION_INIT;
+    if (!stands.opening && myp_begin_conversation(caps, 0, MYP_OPENING_BETWEEN_COMMANDS, &stands))
+        lost("myp_begin_conversation", MYP_ERROR_INVALID_INPUT);
     myp_conversation any;
     myp_packet next;
     for (size_t i = 0; i < sizeof any; i++)
         ((uint8_t *)&any)[i] = (uint8_t)(varied() % (i < 24 ? 256 : 16));
     memset(&next, 7, sizeof next);
-    CALL(next, myp_next_packet(&any, (uint32_t)varied() % 3, p, len, &next));
+    CALL_OR(MYP_ERROR_COMPRESSED, next, myp_next_packet(&any, (uint32_t)varied() % 3, p, len, &next));
     CALL(stands, myp_next_packet(&stands, (uint32_t)varied() % 2, p, len, &next));
     myp_statement s;
     memset(&s, 7, sizeof s);
-    CALL(s, myp_read_statement(p, len, &s));
+    CALL(s, myp_read_statement(p, len, caps, &s));
     myp_error e;
     memset(&e, 7, sizeof e), e.message = e.sql_state = none;
     CALL(e, myp_read_error(p, len, caps, &e));
@@ -135,8 +133,8 @@ static void read_all(size_t len)
     CALL(w, myp_read_auth_next_factor(p, len, &w));
     place("plugin", w.plugin_name), place("plugin's data", w.plugin_data);
     myp_column c;
-    memset(&c, 7, sizeof c), c.schema = c.table = c.org_table = c.name = c.org_name = none;
-    CALL(c, myp_read_column(p, len, &c));
+    memset(&c, 7, sizeof c), c.schema = c.table = c.org_table = c.name = c.org_name = c.metadata = none;
+    CALL(c, myp_read_column(p, len, 0, &c));
     place("schema", c.schema), place("table", c.table), place("org_table", c.org_table), place("name", c.name), place("org_name", c.org_name);
     myp_handshake h;
     memset(&h, 7, sizeof h), h.server_version = h.scramble_1 = h.scramble_2 = h.auth_plugin_name = none;

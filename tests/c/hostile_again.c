@@ -35,19 +35,16 @@ static void write_columns(const uint8_t *p, size_t len, uint32_t caps)
 {
     size_t n = 0;
     myp_statement s = MYP_STATEMENT_INIT, t = MYP_STATEMENT_INIT;
-    if (!myp_read_statement(p, len, &s))
-        must("statement, written", !myp_write_statement(&s, sent, sizeof sent, &n) && !myp_read_statement(sent, n, &t) && t.statement_id == s.statement_id
-            && t.num_columns == s.num_columns && t.num_params == s.num_params && t.warning_count == s.warning_count && t.used == n);
+    if (!myp_read_statement(p, len, caps, &s))
+        must("statement, written", !myp_write_statement(&s, caps, sent, sizeof sent, &n) && !myp_read_statement(sent, n, caps, &t) && t.statement_id == s.statement_id
+            && t.num_columns == s.num_columns && t.num_params == s.num_params && t.warning_count == s.warning_count && t.metadata_follows == s.metadata_follows && t.used == n);
     myp_column_count c = MYP_COLUMN_COUNT_INIT, d = MYP_COLUMN_COUNT_INIT;
-    if (!myp_read_column_count(p, len, caps, &c))
-        must("count, written", !myp_write_column_count(&c, caps, sent, sizeof sent, &n) && !myp_read_column_count(sent, n, caps, &d) && d.count == c.count
-            && d.metadata_follows == c.metadata_follows && d.used == n);
-    if (!myp_read_column_count_with_metadata(p, len, caps, caps, &c))
-        must("count with metadata, written", !myp_write_column_count_with_metadata(&c, caps, caps, sent, sizeof sent, &n)
-            && !myp_read_column_count_with_metadata(sent, n, caps, caps, &d) && d.count == c.count && d.metadata_follows == c.metadata_follows && d.used == n);
+    if (!myp_read_column_count(p, len, caps, caps, &c))
+        must("count, written", !myp_write_column_count(&c, caps, caps, sent, sizeof sent, &n)
+            && !myp_read_column_count(sent, n, caps, caps, &d) && d.count == c.count && d.metadata_follows == c.metadata_follows && d.used == n);
     myp_column k = MYP_COLUMN_INIT, l = MYP_COLUMN_INIT;
-    if (!myp_read_column(p, len, &k))
-        must("column, written", !myp_write_column(&k, sent, sizeof sent, &n) && !myp_read_column(sent, n, &l) && SAME(l.schema, k.schema) && SAME(l.table, k.table)
+    if (!myp_read_column(p, len, 0, &k))
+        must("column, written", !myp_write_column(&k, sent, sizeof sent, &n) && !myp_read_column(sent, n, 0, &l) && SAME(l.schema, k.schema) && SAME(l.table, k.table)
             && SAME(l.org_table, k.org_table) && SAME(l.name, k.name) && SAME(l.org_name, k.org_name) && l.column_length == k.column_length
             && l.character_set == k.character_set && l.flags == k.flags && l.column_type == k.column_type && l.decimals == k.decimals && l.used == n);
 }
@@ -55,18 +52,18 @@ static void write_columns(const uint8_t *p, size_t len, uint32_t caps)
 static void write_extended(const uint8_t *p, size_t len, uint32_t caps)
 {
     size_t n = 0;
-    myp_extended_column x = MYP_EXTENDED_COLUMN_INIT, y = MYP_EXTENDED_COLUMN_INIT;
-    if (!myp_read_extended_column(p, len, caps, &x))
-        must("extended column, written", !myp_write_extended_column(&x, sent, sizeof sent, &n) && !myp_read_extended_column(sent, n, caps, &y)
-            && SAME(y.column.schema, x.column.schema) && SAME(y.column.table, x.column.table) && SAME(y.column.org_table, x.column.org_table)
-            && SAME(y.column.name, x.column.name) && SAME(y.column.org_name, x.column.org_name) && y.column.column_length == x.column.column_length
-            && y.column.character_set == x.column.character_set && y.column.flags == x.column.flags && y.column.column_type == x.column.column_type
-            && y.column.decimals == x.column.decimals && y.has_metadata == x.has_metadata && SAME(y.metadata, x.metadata) && y.column.used == n);
+    myp_column x = MYP_COLUMN_INIT, y = MYP_COLUMN_INIT;
+    if (!myp_read_column(p, len, caps, &x))
+        must("extended column, written", !myp_write_column(&x, sent, sizeof sent, &n) && !myp_read_column(sent, n, caps, &y)
+            && SAME(y.schema, x.schema) && SAME(y.table, x.table) && SAME(y.org_table, x.org_table)
+            && SAME(y.name, x.name) && SAME(y.org_name, x.org_name) && y.column_length == x.column_length
+            && y.character_set == x.character_set && y.flags == x.flags && y.column_type == x.column_type
+            && y.decimals == x.decimals && y.has_metadata == x.has_metadata && SAME(y.metadata, x.metadata) && y.used == n);
     myp_field_list_column f = MYP_FIELD_LIST_COLUMN_INIT, g = MYP_FIELD_LIST_COLUMN_INIT;
     if (!myp_read_field_list_column(p, len, caps, &f))
         must("field list column, written", !myp_write_field_list_column(&f, sent, sizeof sent, &n) && !myp_read_field_list_column(sent, n, caps, &g)
-            && SAME(g.column.column.name, f.column.column.name) && SAME(g.column.metadata, f.column.metadata)
-            && SAME(g.default_value, f.default_value) && g.has_default_value == f.has_default_value && g.column.column.used == n);
+            && SAME(g.column.name, f.column.name) && SAME(g.column.metadata, f.column.metadata)
+            && SAME(g.default_value, f.default_value) && g.has_default_value == f.has_default_value && g.column.used == n);
     myp_bytes rest = { p, len };
     myp_column_attribute t = MYP_COLUMN_ATTRIBUTE_INIT;
     if (len && !myp_next_column_attribute(&rest, &t)) {
@@ -82,7 +79,7 @@ static void write_connection(const uint8_t *p, size_t len)
     myp_handshake h = MYP_HANDSHAKE_INIT, i = MYP_HANDSHAKE_INIT;
     if (!myp_read_handshake(p, len, &h)) {
         uint32_t code = myp_write_handshake(&h, sent, sizeof sent, &n);
-        must("handshake, written", code == MYP_INVALID_INPUT || (!code && !myp_read_handshake(sent, n, &i) && SAME(i.server_version, h.server_version)
+        must("handshake, written", code == MYP_ERROR_INVALID_INPUT || (!code && !myp_read_handshake(sent, n, &i) && SAME(i.server_version, h.server_version)
             && SAME(i.scramble_1, h.scramble_1) && SAME(i.scramble_2, h.scramble_2) && SAME(i.auth_plugin_name, h.auth_plugin_name)
             && i.connection_id == h.connection_id && i.capabilities == h.capabilities && i.mariadb_capabilities == h.mariadb_capabilities
             && i.status_flags == h.status_flags && i.protocol_version == h.protocol_version && i.default_collation == h.default_collation && i.used == n));
@@ -100,7 +97,7 @@ static int same_values(const myp_value *v, const myp_value *w, size_t n)
     for (size_t i = 0; i < n; i++) {
         if (v[i].kind != w[i].kind || v[i].number != w[i].number || !SAME(v[i].bytes, w[i].bytes))
             return 0;
-        if (v[i].kind >= MYP_DATE && (v[i].days != w[i].days || v[i].month != w[i].month || v[i].day != w[i].day || v[i].hour != w[i].hour || v[i].minute != w[i].minute || v[i].second != w[i].second || v[i].micros != w[i].micros))
+        if (v[i].kind >= MYP_VALUE_DATE && (v[i].days != w[i].days || v[i].month != w[i].month || v[i].day != w[i].day || v[i].hour != w[i].hour || v[i].minute != w[i].minute || v[i].second != w[i].second || v[i].micros != w[i].micros))
             return 0;
     }
     return 1;
@@ -133,14 +130,14 @@ static void write_query(const uint8_t *p, size_t len)
 {
     size_t n = 0, count = 0;
     myp_command c = MYP_COMMAND_INIT, d = MYP_COMMAND_INIT;
-    myp_query_attribute a[8], b = MYP_QUERY_ATTRIBUTE_INIT;
+    myp_parameter a[8], b = MYP_PARAMETER_INIT;
     for (size_t i = 0; i < 8; i++)
         a[i] = b;
     while (count < 8 && !myp_read_query_attribute(p, len, count, &a[count]))
         count++;
     if (myp_read_query_attribute(p, len, count, &b) != MYP_END || myp_read_command(p, len, MYP_CLIENT_QUERY_ATTRIBUTES, &c))
         return;
-    must("query, written", !myp_write_query_with_attributes(c.text.data, c.text.len, a, count, sent, sizeof sent, &n)
+    must("query, written", !myp_write_query(c.text.data, c.text.len, a, count, MYP_CLIENT_QUERY_ATTRIBUTES, sent, sizeof sent, &n)
         && !myp_read_command(sent, n, MYP_CLIENT_QUERY_ATTRIBUTES, &d) && SAME(d.text, c.text) && myp_read_query_attribute(sent, n, count, &b) == MYP_END);
     for (size_t i = 0; i < count; b.value.number = 0, i++)
         must("attribute of a query, written", !myp_read_query_attribute(sent, n, i, &b) && SAME(b.name, a[i].name) && same_values(&b.value, &a[i].value, 1));

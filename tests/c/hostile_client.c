@@ -55,11 +55,11 @@ static void attributes(myp_bytes bytes)
 
 static void read_extended(const uint8_t *p, size_t len)
 {
-    myp_extended_column c;
-    memset(&c, 7, sizeof c), c.column.schema = c.column.table = c.column.org_table = c.column.name = c.column.org_name = c.metadata = nothing;
-    CALL(c, myp_read_extended_column(p, len, (uint32_t)varied(), &c));
-    place("schema", c.column.schema), place("table", c.column.table), place("org_table", c.column.org_table), place("name", c.column.name);
-    place("org_name", c.column.org_name), place("metadata", c.metadata);
+    myp_column c;
+    memset(&c, 7, sizeof c), c.schema = c.table = c.org_table = c.name = c.org_name = c.metadata = nothing;
+    CALL(c, myp_read_column(p, len, (uint32_t)varied(), &c));
+    place("schema", c.schema), place("table", c.table), place("org_table", c.org_table), place("name", c.name);
+    place("org_name", c.org_name), place("metadata", c.metadata);
     attributes(c.metadata);
     attributes((myp_bytes){ p, len });
 }
@@ -67,11 +67,11 @@ static void read_extended(const uint8_t *p, size_t len)
 static void read_field_list(const uint8_t *p, size_t len)
 {
     myp_field_list_column f;
-    memset(&f, 7, sizeof f), f.column.column.schema = f.column.column.table = f.column.column.org_table = nothing;
-    f.column.column.name = f.column.column.org_name = f.column.metadata = f.default_value = nothing;
+    memset(&f, 7, sizeof f), f.column.schema = f.column.table = f.column.org_table = nothing;
+    f.column.name = f.column.org_name = f.column.metadata = f.default_value = nothing;
     CALL(f, myp_read_field_list_column(p, len, (uint32_t)varied(), &f));
-    place("schema", f.column.column.schema), place("table", f.column.column.table), place("org_table", f.column.column.org_table);
-    place("name", f.column.column.name), place("org_name", f.column.column.org_name), place("metadata", f.column.metadata);
+    place("schema", f.column.schema), place("table", f.column.table), place("org_table", f.column.org_table);
+    place("name", f.column.name), place("org_name", f.column.org_name), place("metadata", f.column.metadata);
     place("default_value", f.default_value);
 }
 

@@ -4,16 +4,16 @@
 /* the attributes of a query, to the last or to a fault */
 static void read_query(const uint8_t *p, size_t len)
 {
-    myp_query_attribute t;
+    myp_parameter t;
     memset(&t, 7, sizeof t), t.name = t.value.bytes = nothing;
     for (size_t i = 0; i < 3; i++) {
-        myp_query_attribute before;
+        myp_parameter before;
         memcpy(&before, &t, sizeof t);
         uint32_t code = myp_read_query_attribute(p, len, i, &t);
         done++;
         if (code) {
             refused++;
-            if (code > MYP_INVALID_DATA && code != MYP_END)
+            if (code > MYP_ERROR_INVALID_DATA && code != MYP_END)
                 lost("myp_read_query_attribute", code);
             changed += memcmp(&before, &t, sizeof t) != 0;
             break;
@@ -49,7 +49,7 @@ static void read_served(const uint8_t *p, size_t len)
     struct { myp_bytes rest, name, value; } a = { r.attributes, nothing, nothing };
     while (a.rest.len) {
         size_t left = a.rest.len;
-        CALL(a, myp_next_attribute(&a.rest, &a.name, &a.value));
+        CALL(a, myp_next_connection_attribute(&a.rest, &a.name, &a.value));
         place("name", a.name), place("value", a.value), place("rest", a.rest);
         if (a.rest.len >= left) { /* the attributes of a login that was read are good */
             printf("an attribute of a login was refused\n"), bad++;
@@ -58,7 +58,7 @@ static void read_served(const uint8_t *p, size_t len)
     }
     a.rest.data = p, a.rest.len = len, a.name = a.value = nothing;
     if (len)
-        CALL(a, myp_next_attribute(&a.rest, &a.name, &a.value));
+        CALL(a, myp_next_connection_attribute(&a.rest, &a.name, &a.value));
     place("name", a.name), place("value", a.value), place("rest", a.rest);
     myp_execution_head h;
     memset(&h, 7, sizeof h);
@@ -68,7 +68,7 @@ static void read_served(const uint8_t *p, size_t len)
     CALL(b, myp_read_bulk_head(p, len, &b));
     place("rows", b.rows);
     static const myp_value no_value = MYP_VALUE_INIT;
-    myp_param params[6];
+    myp_bound_param params[6];
     myp_value v[6];
     myp_column_type t[6] = { { 0, 0 } };
     for (size_t i = 0; i < 6; i++)
@@ -80,7 +80,7 @@ static void read_served(const uint8_t *p, size_t len)
     CALL(e, myp_read_execution(p, len, attributes, params, params_there, v, 6, t, 6, &e));
     for (size_t i = 0; i < 6; i++)
         place("parameter", v[i].bytes);
-    myp_query_attribute attribute;
+    myp_parameter attribute;
     memset(&attribute, 7, sizeof attribute), attribute.name = nothing, attribute.value = no_value;
     if (e.attributes)
         CALL(attribute, myp_read_execution_attribute(p, len, attributes, params, params_there, 0, &attribute));
@@ -130,13 +130,13 @@ static void read_replica(const uint8_t *p, size_t len)
     size_t written = 7;
     uint32_t code = myp_gtid_dump_to_text(p, len, shown, sizeof shown, &written);
     done++, refused += code != 0;
-    if (code > MYP_INVALID_DATA || (code && written))
+    if (code > MYP_ERROR_INVALID_DATA || (code && written))
         lost("myp_gtid_dump_to_text", code);
     myp_gtid_dump given = MYP_GTID_DUMP_INIT;
     given.file_name = (myp_bytes){ p, len };
     code = myp_gtid_dump_from_text(&given, p, len, shown, sizeof shown, &written);
     done++, refused += code != 0;
-    if (code && (code != MYP_INVALID_DATA || written))
+    if (code && (code != MYP_ERROR_INVALID_DATA || written))
         lost("myp_gtid_dump_from_text", code);
     struct { myp_bytes rest; myp_sid_places sid; } s;
     memset(&s, 7, sizeof s), s.rest = g.sids, s.sid.tag = s.sid.intervals = nothing;

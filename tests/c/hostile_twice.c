@@ -12,7 +12,7 @@ static struct {
     size_t columns, place; /* how many columns or parameters there are; which of the things in a list is read, the first being 0 */
     uint8_t flag;          /* whether sids are tagged, and a stream is semi-synchronous */
     myp_column_type types[6];
-    myp_param params[6];
+    myp_bound_param params[6];
 } under;
 
 /* A read: `out` is a struct of this type, and the packet is `p, len`. */
@@ -39,12 +39,11 @@ READ(read_local_infile, myp_bytes, myp_read_local_infile(p, len, out))
 READ(read_common_ok, myp_ok, myp_read_ok(p, len, MYP_OK_COMMON, under.capabilities, out))
 READ(read_terminator, myp_ok, myp_read_ok(p, len, MYP_OK_TERMINATOR, under.capabilities, out))
 READ(read_error, myp_error, myp_read_error(p, len, under.capabilities, out))
-READ(read_column, myp_column, myp_read_column(p, len, out))
-READ(read_extended_column, myp_extended_column, myp_read_extended_column(p, len, under.mariadb, out))
+READ(read_column, myp_column, myp_read_column(p, len, under.mariadb, out))
 READ(read_field_list_column, myp_field_list_column, myp_read_field_list_column(p, len, under.mariadb, out))
 READ(read_command, myp_command, myp_read_command(p, len, under.capabilities, out))
-READ(read_query_attribute, myp_query_attribute, myp_read_query_attribute(p, len, under.place, out))
-READ(read_execution_attribute, myp_query_attribute, myp_read_execution_attribute(p, len, MYP_CLIENT_QUERY_ATTRIBUTES, under.params, under.columns, under.place, out))
+READ(read_query_attribute, myp_parameter, myp_read_query_attribute(p, len, under.place, out))
+READ(read_execution_attribute, myp_parameter, myp_read_execution_attribute(p, len, MYP_CLIENT_QUERY_ATTRIBUTES, under.params, under.columns, under.place, out))
 READ(read_long_data, myp_long_data, myp_read_long_data(p, len, out))
 READ(read_login, myp_login, myp_read_login(p, len, out))
 READ(read_change_user, myp_change_user, myp_read_change_user(p, len, under.capabilities, out))
@@ -71,7 +70,7 @@ NEXT(frames, myp_frame, myp_next_frame(&out->rest, &out->it))
 NEXT(changes, myp_change, myp_next_change(&out->rest, &out->it))
 NEXT(variables, name_and_value, myp_next_variable(&out->rest, &out->it.name, &out->it.value))
 NEXT(column_attributes, myp_column_attribute, myp_next_column_attribute(&out->rest, &out->it))
-NEXT(attributes, name_and_value, myp_next_attribute(&out->rest, &out->it.name, &out->it.value))
+NEXT(attributes, name_and_value, myp_next_connection_attribute(&out->rest, &out->it.name, &out->it.value))
 NEXT(bulk_types, types_of_bulk, myp_read_bulk_types(&out->rest, out->it.types, under.columns))
 NEXT(bulk_rows, bulk_values, myp_next_bulk_row(&out->rest, under.types, under.columns, out->it.values, 6, out->it.indicators, 6))
 NEXT(sids, myp_sid_places, myp_next_sid(&out->rest, under.flag, &out->it))
@@ -106,14 +105,13 @@ static const struct call {
     ROW(read_common_ok, myp_ok, 2, AT(myp_ok, info), AT(myp_ok, session_state)),
     ROW(read_terminator, myp_ok, 2, AT(myp_ok, info), AT(myp_ok, session_state)),
     ROW(read_error, myp_error, 2, AT(myp_error, sql_state), AT(myp_error, message)),
-    ROW(read_column, myp_column, 5, COLUMN(myp_column, )),
-    ROW(read_extended_column, myp_extended_column, 6, COLUMN(myp_extended_column, column.), AT(myp_extended_column, metadata)),
-    ROW(read_field_list_column, myp_field_list_column, 7, COLUMN(myp_field_list_column, column.column.), AT(myp_field_list_column, column.metadata), AT(myp_field_list_column, default_value)),
+    ROW(read_column, myp_column, 6, COLUMN(myp_column, ), AT(myp_column, metadata)),
+    ROW(read_field_list_column, myp_field_list_column, 7, COLUMN(myp_field_list_column, column.), AT(myp_field_list_column, column.metadata), AT(myp_field_list_column, default_value)),
     ROW(read_text_row, row, 1, VALUES(row, values)),
     ROW(read_binary_row, row, 1, VALUES(row, values)),
     ROW(read_command, myp_command, 2, AT(myp_command, text), AT(myp_command, wildcard)),
-    ROW(read_query_attribute, myp_query_attribute, 2, AT(myp_query_attribute, name), AT(myp_query_attribute, value.bytes)),
-    ROW(read_execution_attribute, myp_query_attribute, 2, AT(myp_query_attribute, name), AT(myp_query_attribute, value.bytes)),
+    ROW(read_query_attribute, myp_parameter, 2, AT(myp_parameter, name), AT(myp_parameter, value.bytes)),
+    ROW(read_execution_attribute, myp_parameter, 2, AT(myp_parameter, name), AT(myp_parameter, value.bytes)),
     ROW(read_execution, execution, 1, VALUES(execution, values)),
     ROW(read_long_data, myp_long_data, 1, AT(myp_long_data, content)),
     ROW(read_login, myp_login, 5, AT(myp_login, user), AT(myp_login, auth_response), AT(myp_login, database), AT(myp_login, auth_plugin_name), AT(myp_login, attributes)),
@@ -254,7 +252,7 @@ static void read_apart(void)
         printf("myp_sid_from_text: the first places do not hold the intervals\n"), bad++;
 }
 
-/* What the calls are passed with a packet: at random, but for what a place or a count of columns says, so that each seed is read both ways. */
+/* What the calls are passed with a packet: at random, except for what a place or a count of columns says, so that each seed is read both ways. */
 static void vary(size_t columns, size_t place)
 {
     under.columns = columns, under.place = place, under.flag = columns % 2;
@@ -263,7 +261,7 @@ static void vary(size_t columns, size_t place)
         under.capabilities &= ~(uint32_t)MYP_CLIENT_QUERY_ATTRIBUTES, under.mariadb &= ~(uint32_t)MYP_MARIADB_CLIENT_EXTENDED_METADATA;
     for (size_t i = 0; i < 6; i++) {
         under.types[i] = kinds[i];
-        under.params[i] = (myp_param){ kinds[i].column_type, kinds[i].is_unsigned, place == 2 && varied() % 2 };
+        under.params[i] = (myp_bound_param){ kinds[i].column_type, kinds[i].is_unsigned, place == 2 && varied() % 2 };
     }
 }
 

@@ -22,7 +22,7 @@ WANTED = ["row '2' 'text' NULL", *BROKEN, *ROWS, "error 1146 (42S02): Table 'liv
 # what the clients ask through the recorder, and what must be among the lines of it: of each client the same
 ASKED = ["select 1, 'a' union all select 2, null", "create temporary table t (a int)", "insert into t values (1), (2), (3)", "select * from nothing_here"]
 RECORDED = {
-    "login native": 1, "command code=3 select 1, 'a' union all select 2, null": 1, "column_count columns=2": 1, "text_row": 2,
+    "login native": 1, "command code=3 select 1, 'a' union all select 2, null": 1, "column_count columns=2": 1, "text_row 1 a": 1, "text_row 2 NULL": 1,
     "command code=3 insert into t values (1), (2), (3)": 1, "ok affected_rows=3": 1, "error 1146 Table 'live.nothing_here' doesn't exist": 1, "command code=1": 1,
 }
 

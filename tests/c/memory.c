@@ -39,12 +39,12 @@ static void check(int line, const char *call, uint32_t code, int good)
     WITHOUT_MEMORY(call); \
     check(__LINE__, #call, code, code == (expected) && (field) && ASKED_FOR_NONE); } while (0)
 
-/* A row of a writer, which is passed `out, size, &n`: it writes so many bytes, and refuses a buffer of one byte fewer. */
+/* A row of a writer, which is passed `out, size, &n`: it writes a given number of bytes, and refuses a buffer of one byte fewer. */
 #define WRITES(count, call) do { \
     size_t size = sizeof out, n = 77; \
     ROW(call, MYP_OK, n == (count)); \
     size = (count) - 1, n = 77; \
-    ROW(call, MYP_BUFFER_TOO_SMALL, n == (count)); } while (0)
+    ROW(call, MYP_ERROR_BUFFER_TOO_SMALL, n == (count)); } while (0)
 
 /* A row of a reader, which is passed `packet, len` or begins at `REST`: it reads the packet and sets this field; and of each packet
  * that is cut, whether it is one or not, it takes no memory either. */
@@ -56,7 +56,7 @@ static void check(int line, const char *call, uint32_t code, int good)
     while (good && len > 0) { \
         len--; \
         WITHOUT_MEMORY(call); \
-        good = code <= MYP_END && code != MYP_NO_MEMORY && ASKED_FOR_NONE; \
+        good = code <= MYP_ERROR_COMPRESSED && code != MYP_ERROR_TOO_LARGE && ASKED_FOR_NONE; \
     } \
     check(__LINE__, "a cut packet, " #call, code, good); } while (0)
 #define READS(text, call, field) do { len = sizeof(text) - 1, memcpy(packet, text, len); READ(call, field); } while (0)
@@ -69,7 +69,7 @@ static void numbers(void)
     ROW(myp_supported_capabilities() & MYP_CLIENT_PROTOCOL_41, MYP_CLIENT_PROTOCOL_41, 1);
     ROW(myp_supported_mariadb_capabilities() & MYP_MARIADB_CLIENT_EXTENDED_METADATA, MYP_MARIADB_CLIENT_EXTENDED_METADATA, 1);
     ROW(myp_code_text(MYP_END, &text), MYP_OK, text.len == strlen(myp_error_text(MYP_END)));
-    ROW(myp_code_text(MYP_END + 1, &text), MYP_INVALID_INPUT, text.len == strlen(myp_error_text(MYP_END)));
+    ROW(myp_code_text(MYP_ERROR_COMPRESSED + 1, &text), MYP_ERROR_INVALID_INPUT, text.len == strlen(myp_error_text(MYP_END)));
 }
 
 static void headers(void)
@@ -84,13 +84,30 @@ static void headers(void)
 
 static void conversations(void)
 {
-    myp_conversation begun = MYP_CONVERSATION_INIT, conversation;
+    myp_conversation begun = MYP_CONVERSATION_INIT, session = MYP_CONVERSATION_INIT, conversation;
     myp_packet next = MYP_PACKET_INIT;
     uint8_t rests = 7;
-    ROW(myp_begin_conversation(0, 0, MYP_AFTER_LOGIN, &begun), MYP_OK, begun.opening == MYP_AFTER_LOGIN);
-    ROW(myp_begin_conversation(0, 0, 2, &begun), MYP_INVALID_INPUT, begun.opening == MYP_AFTER_LOGIN);
-    ROW(myp_is_at_rest(&begun, &rests), MYP_OK, rests == 0);
-    READS("\0\0\0\2\0\0\0", (conversation = begun, myp_next_packet(&conversation, MYP_FROM_SERVER, packet, len, &next)), next.kind == MYP_PACKET_OK);
+    ROW(myp_begin_conversation(0, 0, MYP_OPENING_AFTER_LOGIN, &begun), MYP_OK, begun.opening == MYP_OPENING_AFTER_LOGIN);
+    ROW(myp_begin_conversation(0, 0, 3, &begun), MYP_ERROR_INVALID_INPUT, begun.opening == MYP_OPENING_AFTER_LOGIN);
+    ROW(myp_is_idle(&begun, &rests), MYP_OK, rests == 0);
+    ROW(myp_begin_session(&session), MYP_OK, session.opening == MYP_OPENING_SESSION);
+    READS("\x0a" "5.5.5-10.11.19-MariaDB\0\x01\0\0\0abcdefgh\0\xfe\xf7\x2d\x02\0\xff\x81\x15\0\0\0\0\0\0\x1d\0\0\0ijklmnopqrst\0mysql_native_password",
+          (conversation = session, myp_next_packet(&conversation, MYP_SIDE_SERVER, packet, len, &next)), next.kind == MYP_PACKET_HANDSHAKE);
+    session.place = 1;
+    READS("\0\x82\0\0\0\0\0\1\x2d\0\0\0\0\0\0\0\0\0\0\0\0\0\0\0\0\0\0\0\0\0\0\0u\0\0",
+          (conversation = session, myp_next_packet(&conversation, MYP_SIDE_CLIENT, packet, len, &next)), next.kind == MYP_PACKET_LOGIN);
+    ROW(myp_is_idle(&session, &rests), MYP_OK, rests == 0);
+    READS("\0\0\0\2\0\0\0", (conversation = begun, myp_next_packet(&conversation, MYP_SIDE_SERVER, packet, len, &next)), next.kind == MYP_PACKET_OK);
+}
+
+static void text_numbers(void)
+{
+    int64_t i = 7;
+    uint64_t u = 7;
+    double d = 7;
+    READS("-9223372036854775808", myp_text_to_int(packet, len, &i), i == INT64_MIN);
+    READS("18446744073709551615", myp_text_to_uint(packet, len, &u), u == UINT64_MAX);
+    READS("-1.7976931348623157e308", myp_text_to_double(packet, len, &d), d == -1.7976931348623157e308);
 }
 
 /* what a client reads of a server */
@@ -120,9 +137,6 @@ static void read_replies(void)
     myp_change change = MYP_CHANGE_INIT;
     myp_error error = MYP_ERROR_INIT;
     myp_bytes rest, name = MYP_BYTES_INIT, value = MYP_BYTES_INIT;
-    uint32_t kind = 7;
-    READS("\xff", myp_reply_kind(packet, len, &kind), kind == MYP_REPLY_ERROR);
-    READS("\xfe\0\0\2\0", myp_row_kind(packet, len, 0, &kind), kind == MYP_REPLY_END);
     READS("\0\3\xfc\x10\x27\2\0\1\0", myp_read_ok(packet, len, MYP_OK_COMMON, MYP_CLIENT_SESSION_TRACK, &ok), ok.last_insert_id == 10000);
     READS("\xfe\0\0\2\0\0\0", myp_read_ok(packet, len, MYP_OK_TERMINATOR, MYP_CLIENT_DEPRECATE_EOF, &ok), ok.status_flags == 2);
     READS("\xfe\1\0\2\0", myp_read_ok(packet, len, MYP_OK_OLD_EOF, 0, &ok), ok.warnings == 1);
@@ -140,21 +154,18 @@ static void read_results(void)
     static const myp_column_type types[] = { { MYP_TYPE_LONG, 0 }, { MYP_TYPE_LONGLONG, 0 }, { MYP_TYPE_VAR_STRING, 0 }, { MYP_TYPE_DATETIME, 0 } };
     myp_column_count count = MYP_COLUMN_COUNT_INIT;
     myp_statement statement = MYP_STATEMENT_INIT;
-    myp_statement_with_metadata prepared = MYP_STATEMENT_WITH_METADATA_INIT;
     myp_column column = MYP_COLUMN_INIT;
-    myp_extended_column extended = MYP_EXTENDED_COLUMN_INIT;
     myp_field_list_column listed = MYP_FIELD_LIST_COLUMN_INIT;
     myp_column_attribute attribute = MYP_COLUMN_ATTRIBUTE_INIT;
     myp_value values[4] = { none, none, none, none };
     myp_bytes rest;
     size_t used = 7;
-    READS("\xfc\0\1", myp_read_column_count(packet, len, 0, &count), count.count == 256);
-    READS("\x08\x01", myp_read_column_count_with_metadata(packet, len, MYP_CLIENT_OPTIONAL_RESULTSET_METADATA, 0, &count), count.count == 8);
-    READS("\0\1\0\0\0\1\0\2\0\0\0\0", myp_read_statement(packet, len, &statement), statement.num_params == 2);
-    READS("\0\1\0\0\0\1\0\2\0\0\0\0\1", myp_read_statement_with_metadata(packet, len, MYP_CLIENT_OPTIONAL_RESULTSET_METADATA, &prepared), prepared.metadata == 1);
-    READS("\003def\004test\003tbl\003org\001a\001b\x0c\x3f\0\x0b\0\0\0\x08\x21\0\0\0\0", myp_read_column(packet, len, &column), column.column_length == 11);
+    READS("\x08\x01", myp_read_column_count(packet, len, MYP_CLIENT_OPTIONAL_RESULTSET_METADATA, 0, &count), count.count == 8);
+    READS("\0\1\0\0\0\1\0\2\0\0\0\0", myp_read_statement(packet, len, 0, &statement), statement.num_params == 2);
+    READS("\0\1\0\0\0\1\0\2\0\0\0\0\1", myp_read_statement(packet, len, MYP_CLIENT_OPTIONAL_RESULTSET_METADATA, &statement), statement.metadata_follows == 1);
+    READS("\003def\004test\003tbl\003org\001a\001b\x0c\x3f\0\x0b\0\0\0\x08\x21\0\0\0\0", myp_read_column(packet, len, 0, &column), column.column_length == 11);
     READS_HEX("0364656602766501740174016a016a090004757569640101610c2d00fffffffffc9000000000",
-              myp_read_extended_column(packet, len, MYP_MARIADB_CLIENT_EXTENDED_METADATA, &extended), extended.metadata.len == 9);
+              myp_read_column(packet, len, MYP_MARIADB_CLIENT_EXTENDED_METADATA, &column), column.metadata.len == 9);
     READS_HEX("03646566026839056b696e6473056b696e64730269640269640c3f000b0000000303420000000130",
               myp_read_field_list_column(packet, len, 0, &listed), listed.has_default_value == 1);
     READS("\0\4uuid", (rest = REST, myp_next_column_attribute(&rest, &attribute)), IS(attribute.text, "uuid"));
@@ -174,7 +185,7 @@ static void read_logins(void)
     READS_HEX("05aaae81000000012d" "00000000000000000000000000000000000000" "1d000000", myp_read_ssl_request(packet, len, &tls), tls.mariadb_capabilities == 29);
     READS_HEX("0da2be81000000012d" "0000000000000000000000000000000000000000000000" "726f6f7400" "00" "6d79646200"
               "6d7973716c5f6e61746976655f70617373776f726400" "08016101620263" "6400", myp_read_login(packet, len, &login), login.attributes.len == 8);
-    READS("\1a\1b", (rest = REST, myp_next_attribute(&rest, &name, &value)), IS(value, "b"));
+    READS("\1a\1b", (rest = REST, myp_next_connection_attribute(&rest, &name, &value)), IS(value, "b"));
     READS("\2", myp_read_public_key_request(packet, len, &used), used == 1);
     READS_HEX("11750002010264000201636c69656e745f656432353531390004016b0176", myp_read_change_user(packet, len, both, &change), change.character_set == 258);
 }
@@ -182,10 +193,10 @@ static void read_logins(void)
 static void read_commands(void)
 {
     static const myp_value none = MYP_VALUE_INIT;
-    static const myp_param params[] = { { MYP_TYPE_LONGLONG, 0, 0 }, { MYP_TYPE_LONGLONG, 0, 0 } };
+    static const myp_bound_param params[] = { { MYP_TYPE_LONGLONG, 0, 0 }, { MYP_TYPE_LONGLONG, 0, 0 } };
     static const myp_column_type columns[] = { { MYP_TYPE_LONG, 0 }, { MYP_TYPE_STRING, 0 }, { MYP_TYPE_LONGLONG, 1 } };
     myp_command command = MYP_COMMAND_INIT;
-    myp_query_attribute attribute = MYP_QUERY_ATTRIBUTE_INIT;
+    myp_parameter attribute = MYP_PARAMETER_INIT;
     myp_long_data data = MYP_LONG_DATA_INIT;
     myp_execution_head head = MYP_EXECUTION_HEAD_INIT;
     myp_execution execution = MYP_EXECUTION_INIT;
@@ -240,7 +251,7 @@ static void read_replication(void)
 /* what a client and a replica say */
 static void write_logins(void)
 {
-    static const myp_attribute attributes[] = { { TEXT("program"), TEXT("memory") }, { TEXT("of"), TEXT("tests") } };
+    static const myp_connection_attribute attributes[] = { { TEXT("program"), TEXT("memory") }, { TEXT("of"), TEXT("tests") } };
     static const myp_bytes text = TEXT("some bytes");
     myp_login login = MYP_LOGIN_INIT;
     myp_change_user change = MYP_CHANGE_USER_INIT;
@@ -252,6 +263,7 @@ static void write_logins(void)
     WRITES(32, myp_write_ssl_request(&tls, out, size, &n));
     WRITES(1, myp_write_public_key_request(out, size, &n));
     WRITES(20, myp_scramble_native((const uint8_t *)"password", 8, (const uint8_t *)"abcdefghijklmnopqrst", 20, out, size, &n));
+    WRITES(32, myp_scramble_sha2((const uint8_t *)"password", 8, (const uint8_t *)"abcdefghijklmnopqrst", 20, out, size, &n));
 }
 
 static void write_commands(void)
@@ -260,23 +272,21 @@ static void write_commands(void)
     static const myp_bytes text = TEXT("some bytes");
     static const myp_command command = { TEXT("t"), TEXT("%"), 0, 0, 0, MYP_COM_FIELD_LIST };
     static const myp_long_data data = { TEXT("abc"), 5, 2 };
-    static const myp_execution_head head = MYP_EXECUTION_HEAD_INIT;
-    static const myp_typed_value no_value = MYP_TYPED_VALUE_INIT;
+    static const myp_execution_options options = { 0, MYP_CURSOR_READ_ONLY, 0 };
     const myp_value v[4] = { myp_int(1), myp_text("a", 1), myp_int(2), myp_text("bc", 2) };
-    const myp_query_attribute named[2] = { { text, v[0], 0, 0 }, { text, v[1], 0, 0 } };
-    myp_typed_value typed[4];
+    const myp_parameter named[2] = { { v[0], text, 0, 0, 0, 0 }, { v[1], text, 0, 0, 0, 0 } };
+    myp_parameter plain[4], typed[4];
     uint8_t as_long_data = 0;
     for (size_t i = 0; i < 4; i++)
-        typed[i] = no_value, typed[i].value = v[i], typed[i].column_type = four[i];
+        plain[i] = typed[i] = myp_param(v[i]), typed[i].has_type = 1, typed[i].column_type = four[i];
     WRITES(4, myp_write_command(&command, out, size, &n));
-    WRITES(11, myp_write_query((const uint8_t *)"select 1", 8, MYP_CLIENT_QUERY_ATTRIBUTES, out, size, &n));
-    WRITES(5 + 2 * 13 + 8 + 2 + 10, myp_write_query_with_attributes(text.data, text.len, named, 2, out, size, &n));
+    WRITES(11, myp_write_query((const uint8_t *)"select 1", 8, NULL, 0, MYP_CLIENT_QUERY_ATTRIBUTES, out, size, &n));
+    WRITES(5 + 2 * 13 + 8 + 2 + 10, myp_write_query(text.data, text.len, named, 2, MYP_CLIENT_QUERY_ATTRIBUTES, out, size, &n));
     WRITES(5, myp_write_close(1, out, size, &n));
     WRITES(10, myp_write_long_data(&data, out, size, &n));
-    WRITES(12 + 4 * 2 + 21, myp_write_execution(1, v, 4, out, size, &n, &as_long_data));
-    WRITES(12 + 4 * 2 + 21, myp_write_execution_with_cursor(1, MYP_CURSOR_READ_ONLY, v, 4, out, size, &n, &as_long_data));
-    WRITES(13 + 8 * 3 + 2 * 10, myp_write_execution_with_types(&head, MYP_CLIENT_QUERY_ATTRIBUTES, 1, typed, 4, typed, 4, out, size, &n, &as_long_data));
-    WRITES(13 + 4 * 3 + 2 * 13 + 21 + 10, myp_write_execution_with_attributes(1, MYP_CURSOR_NONE, v, 4, named, 2, out, size, &n, &as_long_data));
+    WRITES(12 + 4 * 2 + 21, myp_write_execution(1, plain, 4, NULL, 0, &options, 0, out, size, &n, &as_long_data));
+    WRITES(13 + 8 * 3 + 2 * 10, myp_write_execution(1, typed, 4, typed, 4, &options, MYP_CLIENT_QUERY_ATTRIBUTES, out, size, &n, &as_long_data));
+    WRITES(13 + 4 * 3 + 2 * 13 + 21 + 10, myp_write_execution(1, plain, 4, named, 2, &options, MYP_CLIENT_QUERY_ATTRIBUTES, out, size, &n, &as_long_data));
 }
 
 static void write_bulks(void)
@@ -287,13 +297,13 @@ static void write_bulks(void)
     static const size_t ends[] = { 2 };
     const myp_value v[4] = { myp_int(1), myp_text("a", 1), myp_int(2), myp_text("bc", 2) };
     uint64_t sizes[2] = { 7, 7 };
-    size_t rows = 7;
+    size_t rows = 7, used = 11;
     uint8_t yes = 7;
     WRITES(11 + 12 + 13, myp_write_bulk(1, 0, 1 << 20, types, 2, v, 4, out, size, &n, &rows));
     WRITES(11, myp_begin_bulk(1, 0, types, 2, out, size, &n));
-    WRITES(11 + 12, myp_add_bulk_row(types, 2, v, 2, 1 << 20, out, size, 11, &n));
+    WRITES(11 + 12, (used = 11, myp_add_bulk_row(types, 2, v, 2, 1 << 20, out, size, &used, &n)));
     ROW(myp_bulk_row_sizes(types, 2, v, 4, sizes, 2, &rows), MYP_OK, rows == 2 && sizes[0] == two[0] && sizes[1] == two[1]);
-    ROW(myp_bulk_row_sizes(types, 2, v, 4, sizes, 1, &rows), MYP_BUFFER_TOO_SMALL, rows == 2);
+    ROW(myp_bulk_row_sizes(types, 2, v, 4, sizes, 1, &rows), MYP_ERROR_BUFFER_TOO_SMALL, rows == 2);
     ROW(myp_bulk_cut_is_fewest(&rule, 11 + 12 + 13, 2, two, 2, ends, 1, &yes), MYP_OK, yes == 1);
 }
 
@@ -355,21 +365,19 @@ static void write_replies(void)
 
 static void write_results(void)
 {
-    static const myp_statement statement = { 1, 1, 2, 0, 0 };
-    static const myp_statement_with_metadata prepared = { 1, 1, 2, 0, 1, 0, 0 };
+    static const myp_statement statement = { 1, 1, 2, 0, 1, 0 };
     static const myp_column_count count = { 256, 1, 0 };
-    static const myp_column column = { TEXT("test"), TEXT("tbl"), TEXT("org"), TEXT("a"), TEXT("b"), 11, 63, 33, MYP_TYPE_LONGLONG, 0, 0 };
-    static const myp_extended_column extended = { { TEXT("test"), TEXT("tbl"), TEXT("org"), TEXT("a"), TEXT("b"), 11, 63, 33, MYP_TYPE_LONGLONG, 0, 0 }, TEXT("\1\1a"), 1 };
-    static const myp_field_list_column listed = { { { TEXT("test"), TEXT("tbl"), TEXT("org"), TEXT("a"), TEXT("b"), 11, 63, 33, MYP_TYPE_LONGLONG, 0, 0 }, TEXT("\1\1a"), 1 }, TEXT("0"), 1 };
-    static const myp_column_attribute attribute = { TEXT("a"), MYP_ATTRIBUTE_FORMAT_NAME };
+    static const myp_column column = { TEXT("test"), TEXT("tbl"), TEXT("org"), TEXT("a"), TEXT("b"), MYP_BYTES_INIT, 11, 63, 33, MYP_TYPE_LONGLONG, 0, 0, 0 };
+    static const myp_column extended = { TEXT("test"), TEXT("tbl"), TEXT("org"), TEXT("a"), TEXT("b"), TEXT("\1\1a"), 11, 63, 33, MYP_TYPE_LONGLONG, 0, 1, 0 };
+    static const myp_field_list_column listed = { { TEXT("test"), TEXT("tbl"), TEXT("org"), TEXT("a"), TEXT("b"), TEXT("\1\1a"), 11, 63, 33, MYP_TYPE_LONGLONG, 0, 1, 0 }, TEXT("0"), 1 };
+    static const myp_column_attribute attribute = { TEXT("a"), MYP_COLUMN_ATTRIBUTE_FORMAT_NAME };
     static const myp_column_type types[] = { { MYP_TYPE_VAR_STRING, 0 }, { MYP_TYPE_LONGLONG, 0 } };
     const myp_value v[2] = { myp_text("some bytes", 10), myp_null() };
-    WRITES(12, myp_write_statement(&statement, out, size, &n));
-    WRITES(13, myp_write_statement_with_metadata(&prepared, out, size, &n));
-    WRITES(4, myp_write_column_count(&count, MYP_MARIADB_CLIENT_CACHE_METADATA, out, size, &n));
-    WRITES(4, myp_write_column_count_with_metadata(&count, MYP_CLIENT_OPTIONAL_RESULTSET_METADATA, 0, out, size, &n));
+    WRITES(12, myp_write_statement(&statement, 0, out, size, &n));
+    WRITES(13, myp_write_statement(&statement, MYP_CLIENT_OPTIONAL_RESULTSET_METADATA, out, size, &n));
+    WRITES(4, myp_write_column_count(&count, MYP_CLIENT_OPTIONAL_RESULTSET_METADATA, 0, out, size, &n));
     WRITES(34, myp_write_column(&column, out, size, &n));
-    WRITES(34 + 4, myp_write_extended_column(&extended, out, size, &n));
+    WRITES(34 + 4, myp_write_column(&extended, out, size, &n));
     WRITES(34 + 4 + 2, myp_write_field_list_column(&listed, out, size, &n));
     WRITES(3, myp_write_column_attribute(&attribute, out, size, &n));
     WRITES(11 + 1, myp_write_text_row(v, 2, out, size, &n));
@@ -381,6 +389,7 @@ int main(void)
     numbers();
     headers();
     conversations();
+    text_numbers();
     read_connection();
     read_replies();
     read_results();

@@ -104,6 +104,10 @@ def inside():
     login = session.write_login(hello, "me", "secret", "live")
     read = p.read("myp_read_login", login, into="myp_login")
     expect("login", (p.text(read.user), p.text(read.database), read.capabilities), (b"me", b"live", session.capabilities))
+    # (by hashlib)
+    expect("sha2", session.auth_response("caching_sha2_password", "password", b"abcdefghijklmnopqrst").hex(),
+           "6584c404bc44a3d014cacc4fc823edc02991a53d5ae825ea0f91c7a0f1f26653")
+    expect("no password", session.auth_response("caching_sha2_password", "", b"abcdefghijklmnopqrst"), b"")
     done = session.read_ok(ok)
     expect("login's OK packet", (done.status & 2, done.changes), (2, (my.Change(1, b"live", ()),)))
     statement = session.read_statement(prepared)
@@ -116,6 +120,26 @@ def inside():
     rows = [session.read_binary_row(it, columns) for it in answer[1 + count : -1]]
     expect("rows", rows, [(b"-5", b"abc"), (b"z", None)])
     expect("end", session.read_ok(answer[-1], "TERMINATOR").warnings, 0)
+
+    # the same connection as an observer sees it, in pieces of 7 bytes
+    watching = my.Session()
+
+    def observed(side, *payloads):
+        stream = b"".join(len(it).to_bytes(3, "little") + b"\0" + it for it in payloads)
+        return [it for at in range(0, len(stream), 7) for it in watching.observe(side, stream[at : at + 7])]
+
+    expect("observed greeting", [it[:2] + it[3:] for it in observed("server", greeting)], [("server", "handshake", hello)])
+    it = observed("client", login)[0]
+    expect("observed login", (it.kind, it.record[:3], it.payload), ("login", ("me", "live", "mysql_native_password"), login))
+    expect("agreed", watching.capabilities, session.capabilities)
+    expect("observed OK packet", [it.record for it in observed("server", ok)], [done])
+    expect("observed command", [it.record for it in observed("client", b"\x16select ?, ?")], [my.Command(22, "select ?, ?", 0)])
+    it = observed("server", prepared, *rest[:4])
+    expect("observed statement", ([it.kind for it in it], it[0].record), (["prepare_ok"] + ["column"] * 4, statement))
+    execution = session.write_execution(statement, ["abc", 7])
+    expect("observed execution", [it.record for it in observed("client", *execution)], [my.Execution(1, (b"abc", 7), ())])
+    expect("observed rows", [it.record for it in observed("server", *answer) if it.kind == "binary_row"], rows)
+    refused("a reply without a command", my.InvalidData, observed, "server", ok)
 
     # packets of the protocol's pages
     error = bytes.fromhex("ff48042348593030304e6f207461626c65732075736564")

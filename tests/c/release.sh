@@ -59,6 +59,9 @@ released() {
         expect "$(basename -- "$package") is unpacked" dpkg-deb -x "$package" "$root"
         expect "$(basename -- "$package") has its control file" dpkg-deb -f "$package" Package Version Depends
     done
+    if command -v lintian >"$work/log"; then
+        expect "lintian finds no error in the packages of $machine" lintian --allow-root --fail-on error "$work"/one/*_"$2.deb"
+    fi
     if [[ $has_pkg_config ]]; then
         expect "pkg-config over the Debian packages of $machine" by_pkg_config "$root/usr" "lib/$machine-linux-gnu" \
             "$root/usr/share/doc/libmysql-packets-dev/examples"

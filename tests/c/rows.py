@@ -22,7 +22,7 @@ from describe_values import columns_of
 from lines import summary, vectors
 from mysql_packets import Library
 
-CODES = {"": "MYP_OK", "UnexpectedEof": "MYP_UNEXPECTED_EOF", "InvalidData": "MYP_INVALID_DATA"}
+CODES = {"": "MYP_OK", "UnexpectedEof": "MYP_ERROR_UNEXPECTED_EOF", "InvalidData": "MYP_ERROR_INVALID_DATA"}
 COLUMN = "schema table org_table name org_name character_set column_length column_type flags decimals"
 # the struct of each word that is read into one, its call, and its fields: the name that the reference decoder has for each, or none
 # where it is the same, and `?` after it where what is absent is 0 or empty
@@ -31,7 +31,7 @@ STRUCTS = {
                   "status_flags mariadb_capabilities=mariadb auth_plugin_name?"),
     "auth_switch": ("myp_auth_switch", "myp_read_auth_switch", "plugin_data=raw"),
     "next_factor": ("myp_auth_switch", "myp_read_auth_next_factor", "plugin_data=raw"),
-    "stmt": ("myp_statement", "myp_read_statement", "statement_id num_columns num_params warning_count"),
+    **{word: ("myp_statement", "myp_read_statement", "statement_id num_columns num_params warning_count") for word in ("stmt", "stmt_metadata")},
     "column": ("myp_column", "myp_read_column", COLUMN),
     **{word: ("myp_ok", "myp_read_ok", "affected_rows last_insert_id? status_flags warnings info? session_state=session_state_info?")
        for word in ("ok", "ok_end", "ok_eof", "ok_stream")},
@@ -43,8 +43,8 @@ STRUCTS = {
     "gtid": ("myp_gtid_dump", "myp_read_gtid_dump", "server_id flags file_name=filename position=pos n_sids=sids"),
     "table_dump": ("myp_table_dump", "myp_read_table_dump", "database table"),
     "semi_sync_ack": ("myp_semi_sync_ack", "myp_read_semi_sync_ack", "position file_name=filename"),
-    "column_count": ("myp_column_count", "myp_read_column_count_with_metadata", "count"),
-    "extended_column": ("myp_extended_column", "myp_read_extended_column", "metadata?"),
+    "column_count": ("myp_column_count", "myp_read_column_count", "count"),
+    "extended_column": ("myp_column", "myp_read_column", f"{COLUMN} metadata?"),
     "field_list_column": ("myp_field_list_column", "myp_read_field_list_column", ""),
     "stream": ("myp_stream_packet", "myp_read_stream_packet", ""),
     "command": ("myp_command", "myp_read_command", ""),
@@ -54,6 +54,7 @@ STRUCTS = {
 # what else a call is passed, of the words of the context
 GIVEN = {**dict.fromkeys(("err", "extended_column", "field_list_column", "command"), lambda caps: [int(caps) & 0xFFFFFFFF]),
          "column_count": lambda caps, mariadb: [int(caps) & 0xFFFFFFFF, int(mariadb) & 0xFFFFFFFF],
+         **dict.fromkeys(("stmt", "column"), lambda: [0]), "stmt_metadata": lambda caps: [int(caps) & 0xFFFFFFFF],
          "stream": lambda agreed: [int(agreed == "semi_sync")]}
 KINDS = {"ok": 0, "ok_end": 1, "ok_eof": 2, "ok_stream": 3}
 # a word that is read as one number or one byte string
@@ -82,7 +83,7 @@ def login_words(packets, out):
     """What may be absent of a login, and its attributes: of a key that comes again the last value counts."""
     name, value, texts = packets.bytes(b""), packets.bytes(b""), {}
     rest = out.attributes
-    while packets.next("myp_next_attribute", rest, name, value):
+    while packets.next("myp_next_connection_attribute", rest, name, value):
         texts[lossy(packets.text(name))] = lossy(packets.text(value))
     words = [f"db_name={x(packets.text(out.database)) if out.has_database else 'none'}",
              plugin(packets.text(out.auth_plugin_name)) if out.has_auth_plugin_name else "plugin=none",
@@ -108,13 +109,13 @@ def version_words(packets, text):
     words, version = [], packets.new("myp_server_version")
     for call, name in (("myp_read_server_version", "version"), ("myp_read_mariadb_version", "maria_db")):
         code = getattr(packets.dll, call)(text.data, text.len, ctypes.byref(version))
-        words += [f"{name}=none"] if code == packets.MYP_INVALID_DATA else [f"{name}={version.major}", f"minor={version.minor}", f"patch={version.patch}"]
+        words += [f"{name}=none"] if code == packets.MYP_ERROR_INVALID_DATA else [f"{name}={version.major}", f"minor={version.minor}", f"patch={version.patch}"]
     return words
 
 
 def extended_words(packets, out):
-    """The column of an extended one, and its attributes to the end, or to the first that is none."""
-    words, attribute, rest = [field_word(packets, out.column, it) for it in COLUMN.split()], packets.new("myp_column_attribute"), out.metadata
+    """The attributes of an extended column to the end, or to the first that is none."""
+    words, attribute, rest = [], packets.new("myp_column_attribute"), out.metadata
     while not (code := packets.dll.myp_next_column_attribute(ctypes.byref(rest), ctypes.byref(attribute))):
         words += [f"kind={ {0: 'TypeName', 1: 'FormatName'}.get(attribute.kind, attribute.kind)}", f"text={x(packets.text(attribute.text))}"]
     faults = {getattr(packets, code): fault for fault, code in CODES.items()}
@@ -123,7 +124,7 @@ def extended_words(packets, out):
 
 def field_list_words(packets, out):
     """The column of one that answers COM_FIELD_LIST, its metadata, and its default value."""
-    words = [field_word(packets, out.column.column, it) for it in COLUMN.split()] + [field_word(packets, out.column, "metadata?")]
+    words = [field_word(packets, out.column, it) for it in f"{COLUMN} metadata?".split()]
     return [*words, f"default_value={x(packets.text(out.default_value)) if out.has_default_value else 'none'}"]
 
 
@@ -154,7 +155,7 @@ def command_words(packets, out):
 
 def attribute_words(packets, payload):
     """The attributes of a query, to the last."""
-    words, place, out = [], 0, packets.new("myp_query_attribute")
+    words, place, out = [], 0, packets.new("myp_parameter")
     while not (code := packets.dll.myp_read_query_attribute(payload.data, payload.len, place, ctypes.byref(out))):
         words += [f"name={x(packets.text(out.name))}", f"{out.column_type}-{128 * out.is_unsigned}={value_word(packets, out.value)}"]
         place += 1
@@ -163,7 +164,7 @@ def attribute_words(packets, payload):
 
 def value_word(packets, value):
     """A value as a word of an answer."""
-    kinds = [getattr(packets, f"MYP_{it}") for it in "NULL BYTES INT UINT FLOAT DOUBLE DATE TIME DATE_WITH_OFFSET".split()]
+    kinds = [getattr(packets, f"MYP_VALUE_{it}") for it in "NULL BYTES INT UINT FLOAT DOUBLE DATE TIME DATE_WITH_OFFSET".split()]
     match kinds.index(value.kind):
         case 0: return "N"
         case 1: return x(packets.text(value.bytes))
@@ -217,12 +218,13 @@ class Calls:
         words += sid_words(p, out) if word == "gtid" else []
         words += version_words(p, out.server_version) if word == "handshake" else []
         words += [f"metadata_follows={('no', 'yes')[out.metadata_follows]}"] if word == "column_count" else []
+        words += [f"metadata={out.metadata_follows if given[0] & p.MYP_CLIENT_OPTIONAL_RESULTSET_METADATA else 'none'}"] if word == "stmt_metadata" else []
         words += extended_words(p, out) if word == "extended_column" else []
         words += field_list_words(p, out) if word == "field_list_column" else []
         words += stream_words(p, out, *given) if word == "stream" else []
         words += command_words(p, out) if word == "command" else []
         words += attribute_words(p, payload) if word == "command" and out.code == p.MYP_COM_QUERY and given[0] & p.MYP_CLIENT_QUERY_ATTRIBUTES else []
-        used = out.column.used if word == "extended_column" else out.column.column.used if word == "field_list_column" else getattr(out, "used", None)
+        used = out.column.used if word == "field_list_column" else getattr(out, "used", None)
         return code, words, used, self.outside(payload, places(p, out))
 
     def single(self, word, payload):
@@ -252,13 +254,13 @@ class Calls:
     def execution(self, context, payload, capabilities):
         p, bound = self.packets, bound_of(context[0])
         count, out = len(bound), p.new("myp_execution")
-        known = p.array("myp_param", [p.types["myp_param"](kind, int(bool(flags)), int(ahead)) for kind, flags, ahead in bound])
+        known = p.array("myp_bound_param", [p.types["myp_bound_param"](kind, int(bool(flags)), int(ahead)) for kind, flags, ahead in bound])
         values = p.array("myp_value", [p.new("myp_value") for _ in bound])
         types = p.array("myp_column_type", [p.new("myp_column_type") for _ in bound])
         before = bytes(out)
         code = p.dll.myp_read_execution(payload.data, payload.len, capabilities, known, count, values, count, types, count, ctypes.byref(out))
         if code:
-            attribute = p.new("myp_query_attribute")
+            attribute = p.new("myp_parameter")
             attribute_before = bytes(attribute)
             again = p.dll.myp_read_execution_attribute(payload.data, payload.len, capabilities, known, count, 0, ctypes.byref(attribute))
             is_kept = bytes(out) == before and again == code and bytes(attribute) == attribute_before
@@ -267,15 +269,15 @@ class Calls:
         for (_, _, ahead), value, of in zip(bound, values, types):
             words.append(f"{of.column_type}-{128 * of.is_unsigned}={'ahead' if ahead else value_word(p, value)}")
         spans = [it.bytes for it in list(values)[:count]]
-        # (a packet may have so many that reading each anew takes a while)
+        # (a packet may have enough that reading each anew takes a while)
         for place in range(min(out.attributes, 100)):
-            it = p.new("myp_query_attribute")
+            it = p.new("myp_parameter")
             code = p.dll.myp_read_execution_attribute(payload.data, payload.len, capabilities, known, count, place, ctypes.byref(it))
             if code:
                 return code, [], None, "an attribute is not read"
             words += [f"name={x(p.text(it.name))}", f"{it.column_type}-{128 * it.is_unsigned}={value_word(p, it.value)}"]
             spans += [it.name, it.value.bytes]
-        after = p.dll.myp_read_execution_attribute(payload.data, payload.len, capabilities, known, count, out.attributes, ctypes.byref(p.new("myp_query_attribute")))
+        after = p.dll.myp_read_execution_attribute(payload.data, payload.len, capabilities, known, count, out.attributes, ctypes.byref(p.new("myp_parameter")))
         return code, words, out.used, self.outside(payload, spans) if after == p.MYP_END else "there are more attributes"
 
     def bulk(self, word, columns, payload):
@@ -287,7 +289,7 @@ class Calls:
         rest, words = head.rows, [f"stmt_id={head.statement_id}", f"bulk_flags={head.flags}"]
         types = p.array("myp_column_type", [p.types["myp_column_type"](kind, int(bool(flags))) for kind, flags in columns])
         values, indicators = p.array("myp_value", [p.new("myp_value") for _ in columns]), (ctypes.c_uint8 * max(count, 1))()
-        if head.flags & p.MYP_SEND_TYPES_TO_SERVER:
+        if head.flags & p.MYP_BULK_SEND_TYPES_TO_SERVER:
             code = p.dll.myp_read_bulk_types(ctypes.byref(rest), types, count)
             words += [] if code else [word for it in list(types)[:count] for word in (f"type={it.column_type}", f"flags={128 * it.is_unsigned}")]
         rows, spans = [], []
@@ -299,7 +301,7 @@ class Calls:
         if word == "bulk_rows":
             return (0 if code == p.MYP_END else code), rows, payload.len - rest.len, self.outside(payload, [rest, *spans])
         words += [*(rows or ["values=()"]), f"indicators={''.join(str(it) for it in list(indicators)[:count])}."]
-        return (p.MYP_UNEXPECTED_EOF if code == p.MYP_END else code), words, payload.len - rest.len, self.outside(payload, [rest, *spans])
+        return (p.MYP_ERROR_UNEXPECTED_EOF if code == p.MYP_END else code), words, payload.len - rest.len, self.outside(payload, [rest, *spans])
 
     def outside(self, payload, spans):
         """What is wrong where a byte string lies outside of the packet."""
@@ -330,6 +332,9 @@ def wrong(packets, calls, describer_, request, content):
     """What is wrong with an answer, or nothing."""
     right = malformed.Reading(describer_, content)
     code, words, used, why = calls.answer(request, content)
+    if request.startswith("handshake") and content[:1] not in (b"", b"\x09", b"\x0a"):
+        # (the decoder takes any first byte for a version)
+        return why or ("" if code == packets.MYP_ERROR_INVALID_DATA else f"code {code} for an unknown version")
     if code != getattr(packets, CODES[right.refused]):
         return f"code {code}, the reference decoder: {right.refused or right.words}"
     if why or code:
@@ -355,7 +360,7 @@ def wrong(packets, calls, describer_, request, content):
         # (the versions stand together)
         is_same = set(words) <= {*wanted, *(f"{word[:-1]}none" for word in wanted if word.endswith("=x"))} and follow(words[10:], wanted)
     else:
-        # (what is absent and what is empty is one in C, but for a default value)
+        # (what is absent and what is empty is one in C, except for a default value)
         is_same = set(words) <= {*wanted, *(f"{word[:-1]}none" for word in wanted if word.endswith("=x") and word != "default_value=x"), "affected_rows=0"}
     if not is_same:
         return f"{words}, the reference decoder: {wanted}"

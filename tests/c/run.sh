@@ -67,6 +67,10 @@ expect 'hostile.c is built' built hostile "${sanitize[@]}"
 expect 'hostile.c' "$work/hostile" "$count" 1 <"$work/seeds"
 counted "$top/tests/c/rows.py" "$prefix/lib/libmysql_packets.so" "$count"
 counted "$top/tests/c/conversations.py" "$prefix/lib/libmysql_packets.so"
+# (they are run only where a server is)
+for example in "$top"/examples/c/*.c; do
+    expect "${example##*/} is built" cc -std=gnu11 -Wall -Wextra -Werror -I "$prefix/include" -o "$work/example" "$example" "$prefix/lib/libmysql_packets.a"
+done
 counted "$top/tests/c/live.py" "$prefix"
 counted "$top/tests/c/package.py" "$prefix"
 MYSQL_PACKETS_PREFIX=$prefix counted "$top/tests/c/python_rows.py"
@@ -82,7 +86,7 @@ if command -v c++ >"$work/log"; then
 fi
 
 # the symbols that are visible: the calls of the header
-sed -n 's/^uint32_t \(myp_[a-z0-9_]*\)(.*/\1/p' "$prefix/include/mysql_packets.h" | sort -u >"$work/header"
+sed -n 's/^\(MYP_MUST_CHECK \)\?uint32_t \(myp_[a-z0-9_]*\)(.*/\2/p' "$prefix/include/mysql_packets.h" | sort -u >"$work/header"
 nm -g --defined-only "$prefix/lib/libmysql_packets.a" 2>"$work/log" | sed -n 's/^[0-9a-f]* [A-Z] //p' | sort -u >"$work/archive"
 nm -D --defined-only "$prefix/lib/libmysql_packets.so" | sed -n 's/^[0-9a-f]* T //p' | sed 's/@.*//' | sort -u >"$work/shared"
 expect 'the archive has other symbols than the header' diff -- "$work/header" "$work/archive"

@@ -17,7 +17,7 @@ TOP = Path(__file__).resolve().parents[2]
 sys.path.insert(0, str(TOP / "tests/live"))
 import server  # noqa: E402
 
-PROGRAM = TOP / "crates/mypackets/out/mypackets"
+PROGRAM = TOP / "crates/mypackets_conversation/out/mypackets_conversation"
 # what the client asks, and what is known of the packets: of which kinds they are, and what one of each says
 ASKED = "select 1 as one, 'zwei' as two, null as three; select 'ä'; select nothing from nowhere"
 KINDS = (
@@ -71,7 +71,7 @@ def segments(path):
 
 def shown(path, program):
     """The packets of a capture, and the status."""
-    run = subprocess.run(f"tshark -r {path} -q -z follow,tcp,raw,0 | {program} conversation --json", shell=True, capture_output=True, text=True)
+    run = subprocess.run(f"tshark -r {path} -q -z follow,tcp,raw,0 | {program} --json", shell=True, capture_output=True, text=True)
     return [json.loads(line) for line in run.stdout.splitlines()], run.returncode
 
 
@@ -88,10 +88,10 @@ def without(path, program, port, is_client):
     side = "client" if is_client else "server"
     if (packets[lost[0]]["side"], packets[lost[0]]["missing"]) != (side, int(size)):
         return f"it is {packets[lost[0]]}, of {size} bytes of the {side}"
-    kinds = [it["kind"] for it in packets[lost[0] :] if it["kind"] not in ("lost", "not_taken_up")]
+    kinds = [it["kind"] for it in packets[lost[0] :] if it["kind"] not in ("lost", "no_resync")]
     # (tshark has the mark of the server's segment after the third command, whose answer is the next)
-    wanted = ["taken_up", "error", "command"]
-    if kinds != (["taken_up", "command", *wanted] if is_client else wanted):
+    wanted = ["resync", "error", "command"]
+    if kinds != (["resync", "command", *wanted] if is_client else wanted):
         return f"what follows are {kinds}"
     before = [it for it in packets[: lost[0]] if it["kind"] == "text_row"]
     error = next(it for it in packets[lost[0] :] if it["kind"] == "error")
@@ -104,7 +104,7 @@ def main(*words):
         print(f"capture: not tested, there is no {lacking[0]}")
         print("0 passed, 0 failed")
         return 0
-    program = f"{TOP}/mypackets --unproved" if words[:1] == ("--unproved",) else str(PROGRAM)
+    program = f"{TOP}/mypackets --unproved conversation" if words[:1] == ("--unproved",) else str(PROGRAM)
     with tempfile.TemporaryDirectory() as folder, server.running() as port:
         Path(folder).chmod(0o777)
         path = f"{folder}/capture.pcap"

@@ -37,7 +37,7 @@ def counted():
             except Refused:
                 break
             if packet.begins_tls:
-                session.decipher()
+                session.tls_established()
             of[COMMANDS.get(packet.payload[0], "another command") if kind == "command" else kind] += 1
     return found
 

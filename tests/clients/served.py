@@ -16,20 +16,20 @@ class Cell:
 
 def number(name, type_, n, unsigned=False):
     # (a narrower number fits the signed one)
-    kind = "MYP_UINT" if unsigned and type_ == "MYP_TYPE_LONGLONG" else "MYP_INT"
-    return Cell(name, type_, str(n).encode(), {"kind": kind, "number": n & (2**64 - 1)}, ("MYP_UNSIGNED_FLAG",) if unsigned else ())
+    kind = "MYP_VALUE_UINT" if unsigned and type_ == "MYP_TYPE_LONGLONG" else "MYP_VALUE_INT"
+    return Cell(name, type_, str(n).encode(), {"kind": kind, "number": n & (2**64 - 1)}, ("MYP_COLUMN_FLAG_UNSIGNED",) if unsigned else ())
 
 
 def string(name, type_, content, character_set=45, flags=()):
-    return Cell(name, type_, content, {"kind": "MYP_BYTES", "bytes": content}, flags, character_set)
+    return Cell(name, type_, content, {"kind": "MYP_VALUE_BYTES", "bytes": content}, flags, character_set)
 
 
 def date(name, type_, text, **fields):
-    return Cell(name, type_, text, {"kind": "MYP_DATE", **fields}, ("MYP_BINARY_FLAG",))
+    return Cell(name, type_, text, {"kind": "MYP_VALUE_DATE", **fields}, ("MYP_COLUMN_FLAG_BINARY",))
 
 
 def time(name, text, **fields):
-    return Cell(name, "MYP_TYPE_TIME", text, {"kind": "MYP_TIME", **fields}, ("MYP_BINARY_FLAG",))
+    return Cell(name, "MYP_TYPE_TIME", text, {"kind": "MYP_VALUE_TIME", **fields}, ("MYP_COLUMN_FLAG_BINARY",))
 
 
 CELLS = [
@@ -39,8 +39,8 @@ CELLS = [
     number("long", "MYP_TYPE_LONG", -2147483648), number("long_u", "MYP_TYPE_LONG", 4294967295, True),
     number("big", "MYP_TYPE_LONGLONG", -9223372036854775808), number("big_u", "MYP_TYPE_LONGLONG", 18446744073709551615, True),
     number("year", "MYP_TYPE_YEAR", 1999, True),
-    Cell("single", "MYP_TYPE_FLOAT", b"-1.5", {"kind": "MYP_FLOAT", "number": 0xBFC00000}),
-    Cell("double", "MYP_TYPE_DOUBLE", b"0.25", {"kind": "MYP_DOUBLE", "number": 0x3FD0000000000000}),
+    Cell("single", "MYP_TYPE_FLOAT", b"-1.5", {"kind": "MYP_VALUE_FLOAT", "number": 0xBFC00000}),
+    Cell("double", "MYP_TYPE_DOUBLE", b"0.25", {"kind": "MYP_VALUE_DOUBLE", "number": 0x3FD0000000000000}),
     string("decimal", "MYP_TYPE_NEWDECIMAL", b"-12345678901234567890.0123456789", 63),
     date("day", "MYP_TYPE_DATE", b"2024-02-29", days=2024, month=2, day=29),
     date("moment", "MYP_TYPE_DATETIME", b"2024-02-29 23:59:58.000123", days=2024, month=2, day=29, hour=23, minute=59, second=58, micros=123),
@@ -49,8 +49,8 @@ CELLS = [
     string("name", "MYP_TYPE_VAR_STRING", "h\u00e4 \u6587".encode()),
     string("fixed", "MYP_TYPE_STRING", b""),
     string("long_text", "MYP_TYPE_BLOB", b"t" * 70000),
-    string("bytes", "MYP_TYPE_BLOB", b"\x00\xff\xfe\xfb\x01", 63, ("MYP_BINARY_FLAG", "MYP_BLOB_FLAG")),
-    Cell("nothing", "MYP_TYPE_LONG", None, {"kind": "MYP_NULL"}),
+    string("bytes", "MYP_TYPE_BLOB", b"\x00\xff\xfe\xfb\x01", 63, ("MYP_COLUMN_FLAG_BINARY", "MYP_COLUMN_FLAG_BLOB")),
+    Cell("nothing", "MYP_TYPE_LONG", None, {"kind": "MYP_VALUE_NULL"}),
 ]
 NAME = next(it for it in CELLS if it.name == "name")
 # what the statement `update` answers, and the error of `fail`

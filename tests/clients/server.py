@@ -79,7 +79,7 @@ class Session(socketserver.BaseRequestHandler):
         self.ok("MYP_OK_TERMINATOR" if self.deprecates_eof else "MYP_OK_OLD_EOF")
 
     def type_of(self, cell):
-        return self.packets.new("myp_column_type", column_type=getattr(self.packets, cell.type), is_unsigned="MYP_UNSIGNED_FLAG" in cell.flags)
+        return self.packets.new("myp_column_type", column_type=getattr(self.packets, cell.type), is_unsigned="MYP_COLUMN_FLAG_UNSIGNED" in cell.flags)
 
     def column_of(self, cell):
         flags = sum(getattr(self.packets, name) for name in cell.flags)
@@ -106,13 +106,13 @@ class Session(socketserver.BaseRequestHandler):
     def result(self, definitions, row, kind):
         """A result of one row, of this kind."""
         p = self.packets
-        self.send(p.write("myp_write_column_count", p.new("myp_column_count", count=len(definitions), metadata_follows=1), 0), "column_count")
+        self.send(p.write("myp_write_column_count", p.new("myp_column_count", count=len(definitions), metadata_follows=1), 0, 0), "column_count")
         self.columns(definitions)
         self.send(row, kind)
         self.end()
 
     def text_row(self, cells):
-        texts = [self.value({"kind": "MYP_NULL"} if it.text is None else {"kind": "MYP_BYTES", "bytes": it.text}) for it in cells]
+        texts = [self.value({"kind": "MYP_VALUE_NULL"} if it.text is None else {"kind": "MYP_VALUE_BYTES", "bytes": it.text}) for it in cells]
         return self.packets.write("myp_write_text_row", self.packets.array("myp_value", texts))
 
     def binary_row(self, types, values):
@@ -144,7 +144,7 @@ class Session(socketserver.BaseRequestHandler):
     def attributes(self, said):
         p, rest, found = self.packets, said.attributes, {}
         name, value = p.bytes(b""), p.bytes(b"")
-        while p.next("myp_next_attribute", rest, name, value):
+        while p.next("myp_next_connection_attribute", rest, name, value):
             found[p.text(name)] = p.text(value)
         return found
 
@@ -189,7 +189,7 @@ class Session(socketserver.BaseRequestHandler):
         columns = [self.column_of(it) for it in CELLS] if sql == b"SELECT cells" else texts
         number = len(self.statements) + 1
         self.statements[number] = sql, [self.type_of(NAME)] * params
-        self.send(p.write("myp_write_statement", p.new("myp_statement", statement_id=number, num_columns=len(columns), num_params=params)), "prepare_ok")
+        self.send(p.write("myp_write_statement", p.new("myp_statement", statement_id=number, num_columns=len(columns), num_params=params, metadata_follows=1), self.capabilities), "prepare_ok")
         self.columns(texts)
         self.columns(columns)
 
@@ -203,23 +203,23 @@ class Session(socketserver.BaseRequestHandler):
             return self.result([self.column_of(it) for it in CELLS], row, "binary_row")
         values, types = self.execution(payload, number, types)
         self.statements[number] = sql, types
-        unsigned = [p.MYP_UNSIGNED_FLAG * it.is_unsigned for it in types]
+        unsigned = [p.MYP_COLUMN_FLAG_UNSIGNED * it.is_unsigned for it in types]
         self.result([self.column(f"p{i}", it, flags, 45 if it.column_type == p.MYP_TYPE_STRING else 63) for i, (it, flags) in enumerate(zip(types, unsigned))],
                     self.binary_row(types, values), "binary_row")
 
     def execution(self, payload, number, types):
         """The values of an execution, and the types that they have now. What was sent ahead is joined."""
         p, packet, count = self.packets, self.packets.bytes(payload), len(types)
-        known = [p.types["myp_param"](it.column_type, it.is_unsigned, (number, i) in self.long_data) for i, it in enumerate(types)]
+        known = [p.types["myp_bound_param"](it.column_type, it.is_unsigned, (number, i) in self.long_data) for i, it in enumerate(types)]
         values = p.array("myp_value", [p.new("myp_value") for _ in types])
         found = p.array("myp_column_type", [p.new("myp_column_type") for _ in types])
         out = p.new("myp_execution")
-        code = p.dll.myp_read_execution(packet.data, packet.len, self.capabilities, p.array("myp_param", known), count, values, count, found, count, ctypes.byref(out))
+        code = p.dll.myp_read_execution(packet.data, packet.len, self.capabilities, p.array("myp_bound_param", known), count, values, count, found, count, ctypes.byref(out))
         if code or out.used != len(payload):
             raise PacketError("myp_read_execution", code)
         self.server.executions.append(out.sends_types)
         ahead = {i: self.long_data[number, i] for i in range(count) if (number, i) in self.long_data}
-        values = [self.value({"kind": "MYP_BYTES", "bytes": ahead[i]}) if i in ahead else it for i, it in enumerate(values)]
+        values = [self.value({"kind": "MYP_VALUE_BYTES", "bytes": ahead[i]}) if i in ahead else it for i, it in enumerate(values)]
         return values, list(found)[:count]
 
 

@@ -42,7 +42,7 @@ def added(p, q):
 
 
 def multiplied(n):
-    """So many times the base point, as 32 bytes."""
+    """This many times the base point, as 32 bytes."""
     x, y = base_point()
     power, total = (x, y, 1, x * y % Q), (0, 1, 1, 0)
     while n:

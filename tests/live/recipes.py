@@ -144,7 +144,7 @@ class Recipes:
             it.query("truncate streamed")
             sent = self.played("bulk", sql, str(1 << 20), "8,8u,253,12", file)
             count = it.texts("select count(*) from streamed")[0]
-            self.check("a row that its types don't spell", sent.of("error") == ["rows: Value that its declared type does not spell"] and count == [b"0"],
+            self.check("a row that its types don't spell", sent.of("error") == ["rows: value does not fit the declared type of its column"] and count == [b"0"],
                        (sent.lines, count))
             it.close()
 

@@ -117,7 +117,7 @@ class Connection:
 
     def raise_error(self, packet, kind=None):
         # (in place of the greeting it answers nothing)
-        self.known("unasked_error" if kind == "greeting_error" else "error")
+        self.known("unsolicited_error" if kind == "greeting_error" else "error")
         error = self.replies.fields(f"{kind or f'err {self.flags}'} {packet.hex()}")
         raise Refused(int(error["error"]), data(error["message"]).decode())
 

@@ -20,8 +20,8 @@ from tried import tried
 SEQUENCES = 500
 
 TEXTS = {"MixedArity": "Mixed statement arity", "RowTooLarge": "Got row bigger than max payload length",
-         "TooLarge": "Got row bigger than max payload length", "MixedTypes": "Value that its declared type does not spell",
-         "Refused": "Type that may not be declared", "NoParams": "No parameters values given for the bulk operation"}
+         "TooLarge": "Got row bigger than max payload length", "MixedTypes": "value does not fit the declared type of its column",
+         "Refused": "type cannot be declared for a column", "NoParams": "No parameters values given for the bulk operation"}
 
 
 # rows: a value is a kind and what the kind has, as a request spells it

@@ -1,6 +1,6 @@
 """The captured replies, statements, rows and bulk executions: what is asked of each, and what differs from what was reported.
 
-A report of None says nothing, but for the info of an OK packet."""
+A report of None says nothing, except for the info of an OK packet."""
 import json
 from itertools import zip_longest
 

@@ -1,6 +1,6 @@
 """The words for captured values: what an API reported of rows, and what was handed in for bulk executions.
 
-They are the probe's words, but for an integer, which is a number after an n; '-' stands for a value of which nothing is known."""
+They are the probe's words, except for an integer, which is a number after an n; '-' stands for a value of which nothing is known."""
 import re
 import struct
 
@@ -61,7 +61,7 @@ def text_word(reported, encoding):
 
 
 def row_of(packet, count):
-    """The words for a row of a result, of so many values."""
+    """The words for a row of a result, of a given number of values."""
     api = packet.get("expected", {}).get("api")
     if api is None:
         return [UNREPORTED] * count

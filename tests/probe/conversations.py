@@ -101,9 +101,9 @@ def wanted(packets, limit=LIMIT):
             break
         words.append(f"{packet.side}{kind}#{number}")
         if packet.begins_tls:
-            session.decipher()
-    words.append("expects" + "".join(":" + it for it in sorted(expected(session))))
-    words.append("at_rest=" + ("yes" if session.is_at_rest() else "no"))
+            session.tls_established()
+    words.append("may_receive" + "".join(":" + it for it in sorted(expected(session))))
+    words.append("at_rest=" + ("yes" if session.is_idle() else "no"))
     return words
 
 
@@ -125,7 +125,7 @@ def expected(session):
 
 
 def request(packets):
-    return " ".join([f"session {LIMIT}"] + [word for it in packets for word in it.words()] + ["expects"])
+    return " ".join([f"session {LIMIT}"] + [word for it in packets for word in it.words()] + ["may_receive"])
 
 
 def other_kind(packets, kinds, line):
@@ -137,7 +137,7 @@ def other_kind(packets, kinds, line):
 
 
 def in_pieces(packets, size):
-    """The same packets, cut in pieces of so many bytes; a side's last piece comes before the other side's next."""
+    """The same packets, cut in pieces of a given number of bytes; a side's last piece comes before the other side's next."""
     words, run, side = [f"session {LIMIT}"], b"", None
     for packet in [*packets, Packet(None, 0, b"")]:
         if packet.side != side:
@@ -147,12 +147,12 @@ def in_pieces(packets, size):
         if packet.begins_tls:
             words += [side + run[at : at + size].hex() for at in range(0, len(run), size)] + ["tls"]
             run = b""
-    return " ".join([*words, "expects"])
+    return " ".join([*words, "may_receive"])
 
 
 def in_order(word):
     """The same word; of the kinds that may come, in the order of their names."""
-    return ":".join(["expects", *sorted(word.split(":")[1:])]) if word.startswith("expects") else word
+    return ":".join(["may_receive", *sorted(word.split(":")[1:])]) if word.startswith("may_receive") else word
 
 
 def other(side):

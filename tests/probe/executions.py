@@ -66,7 +66,7 @@ class Executions(Watcher):
 
     def take(self, packet):
         """Takes a packet, or raises Refused."""
-        has_begun = not self.session.before and (self.payloads or self.session.is_at_rest())
+        has_begun = not self.session.before and (self.payloads or self.session.is_idle())
         kind, number = self.session.next(packet.side, packet.payload)
         if has_begun:
             self.payloads.append(packet.side + packet.payload.hex())
@@ -74,7 +74,7 @@ class Executions(Watcher):
         if packet.side != CLIENT:
             self.serve(number)
         if kind == "ssl_request" and packet.begins_tls:
-            self.session.decipher()
+            self.session.tls_established()
         try:
             self.fields(kind, packet.payload, number)
         except (Eof, Invalid, IndexError):

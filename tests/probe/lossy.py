@@ -103,7 +103,7 @@ def asked():
 def ran(words, inputs):
     """What the program writes of each input, and its status."""
     for it in inputs:
-        run = subprocess.run([PROGRAM, "conversation", *words.split()], input=it, capture_output=True)
+        run = subprocess.run([PROGRAM, *words.split()], input=it, capture_output=True)
         yield run.stdout.decode().splitlines(), run.returncode
 
 
@@ -113,8 +113,8 @@ def tried(words, inputs):
         with tempfile.TemporaryDirectory() as folder:
             for number, it in enumerate(inputs[at : at + 20]):
                 (Path(folder) / f"{number:04}").write_bytes(it)
-            command = ["rt", "try", "--steps", "1", "--cases", folder, "--", "conversation", *words.split()]
-            run = subprocess.run(command, cwd=TOP / "crates/mypackets", stdin=subprocess.DEVNULL, capture_output=True, text=True)
+            command = ["rt", "try", "--steps", "1", "--cases", folder, "--", *words.split()]
+            run = subprocess.run(command, cwd=TOP / "crates/mypackets_conversation", stdin=subprocess.DEVNULL, capture_output=True, text=True)
         parts = re.split(r"^== (\d{4})\n", run.stdout, flags=re.M)[1:]
         for text in parts[1::2]:
             yield [line for line in text.splitlines() if line[:1] == "{"], None
@@ -131,19 +131,19 @@ def compared(wanted, lines):
 
 def failures(rows, run):
     """What is wrong of these recordings, and how many streams are taken up."""
-    wrong, taken_up = [], 0
+    wrong, resync = [], 0
     for words in sorted({it[1] for it in rows}):
         some = [it for it in rows if it[1] == words]
         for (name, _, _, (wanted, ends)), (lines, status) in zip(some, run(words, [it[2] for it in some]), strict=True):
             why = compared(wanted, lines) or (f"the status is {status}" if status not in (None, ends) else "")
-            taken_up += sum(it.get("kind") == "taken_up" for it in wanted)
+            resync += sum(it.get("kind") == "resync" for it in wanted)
             if why:
                 wrong.append(f"{name}: {why}")
-    return wrong, taken_up
+    return wrong, resync
 
 
 def main(how="", rounds="0"):
-    count, failed, taken_up = 0, 0, 0
+    count, failed, resync = 0, 0, 0
     for number in range(int(rounds) + 1):
         rows = list(asked_again(number) if number else asked())
         if how == "--unproved":
@@ -151,8 +151,8 @@ def main(how="", rounds="0"):
         wrong, found = failures(rows, tried if how == "--unproved" else ran)
         for it in wrong:
             print(it)
-        count, failed, taken_up = count + len(rows), failed + len(wrong), taken_up + found
-    print(f"lossy: {count} recordings, {taken_up} streams taken up")
+        count, failed, resync = count + len(rows), failed + len(wrong), resync + found
+    print(f"lossy: {count} recordings, {resync} streams taken up")
     print(f"{count - failed} passed, {failed} failed")
     return 1 if failed else 0
 

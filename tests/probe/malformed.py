@@ -69,7 +69,7 @@ def seeds_of(probe):
 
 def inputs(probe, count, seed):
     """Requests: how each begins, and its bytes. All cuts and changes of each vector come first where the seed is 0, and then
-    so many at random."""
+    this many at random."""
     seeds = seeds_of(probe)
     rng = random.Random(seed)
     others = [content for _, content in seeds]

@@ -22,7 +22,7 @@ WORDS = {
     r"\bAnswers\b": "memory is an answer only where the reader takes some",
     r"\bIs(Server|Client)Fault\b": "a fault is that of a grammar, which is never that of memory",
     r"\bFaults false\b|\bRefuses(Next|Param)\b|\bGives(One|Param|Bound|AsSent|BoundAsSent)\b": "a fault is the grammar's, which is never that of memory",
-    r"\b(AttributesThere|PassedTo)\b": "attributes are read without memory",
+    r"\b(AttributesThere|AttributesAt|PassedTo)\b": "attributes are read without memory",
     r"\bNext(Change|ChangeRef|Variable|Pair|Sid|Interval|Attribute|AttributeAsSent)\b": "an entry is read without memory, or as its grammar has it",
     r"\bGivesText\b|BorrowsUtf8\b": "what is UTF-8 is borrowed",
     r"\bAdds(Row|Copy|Params)?\b": "memory is an answer only where the row would be taken",
@@ -56,7 +56,7 @@ OWNER = re.compile(r"(?:pub )?(?:unsafe )?(impl|trait)(?:<[^{]*?>)? (?:.* for )?
 
 
 def libraries():
-    return sorted(it.parent.parent for it in (TOP / "crates").glob("mysql_*/src/lib.rt") if it.parent.parent.name not in ("mysql_packets", "mysql_packets_c", "mysql_fields", "mysql_recorder"))
+    return sorted(it.parent.parent for it in (TOP / "crates").glob("mysql_*/src/lib.rt") if it.parent.parent.name not in ("mysql_packets", "mysql_packets_c", "mysql_program", "mysql_show", "mysql_recorder"))
 
 
 def refusals():

@@ -52,7 +52,7 @@ class Watched:
         code, _, message = replies.err_packet(buf, self.session.flags)
         return code, len(message)
 
-    unasked_error = error
+    unsolicited_error = error
 
     def progress_report(self, buf):
         buf.take(3)
@@ -173,12 +173,12 @@ def wanted(packets):
             break
         words.append(f"{packet.side}{kind}#{number}{watched.fields(kind, packet.payload)}")
         if packet.begins_tls:
-            watched.session.decipher()
+            watched.session.tls_established()
     return words
 
 
 def request(packets):
-    return conversations.request(packets).replace("session", "packets", 1).removesuffix(" expects")
+    return conversations.request(packets).replace("session", "packets", 1).removesuffix(" may_receive")
 
 
 def changed(packets, chance):

@@ -9,14 +9,14 @@ from watcher import COMMANDS, Watcher
 sys.path.insert(0, str(TOP / "tests"))
 from reference_decoder.conversation import CLIENT, SERVER  # noqa: E402
 
-PROGRAM = TOP / "crates/mypackets/out/mypackets"
+PROGRAM = TOP / "crates/mypackets_conversation/out/mypackets_conversation"
 LONGEST = 64 << 20
 MARK = re.compile(rb"\[(\d{1,19}) bytes missing in capture file\]\0")
 NAMES = {CLIENT: "client", SERVER: "server"}
 
 
 def mark(count):
-    """What tshark has in the place of so many bytes that a capture lacks."""
+    """What tshark has in the place of a given number of bytes that a capture lacks."""
     return b"[%d bytes missing in capture file]\0" % count
 
 
@@ -70,7 +70,7 @@ class Recorder:
         self.unheard = []
 
     def say(self, side, kind, **fields):
-        number = self.watcher.session.last + (kind == "taken_up" and side == CLIENT)
+        number = self.watcher.session.last + (kind == "resync" and side == CLIENT)
         self.wanted.append({"side": NAMES[side], "exchange": number, "kind": kind, **fields})
 
     def lose(self, command=None):
@@ -112,7 +112,7 @@ class Recorder:
             self.lost(side, "missing", int(found[1]))
             return
         if stream.passed is not None and self.begins(side, line):
-            self.say(side, "taken_up", passed_over=stream.passed)
+            self.say(side, "resync", skipped_bytes=stream.passed)
             stream.passed = None
         stream.bytes += line
         while not self.is_over:
@@ -132,7 +132,7 @@ class Recorder:
         if side == CLIENT and self.streams[SERVER].passed is not None and self.answer is None:
             self.answer = self.streams[CLIENT].number
         session = self.watcher.session
-        is_between = not session.before and session.is_at_rest()
+        is_between = not session.before and session.is_idle()
         it, comes = self.watcher.wanted(Packet(side, number, payload))
         if side == SERVER:
             self.unheard = []
@@ -145,7 +145,7 @@ class Recorder:
     def end(self):
         for side, stream in self.streams.items():
             if stream.passed is not None and not self.is_over:
-                self.say(side, "not_taken_up", passed_over=stream.passed)
+                self.say(side, "no_resync", skipped_bytes=stream.passed)
 
 
 def recorded(lines, longest=LONGEST, is_deciphered=False):
@@ -170,7 +170,7 @@ def as_followed(pieces):
     return (head + "".join(("\t" if side == SERVER else "") + piece.hex() + "\n" for side, piece in pieces) + rule).encode()
 
 
-# what is never shown unless it is wanted, but for what stands before the fault of an execution or a query
+# what is never shown unless it is wanted, except for what stands before the fault of an execution or a query
 VALUES = ("value", "parameter", "attribute", "attribute_value", "variable", "variable_value")
 BEFORE_FAULTS = ("parameter", "attribute", "attribute_value")
 

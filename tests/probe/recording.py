@@ -37,7 +37,7 @@ def summed(packets):
                 opened.clear()
             elif name == "COM_STMT_CLOSE":
                 opened.pop(int.from_bytes(payload[1:5], "little"), None)
-        if it["kind"] in ("error", "unasked_error"):
+        if it["kind"] in ("error", "unsolicited_error"):
             code = str(int.from_bytes(payload[1:3], "little"))
             errors[code] = errors.get(code, 0) + 1
         if it["kind"] == "prepare_ok":
@@ -51,7 +51,7 @@ def summed(packets):
 
 def sums_differ(name, words, pieces, wanted):
     """What is wrong with the sums of a conversation, or no text."""
-    run = subprocess.run([PROGRAM, "conversation", "--json", "--sum", *words], input=as_lines(pieces), capture_output=True)
+    run = subprocess.run([PROGRAM, "--json", "--sum", *words], input=as_lines(pieces), capture_output=True)
     came = [it for it in wanted if "sequence" in it and it["kind"] != "refused"]
     wrong = differs(summed(came), run.stdout.splitlines()[-1])
     largest = sorted((it["size"] for it in came), reverse=True)[:5]
@@ -72,11 +72,11 @@ def compared(name, wanted, output, is_status):
     return "" if is_status else f"{name}: another status"
 
 
-def taken_up(packets, limit=4):
+def resync(packets, limit=4):
     """Places at which a connection is taken up, each with what both sides agreed on and what is wanted from there on."""
     watcher, wanted, places = Watcher(any(it.begins_tls for it in packets)), [], []
     for at, packet in enumerate(packets):
-        is_between = not watcher.session.before and watcher.session.is_at_rest()
+        is_between = not watcher.session.before and watcher.session.is_idle()
         it, comes = watcher.wanted(packet)
         if not comes:
             break
@@ -92,13 +92,13 @@ def taken_up(packets, limit=4):
 
 def wrong_amid(name, packets):
     """How many places a connection was taken up at, and what was wrong at them."""
-    wrong, places = [], list(taken_up(packets))
+    wrong, places = [], list(resync(packets))
     for rest, (flags, own), wanted in places:
         words = ["--json", f"caps={flags:x}", f"mariadb={own:x}"]
-        run = subprocess.run([PROGRAM, "conversation", *words], input=as_lines([(it.side, it.bytes()) for it in rest if len(it.payload) < 0xFFFFFF]), capture_output=True)
+        run = subprocess.run([PROGRAM, *words], input=as_lines([(it.side, it.bytes()) for it in rest if len(it.payload) < 0xFFFFFF]), capture_output=True)
         lines = run.stdout.splitlines(keepends=True)
-        passed = [json.loads(it)["passed_over"] for it in lines if b'"taken_up"' in it or b'"not_taken_up"' in it]
-        shown_ones = b"".join(it for it in lines if b'"passed_over"' not in it)
+        passed = [json.loads(it)["skipped_bytes"] for it in lines if b'"resync"' in it or b'"no_resync"' in it]
+        shown_ones = b"".join(it for it in lines if b'"skipped_bytes"' not in it)
         wrong += [it for it in [compared(f"{name}: taken up", wanted, shown_ones, not run.returncode)] if it]
         front = len(rest[0].bytes()) if rest[0].side == SERVER else 0
         if sum(passed) != front:
@@ -114,7 +114,7 @@ def bounded():
     exchange = as_lines([(CLIENT, query), (SERVER, answer)])
     began = time.time()
     count = 100_000_000 // len(exchange) + 1
-    run = subprocess.Popen([PROGRAM, "conversation", "--sum"], stdin=subprocess.PIPE, stdout=subprocess.PIPE)
+    run = subprocess.Popen([PROGRAM, "--sum"], stdin=subprocess.PIPE, stdout=subprocess.PIPE)
     tail = subprocess.Popen(["tail", "-n", "40"], stdin=run.stdout, stdout=subprocess.PIPE, text=True)
     run.stdin.write(as_lines(pieces))
     for _ in range(count):
@@ -135,7 +135,7 @@ def wrong_made():
     """What is wrong with what is shown of each made recording, or no text."""
     for path in sorted(MADE.glob("*.xz")):
         wanted, status = recorded(list(pieces_of(path)))
-        run = subprocess.run([PROGRAM, "conversation", "--json"], input=as_lines(pieces_of(path)), capture_output=True)
+        run = subprocess.run([PROGRAM, "--json"], input=as_lines(pieces_of(path)), capture_output=True)
         yield compared(path.name, wanted, run.stdout, run.returncode == status)
 
 
@@ -150,12 +150,12 @@ def main():
         forms = [("lines", as_lines), ("followed", as_followed)] + ([("bytes", in_bytes)] if is_short else [])
         for form, written in forms:
             data = written(pieces)
-            run = subprocess.run([PROGRAM, "conversation", "--json", *words], input=data, capture_output=True)
+            run = subprocess.run([PROGRAM, "--json", *words], input=data, capture_output=True)
             wrong = compared(f"{path.name}: {form}", wanted, run.stdout, run.returncode == status)
             passed, failed = passed + (not wrong), failed + bool(wrong)
             if wrong:
                 print(wrong)
-        run = subprocess.run([PROGRAM, "conversation", *words], input=as_lines(pieces), capture_output=True)
+        run = subprocess.run([PROGRAM, *words], input=as_lines(pieces), capture_output=True)
         heads = [it for it in run.stdout.decode().splitlines() if it[:2] in ("> ", "< ")]
         want = [f"{'>' if it['side'] == 'client' else '<'} {it.get('sequence', '')} {it['kind']}".replace("  ", " ") for it in wanted]
         right = heads == want

@@ -7,7 +7,7 @@ from conversations import expected
 from lines import TOP
 
 sys.path.insert(0, str(TOP / "tests"))
-from reference_decoder import authentication, commands, replies, statements, values  # noqa: E402
+from reference_decoder import authentication, commands, replication, replies, statements, values  # noqa: E402
 from reference_decoder.buf import Buf, Eof, Invalid  # noqa: E402
 from reference_decoder.conversation import CLIENT, Refused, Session  # noqa: E402
 
@@ -18,7 +18,7 @@ EARLY = 65_536
 # the kinds, in the order in which they are shown
 KINDS = [
     "handshake", "ssl_request", "login", "auth_switch", "old_auth_switch", "auth_more_data", "auth_next_factor", "auth_plugin_data", "auth_data",
-    "command", "ok", "error", "unasked_error", "progress_report", "local_infile", "infile_content", "infile_end", "column_count", "column", "field_list_column", "eof",
+    "command", "ok", "error", "unsolicited_error", "progress_report", "local_infile", "infile_content", "infile_end", "column_count", "column", "field_list_column", "eof",
     "ok_terminator", "text_row", "binary_row", "prepare_ok", "statistics", "binlog_event", "semi_sync_ack",
     "clone",
 ]
@@ -93,14 +93,20 @@ def has_header(payload):
     return payload[1:2] == b"\xef" and len(payload) > 15 and int.from_bytes(payload[12:16], "little") + 3 == len(payload)
 
 
-def row_of(values):
-    """The values of a row, up to the first that can't be read."""
-    row, refused = [], {}
+def unread(data):
+    """The bytes from a malformed value on, where there are any."""
+    return {"unread": shown(data)} if data else {}
+
+
+def row_of(buf, values):
+    """The values of a row, up to the first that can't be read, and the bytes from there on."""
+    row, refused, left = [], {}, buf.data
     try:
         for value in values:
             row.append(value)
+            left = buf.data
     except (Eof, Invalid) as fault:
-        refused = {"refused": FAULTS[type(fault)]}
+        refused = {"refused": FAULTS[type(fault)], **unread(left)}
     return {**({"value": row} if row else {}), **refused}
 
 
@@ -142,7 +148,7 @@ class Watcher:
 
     def text_row(self, payload):
         buf = Buf(payload)
-        return row_of(shown(values.text_value(buf)) for _ in range(self.count))
+        return row_of(buf, (shown(values.text_value(buf)) for _ in range(self.count)))
 
     def define(self, it, exchange):
         """A definition: of a parameter, which is passed over, or of a column. After one that can't be read (None) no column is known."""
@@ -171,7 +177,7 @@ class Watcher:
         buf = Buf(payload)
         buf.take(1)
         nulls = int.from_bytes(buf.take((len(columns) + 7 + 2) // 8), "little") >> 2
-        return row_of(None if nulls >> at & 1 else spelled(values.bin_value(buf, *it), it[0]) for at, it in enumerate(columns))
+        return row_of(buf, (None if nulls >> at & 1 else spelled(values.bin_value(buf, *it), it[0]) for at, it in enumerate(columns)))
 
     def column(self, payload, exchange):
         try:
@@ -246,9 +252,27 @@ class Watcher:
         }
         return {name: it for name, it in fields.items() if it}
 
+    def partly_queried(self, payload):
+        """Of a query whose attributes are malformed those before the first that is, and the bytes from there on."""
+        buf, fields = Buf(payload[1:]), {"attribute": [], "attribute_value": []}
+        left = buf.data
+        try:
+            bits, types = commands.attributes_front(buf)
+            left = buf.data
+            for i, (kind, flags, name) in enumerate(types):
+                fields["attribute_value"].append(spelled(None if bits >> i & 1 else values.param_value(buf, kind, flags & 128), kind))
+                fields["attribute"].append(shown(name))
+                left = buf.data
+        except (Eof, Invalid):
+            pass
+        return {**{name: it for name, it in fields.items() if it}, **unread(left)}
+
     def queried(self, payload):
         """The text of a query, and its attributes."""
-        attributes, text = commands.query(Buf(payload), self.session.flags)
+        try:
+            attributes, text = commands.query(Buf(payload), self.session.flags)
+        except (Eof, Invalid) as fault:
+            return {"refused": FAULTS[type(fault)], **self.partly_queried(payload)}
         fields = {"query": shown(text)}
         if attributes:
             fields["attribute"] = [shown(it[0]) for it in attributes]
@@ -291,6 +315,13 @@ class Watcher:
                 fields = self.queried(payload)
             elif code == 0x17:
                 fields = self.executed(payload, is_early)
+            elif code == 0x12:
+                fields = named("pos flags server_id filename", replication.binlog_dump(Buf(payload)))
+            elif code == 0x15:
+                server_id, (hostname, user, _), port, *_ = replication.register_slave(Buf(payload))
+                fields = named("server_id hostname user port", (server_id, hostname, user, port))
+            elif code == 0x1E:
+                fields = named("flags server_id filename pos", replication.binlog_dump_gtid(Buf(payload), False))
         except (Eof, Invalid):
             pass
         if not is_early:
@@ -321,7 +352,7 @@ class Watcher:
             return {name: it for name, it in self.ok(payload, b"\xfe").items() if name not in ("affected_rows", "last_insert_id")}
         if kind == "eof":
             return named("warnings status_flags", replies.old_eof(Buf(payload), 0))
-        if kind in ("error", "unasked_error"):
+        if kind in ("error", "unsolicited_error"):
             read = replies.err_packet if self.session.flags else lambda buf, _: replies.greeting_error(buf)
             return named("error sql_state message", read(Buf(payload), self.session.flags))
         if kind == "column_count":
@@ -370,7 +401,7 @@ class Watcher:
         if packet.side != CLIENT:
             self.serve(number)
         if kind == "ssl_request" and self.is_deciphered:
-            self.session.decipher()
+            self.session.tls_established()
         try:
             return {**head, **self.fields(kind, packet.payload, number)}, True
         except (Eof, Invalid, IndexError):

@@ -42,17 +42,22 @@ def unknown(buf):
     return buf.number(1), buf.all()
 
 
-def query_attributes(buf):
-    """The name, the type, its flags and the value of each attribute."""
+def attributes_front(buf):
+    """What stands before the values of attributes: the bits of those that are NULL, and of each its type, its flags and its name."""
     count = buf.lenenc()
     buf.const(b"\1")
     if not count:
-        return []
+        return 0, []
     bits = int.from_bytes(buf.take((count + 7) // 8), "little")
     # (any byte but 0: `parse_query_bind_params`)
     if not buf.number(1):
         raise Invalid
-    types = counted(buf, count, lambda b: (*statements.bulk_type(b), b.string()))
+    return bits, counted(buf, count, lambda b: (*statements.bulk_type(b), b.string()))
+
+
+def query_attributes(buf):
+    """The name, the type, its flags and the value of each attribute."""
+    bits, types = attributes_front(buf)
     return [(name, kind, flags, None if bits >> i & 1 else param_value(buf, kind, flags & 128)) for i, (kind, flags, name) in enumerate(types)]
 
 

@@ -52,7 +52,7 @@ class Session:
         if side != SERVER:
             raise Refused
         if payload[:1] == b"\xff":
-            return self.over("unasked_error")
+            return self.over("unsolicited_error")
         packet = read(authentication.handshake, payload)
         self.server = packet[5], packet[8]
         self.before = lambda *it: self.login(False, *it)
@@ -70,7 +70,7 @@ class Session:
             # (the server waits for the login as long as connect_timeout says)
             if payload[:1] != b"\xff":
                 raise Refused
-            return self.over("unasked_error")
+            return self.over("unsolicited_error")
         try:
             (flags, _, _), own = read(authentication.ssl_request, payload)
         except Refused:
@@ -97,10 +97,10 @@ class Session:
     def encrypted(self, side, payload):
         # (a server without TLS answers the request by an error with its state)
         if side == SERVER and payload[:1] == b"\xff" and payload[3:4] == b"#":
-            return self.over("unasked_error")
+            return self.over("unsolicited_error")
         raise Refused("Encrypted")
 
-    def decipher(self):
+    def tls_established(self):
         if self.before == self.encrypted:
             self.before = lambda *it: self.login(True, *it)
 
@@ -353,11 +353,12 @@ class Session:
             if place.is_shut and not place.is_quit:
                 raise Refused
             if self.is_report(payload):
-                if place.is_rest or place.is_quit or place.is_asked:
+                # (only a statement reports: `report_to_client` in MariaDB's `mysql_execute_command`)
+                if place.is_rest or place.is_quit or place.is_asked or place.is_login:
                     raise Refused
                 return "progress_report", number
             is_unasked = place.is_rest or place.is_quit
-            kind, following = "unasked_error" if is_unasked else "error", self.ended() if is_unasked or place.is_login else self.rest()
+            kind, following = "unsolicited_error" if is_unasked else "error", self.ended() if is_unasked or place.is_login else self.rest()
         else:
             if place.server is None:
                 raise Refused
@@ -370,5 +371,5 @@ class Session:
             self.place = self.answer(early)
         return kind, number
 
-    def is_at_rest(self):
+    def is_idle(self):
         return self.is_over if self.before else (self.place.is_rest or self.place.is_shut) and not self.waiting

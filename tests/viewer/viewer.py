@@ -21,7 +21,7 @@ from lossy import front  # noqa: E402
 from recorder import mark, recorded  # noqa: E402
 
 PAGE = TOP / "examples/viewer/index.html"
-BAD = ("error", "unasked_error", "refused", "lost", "not_taken_up")
+BAD = ("error", "unsolicited_error", "refused", "lost", "no_resync")
 # what runs in the page after its own script: it acts as a user does, and leaves what it saw in the document
 ACTS = """
 const wait = () => new Promise((done) => setTimeout(done, 150));
@@ -172,10 +172,10 @@ def lost():
     )
     kinds = [it["kind"] for it in packets]
     exchanges = len({it["exchange"] for it in packets})
-    hold("lost: the kinds", kinds.count("lost") == 1 and kinds.count("taken_up") == 2, True)
+    hold("lost: the kinds", kinds.count("lost") == 1 and kinds.count("resync") == 2, True)
     hold("lost: the count", answer.get("count"), f"{len(packets)} of {len(packets)} packets, {exchanges} exchanges")
     hold("lost: it is named", f"lost: {len(line)} bytes are missing in the capture" in answer.get("labels", ""), True)
-    passed = [f"taken up again, {it['passed_over']} bytes passed over" in answer.get("labels", "") for it in packets if it["kind"] == "taken_up"]
+    passed = [f"taken up again, {it['skipped_bytes']} bytes passed over" in answer.get("labels", "") for it in packets if it["kind"] == "resync"]
     hold("lost: where it is taken up", passed, [True, True])
     bad = [it for it in packets if it["kind"] in BAD]
     hold("lost: it stands out", answer.get("bad", "").split(" of ")[0], str(len(bad)))

@@ -4,13 +4,12 @@ use crate::packets::Packets;
 use crate::row_views::sum_of_text;
 use crate::streams::{LIMIT, Wrong};
 use mysql_commands::Command;
-use mysql_conversation::{Refusal, Session, Side};
+use mysql_conversation::{Session, SessionError, Side};
 use mysql_frames::FrameReader;
 use mysql_observer::{
-    ClientPacket, ClientRecord, Observer, ObserverLimits, ReadContext, ServerPacket, ServerRecord,
-    server_packet,
+    ClientPacket, ClientRecord, Observer, ObserverLimits, ReadContext, ServerPacket, server_packet,
 };
-use mysql_statements::{EarlyLimits, RowColumn, StatementLimits};
+use mysql_statements::{PipelinedLimits, RowColumn, StatementLimits};
 use std::alloc::Global;
 
 const LIMITS: ObserverLimits = ObserverLimits {
@@ -19,10 +18,11 @@ const LIMITS: ObserverLimits = ObserverLimits {
         statements: 16,
         types: 1024,
     },
-    early: EarlyLimits {
+    early: PipelinedLimits {
         commands: 16,
         bytes: 1024,
     },
+    columns: 1024,
 };
 
 /// The greeting and the login of a server and a client that speak the protocol of 4.1, and that end rows with EOF packets.
@@ -40,14 +40,14 @@ const COLUMN: &[u8] =
 
 const COLUMNS: u8 = 10;
 
-impl From<Refusal> for Wrong {
-    fn from(_refusal: Refusal) -> Self {
+impl From<SessionError> for Wrong {
+    fn from(_refusal: SessionError) -> Self {
         Wrong::Packet
     }
 }
 
 /// A session after its login.
-fn session(alloc: Global) -> Result<Session, Refusal> {
+fn session(alloc: Global) -> Result<Session, SessionError> {
     let mut session = Session::new(alloc, 16);
     session.next(Side::Server, GREETING)?;
     session.next(Side::Client, LOGIN)?;
@@ -56,7 +56,7 @@ fn session(alloc: Global) -> Result<Session, Refusal> {
 }
 
 /// An observer after a login.
-fn observer(alloc: Global) -> Result<Observer, Refusal> {
+fn observer(alloc: Global) -> Result<Observer, SessionError> {
     let mut observer = Observer::new(alloc, LIMITS);
     observer.next(Side::Server, GREETING)?;
     observer.next(Side::Client, LOGIN)?;
@@ -85,7 +85,7 @@ fn rows_in_session(alloc: Global, batch: &[u8]) -> Result<u64, Wrong> {
     let context: ReadContext<'_, RowColumn> = ReadContext {
         agreed: session.agreed(),
         column_count: usize::from(COLUMNS),
-        columns: &[],
+        columns: None,
         semi_sync: false,
     };
     let mut frames = FrameReader::new(alloc, LIMIT);
@@ -117,10 +117,7 @@ pub extern "C" fn bench_text_rows_in_session(alloc: Global, batch: &[u8]) -> u64
 #[inline(always)]
 fn served(observer: &mut Observer, payload: &[u8]) -> Result<u64, Wrong> {
     let kind = observer.next(Side::Server, payload)?.kind;
-    match observer.server_packet(kind, payload)? {
-        ServerRecord::Packet(packet) => sum_of_packet(packet),
-        ServerRecord::Untyped(_row) => Err(Wrong::Packet),
-    }
+    sum_of_packet(observer.server_packet(kind, payload)?)
 }
 
 fn rows_observed(alloc: Global, batch: &[u8]) -> Result<u64, Wrong> {

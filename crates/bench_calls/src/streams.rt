@@ -2,7 +2,7 @@
 
 use crate::packets::Packets;
 use crate::row_views::text;
-use mysql_conversation::{Conversation, Kind, Opening, Side, Unexpected};
+use mysql_conversation::{Conversation, InitialPhase, PacketKind, Side, UnexpectedPacket};
 use mysql_frames::{FrameError, FrameReader, write_frames};
 use mysql_replies::SessionCapabilities;
 use mysql_wire::{CapabilityFlags, Fault, Flags, MariadbCapabilities};
@@ -33,7 +33,7 @@ fn payloads_of(reader: &mut FrameReader, piece: &[u8]) -> Result<u64, FrameError
         match reader.read(&mut input)? {
             Some(payload) => {
                 sum = sum.wrapping_add(seen(payload.as_slice()));
-                reader.give_back(payload);
+                reader.recycle(payload);
             }
             None => return Ok(sum),
         }
@@ -110,8 +110,8 @@ impl From<FrameError> for Wrong {
     }
 }
 
-impl From<Unexpected> for Wrong {
-    fn from(_error: Unexpected) -> Self {
+impl From<UnexpectedPacket> for Wrong {
+    fn from(_error: UnexpectedPacket) -> Self {
         Wrong::Packet
     }
 }
@@ -128,11 +128,11 @@ fn connection(alloc: Global) -> Conversation {
         mysql: CapabilityFlags::CLIENT_PROTOCOL_41,
         mariadb: MariadbCapabilities::from_bits_retain(0),
     };
-    Conversation::new(alloc, agreed, Opening::Commands)
+    Conversation::new(alloc, agreed, InitialPhase::Commands)
 }
 
 /// The same after a query and what stands before the rows of its result: a count of columns of 1, a definition, an EOF packet.
-fn before_rows(alloc: Global) -> Result<Conversation, Unexpected> {
+fn before_rows(alloc: Global) -> Result<Conversation, UnexpectedPacket> {
     let mut conversation = connection(alloc);
     conversation.next(Side::Client, b"\x03SELECT a FROM t")?;
     conversation.next(Side::Server, b"\x01")?;
@@ -146,16 +146,16 @@ fn before_rows(alloc: Global) -> Result<Conversation, Unexpected> {
 
 /// What a packet adds to the sum: a number of its kind.
 #[inline(always)]
-fn number_of(kind: Kind) -> u64 {
+fn number_of(kind: PacketKind) -> u64 {
     match kind {
-        Kind::Row(_) => 1,
-        Kind::Command(code) => u64::from(code),
-        Kind::Ok => 2,
+        PacketKind::Row(_) => 1,
+        PacketKind::Command(code) => u64::from(code),
+        PacketKind::Ok => 2,
         _ => 7,
     }
 }
 
-fn rows_distinguished(alloc: Global, batch: &[u8]) -> Result<u64, Unexpected> {
+fn rows_distinguished(alloc: Global, batch: &[u8]) -> Result<u64, UnexpectedPacket> {
     let mut conversation = before_rows(alloc)?;
     let mut sum = 0u64;
     for packet in Packets::new(batch) {
@@ -170,7 +170,7 @@ pub extern "C" fn bench_rows_distinguished(alloc: Global, batch: &[u8]) -> u64 {
     rows_distinguished(alloc, batch).unwrap_or(0)
 }
 
-fn exchanges_followed(alloc: Global, batch: &[u8]) -> Result<u64, Unexpected> {
+fn exchanges_followed(alloc: Global, batch: &[u8]) -> Result<u64, UnexpectedPacket> {
     let mut conversation = connection(alloc);
     let mut side = Side::Client;
     let mut sum = 0u64;
@@ -202,7 +202,7 @@ fn values_of(alloc: Global, batch: &[u8]) -> Result<u64, Wrong> {
             Some(payload) => {
                 let payload = payload.as_slice();
                 match conversation.next(Side::Server, payload)? {
-                    Kind::Row(_) => sum = sum.wrapping_add(text(alloc, payload)?),
+                    PacketKind::Row(_) => sum = sum.wrapping_add(text(alloc, payload)?),
                     _ => return Ok(0),
                 }
             }

@@ -1,9 +1,9 @@
-//! What a server asks for after the response, until it is satisfied.
+//! The authentication exchange after the handshake response.
 
 use crate::connection::Connection;
 use crate::error::{Error, Result};
 use crate::errors::answer;
-use mysql_packets::conversation::Kind;
+use mysql_packets::conversation::PacketKind;
 use mysql_packets::io::ParseBuf;
 use mysql_packets::packets::caching_sha2_password::PublicKeyRequest;
 use mysql_packets::packets::{
@@ -12,16 +12,16 @@ use mysql_packets::packets::{
 use std::alloc::Global;
 use std::io::{Read, Write};
 
-/// What is computed of a password: cryptography, which stands in no packet.
+/// The cryptography of authentication, which isn't part of any packet.
 pub trait Answers {
-    /// What the client answers to a plugin's scramble.
+    /// Returns the response to a plugin's scramble.
     fn answer(&mut self, plugin: &AuthPlugin<'_>, scramble: &[u8]) -> Result<Vec<u8>>;
 
     /// The password, encrypted by the server's public key.
     fn encrypted(&mut self, key: &str, scramble: &[u8]) -> Result<Vec<u8>>;
 }
 
-/// Answers until an OK packet comes: a switch to another plugin, and what `caching_sha2_password` says besides.
+/// Responds until an OK packet arrives: to a switch to another plugin, and to the further data of `caching_sha2_password`.
 pub fn authenticate<R: Read, W: Write, A: Answers>(
     connection: &mut Connection<R, W>,
     scramble: &mut Vec<u8>,
@@ -31,9 +31,9 @@ pub fn authenticate<R: Read, W: Write, A: Answers>(
         let (kind, payload) = answer(connection)?;
         let buf = ParseBuf::new(connection.alloc, &payload);
         match kind {
-            Kind::Ok => return Ok(()),
-            Kind::AuthSwitch => switch(connection, buf, scramble, answers)?,
-            Kind::AuthMoreData => more(connection, buf, scramble, answers)?,
+            PacketKind::Ok => return Ok(()),
+            PacketKind::AuthSwitch => switch(connection, buf, scramble, answers)?,
+            PacketKind::AuthMoreData => more(connection, buf, scramble, answers)?,
             _ => return Err(Error::Unknown("an answer to the login")),
         }
     }
@@ -52,7 +52,7 @@ fn switch<R: Read, W: Write, A: Answers>(
     connection.send(&sent)
 }
 
-/// The answer of another plugin to its scramble, which is kept. `client_ed25519` signs the whole of it.
+/// Returns the response of another plugin to its scramble, which is kept. `client_ed25519` signs all of it.
 fn switched<A: Answers>(
     request: &AuthSwitchRequestRef<'_>,
     scramble: &mut Vec<u8>,
@@ -67,8 +67,8 @@ fn switched<A: Answers>(
     answers.answer(&plugin, scramble)
 }
 
-/// `caching_sha2_password`: 3 says that the answer was known, and an OK packet follows; 4 asks for the password itself,
-/// which goes encrypted by the server's public key.
+/// `caching_sha2_password`: 3 means that the server has the password cached, and an OK packet follows; 4 asks for the password
+/// itself, encrypted by the server's public key.
 fn more<R: Read, W: Write, A: Answers>(
     connection: &mut Connection<R, W>,
     mut buf: ParseBuf<'_>,

@@ -11,10 +11,10 @@ use mysql_packets::packets::{
 use mysql_packets::value::{ParamType, Value};
 use std::io::{Read, Write};
 
-/// Inserts the rows that an iterator gives, in the fewest requests of at most `most` bytes, and says how many these were.
+/// Inserts the rows of an iterator, in the fewest requests of at most `most` bytes, and returns the number of requests.
 ///
-/// A request is sent as soon as the next row doesn't fit into it. The types are the columns': a row with a value that its
-/// column's type does not spell ends the run, before a byte of it is sent.
+/// A request is sent as soon as the next row doesn't fit. The types are the columns': a row with a value that doesn't fit its
+/// column's type ends the run, and isn't sent.
 pub fn insert<R: Read, W: Write, I: Iterator<Item = Vec<Value>> + Drop>(
     connection: &mut Connection<R, W>,
     statement: &StmtPacket,

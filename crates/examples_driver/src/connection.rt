@@ -1,8 +1,8 @@
-//! Packets over a reader and a writer of the caller's: the frames that they stand in, and which packet each is.
+//! Sends and receives packets over the caller's reader and writer: their frames, and the kind of each packet.
 
 use crate::error::{Error, Result};
 use mysql_packets::constants::{CapabilityFlags, Flags};
-use mysql_packets::conversation::{Kind, KindName, Session, Side};
+use mysql_packets::conversation::{PacketKind, PacketKindTag, Session, Side};
 use mysql_packets::frames::{FrameReader, write_frames};
 use mysql_packets::packets::{ProgressReport, SessionCapabilities};
 use mysql_packets::proto::MySerialize;
@@ -12,16 +12,16 @@ use std::io::{self, Read, Write};
 /// The longest payload that is received: the most that a server's `max_allowed_packet` can be.
 const LONGEST: usize = 1 << 30;
 
-/// How many commands may wait: each is answered before the next is sent.
+/// The maximum number of pipelined commands: each is answered before the next is sent.
 const WAITING: usize = 0;
 
-/// How many bytes are asked of the reader at once.
+/// The number of bytes to read at once.
 const PIECE: usize = 1 << 14;
 
 /// A session with a server.
 #[derive(Drop)]
 pub struct Connection<R, W> {
-    /// What takes memory takes it here.
+    /// The allocator.
     pub alloc: Global,
     /// Whether the server calls itself a MariaDB.
     pub is_mariadb: bool,
@@ -31,14 +31,14 @@ pub struct Connection<R, W> {
     reader: R,
     writer: W,
     frames: FrameReader,
-    /// What was read, of which the bytes from the first number to the second are not passed yet.
+    /// The bytes that were read; those between the two positions are not parsed yet.
     input: Vec<u8>,
     passed: usize,
     filled: usize,
 }
 
 impl<R: Read, W: Write> Connection<R, W> {
-    /// A session of which nothing was read yet.
+    /// Creates a connection on which nothing was read yet.
     pub fn new(alloc: Global, reader: R, writer: W) -> Self {
         Connection {
             alloc,
@@ -54,7 +54,7 @@ impl<R: Read, W: Write> Connection<R, W> {
         }
     }
 
-    /// What both sides agreed on: none before the login.
+    /// The capabilities that both sides agreed on: none before the login.
     pub fn agreed(&self) -> Option<SessionCapabilities> {
         self.session.agreed()
     }
@@ -68,17 +68,17 @@ impl<R: Read, W: Write> Connection<R, W> {
     }
 
     /// Whether the last command is answered.
-    pub fn is_at_rest(&self) -> bool {
-        self.session.is_at_rest()
+    pub fn is_idle(&self) -> bool {
+        self.session.is_idle()
     }
 
     /// Whether the server's next packet may be of this kind.
-    pub fn expects(&self, name: KindName) -> bool {
-        self.session.expects(Side::Server, name)
+    pub fn may_receive(&self, name: PacketKindTag) -> bool {
+        self.session.may_receive(Side::Server, name)
     }
 
-    /// The next packet: of which kind it is, and its payload.
-    pub fn receive(&mut self) -> Result<(Kind, Vec<u8>)> {
+    /// Receives the next packet: its kind and its payload.
+    pub fn receive(&mut self) -> Result<(PacketKind, Vec<u8>)> {
         for _ in 0..u64::MAX {
             let mut rest = self.input.get(self.passed..self.filled).unwrap_or(&[]);
             let found = self.frames.read(&mut rest)?;
@@ -86,7 +86,7 @@ impl<R: Read, W: Write> Connection<R, W> {
             if let Some(payload) = found {
                 let (kind, _command) = self.session.next(Side::Server, payload.as_slice())?;
                 let packet = payload.as_slice().to_vec(self.alloc)?;
-                self.frames.give_back(payload);
+                self.frames.recycle(payload);
                 return Ok((kind, packet));
             }
             self.fill()?;
@@ -107,7 +107,7 @@ impl<R: Read, W: Write> Connection<R, W> {
         Ok(())
     }
 
-    /// Sends a packet of this payload, which goes on with what was received.
+    /// Sends a packet with this payload, with the next sequence number after what was received.
     pub fn send(&mut self, payload: &[u8]) -> Result<()> {
         self.session.next(Side::Client, payload)?;
         let mut frames = Vec::new(self.alloc);
@@ -115,7 +115,7 @@ impl<R: Read, W: Write> Connection<R, W> {
         self.put(&frames, number)
     }
 
-    /// Sends a packet of the library's, which goes on with what was received.
+    /// Sends a packet of the library, with the next sequence number after what was received.
     pub fn send_packet<P: MySerialize>(&mut self, packet: &P) -> Result<()> {
         let mut payload = Vec::new(self.alloc);
         packet.serialize(&mut payload)?;
@@ -146,7 +146,8 @@ impl<R: Read, W: Write> Connection<R, W> {
         self.reports.clear();
     }
 
-    /// All frames go in one write, so that no packet waits for the other side. The answer has the number after them.
+    /// All frames are sent in one write, so that no packet waits for the other side. The answer has the sequence number after
+    /// them.
     fn put(&mut self, frames: &[u8], number: u8) -> Result<()> {
         self.frames.expect(number);
         self.writer.write_all(frames)?;

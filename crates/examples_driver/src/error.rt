@@ -1,6 +1,6 @@
 //! Why a session ended.
 
-use mysql_packets::conversation::Refusal;
+use mysql_packets::conversation::SessionError;
 use mysql_packets::frames::FrameError;
 use mysql_packets::io::Fault;
 use mysql_packets::packets::{
@@ -16,17 +16,17 @@ pub enum Error {
     Io(io::Error),
     /// An allocation failed.
     Memory,
-    /// What the server sends is no packets in order.
+    /// The server's frames are out of order, or too long.
     Frames(FrameError),
-    /// A packet is none of those that may stand there.
+    /// A packet isn't valid.
     Fault(Fault),
-    /// A packet does not come there, or is none that a proxy reads.
-    Session(Refusal),
-    /// The server answered with an error.
+    /// A packet may not come next, or is one that a proxy can't read.
+    Session(SessionError),
+    /// The server returned an error.
     Server(ServerError<'static>),
     /// A type may not be declared for a column of a bulk insert.
     Types(BulkColumnTypeError),
-    /// Rows of a bulk insert were refused.
+    /// The rows of a bulk insert can't be sent.
     Rows(BulkExecuteRequestBuilderError),
     /// The text is no GTID set.
     Gtids(InvalidSid),
@@ -34,7 +34,7 @@ pub enum Error {
     Unknown(&'static str),
 }
 
-/// What a recipe answers.
+/// The result of a recipe.
 pub type Result<T, E = Error> = std::result::Result<T, E>;
 
 impl fmt::Display for Error {
@@ -86,8 +86,8 @@ impl From<Fault> for Error {
     }
 }
 
-impl From<Refusal> for Error {
-    fn from(refusal: Refusal) -> Error {
+impl From<SessionError> for Error {
+    fn from(refusal: SessionError) -> Error {
         Error::Session(refusal)
     }
 }

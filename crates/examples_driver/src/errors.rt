@@ -1,20 +1,22 @@
-//! An error in place of an answer, and the reports of progress before an answer.
+//! Errors in place of an answer, and progress reports before an answer.
 
 use crate::connection::Connection;
 use crate::error::{Error, Result};
-use mysql_packets::conversation::Kind;
+use mysql_packets::conversation::PacketKind;
 use mysql_packets::observer::{ReadContext, ServerPacket, server_packet};
 use mysql_packets::packets::{Column, ErrPacket, ErrPacketRef, ServerError};
 use std::alloc::Global;
 use std::io::{Read, Write};
 
-/// The next packet that is neither an error nor a report of progress: of which kind it is, and its payload. Reports are kept, an error
-/// ends the wait.
-pub fn answer<R: Read, W: Write>(connection: &mut Connection<R, W>) -> Result<(Kind, Vec<u8>)> {
+/// Receives the next packet that is neither an error nor a progress report: its kind and its payload. Reports are collected; an
+/// error is returned as one.
+pub fn answer<R: Read, W: Write>(
+    connection: &mut Connection<R, W>,
+) -> Result<(PacketKind, Vec<u8>)> {
     for _ in 0..u64::MAX {
         let (kind, payload) = connection.receive()?;
         match kind {
-            Kind::Error | Kind::UnaskedError | Kind::ProgressReport => {
+            PacketKind::Error | PacketKind::UnsolicitedError | PacketKind::ProgressReport => {
                 keep(connection, kind, &payload)?;
             }
             _ => return Ok((kind, payload)),
@@ -26,14 +28,14 @@ pub fn answer<R: Read, W: Write>(connection: &mut Connection<R, W>) -> Result<(K
 /// Keeps a report of progress, or fails with the server's error: one in place of the greeting may have no SQL state.
 fn keep<R: Read, W: Write>(
     connection: &mut Connection<R, W>,
-    kind: Kind,
+    kind: PacketKind,
     payload: &[u8],
 ) -> Result<()> {
     let alloc = connection.alloc;
     let context = ReadContext::<Column> {
         agreed: connection.agreed(),
         column_count: 0,
-        columns: &[],
+        columns: None,
         semi_sync: false,
     };
     let packet = server_packet(alloc, &context, kind, payload)?;
@@ -54,7 +56,7 @@ fn keep_packet<R: Read, W: Write>(
             let error = packet.server_error().to_error();
             Err(Error::Server(error.into_owned(alloc)?))
         }
-        ServerPacket::Error(packet) | ServerPacket::UnaskedError(packet) => {
+        ServerPacket::Error(packet) | ServerPacket::UnsolicitedError(packet) => {
             Err(Error::Server(error_of(alloc, packet)?))
         }
         _ => Err(Error::Unknown("an error of another kind")),

@@ -22,7 +22,7 @@ pub fn prepare<R: Read, W: Write>(
     connection.command_text(0x16, sql)?;
     let (_, payload) = answer(connection)?;
     for _ in 0..u64::MAX {
-        if connection.is_at_rest() {
+        if connection.is_idle() {
             break;
         }
         answer(connection)?;
@@ -53,7 +53,7 @@ fn send_execution<R: Read, W: Write>(
     connection.command_packet(&request)
 }
 
-/// Sends byte strings ahead of an execution that is too large with them. The server answers nothing to that.
+/// Sends byte strings before an execution that would be too large with them. The server sends no answer to them.
 fn send_ahead<R: Read, W: Write>(
     connection: &mut Connection<R, W>,
     statement: &StmtPacket,
@@ -69,7 +69,7 @@ fn send_ahead<R: Read, W: Write>(
     Ok(())
 }
 
-/// Closes a statement. The server answers nothing to that.
+/// Closes a statement. The server sends no answer.
 pub fn close<R: Read, W: Write>(
     connection: &mut Connection<R, W>,
     statement: &StmtPacket,

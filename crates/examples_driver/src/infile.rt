@@ -4,16 +4,16 @@ use crate::connection::Connection;
 use crate::error::{Error, Result};
 use crate::errors::answer;
 use mysql_packets::constants::CapabilityFlags;
-use mysql_packets::conversation::Kind;
+use mysql_packets::conversation::PacketKind;
 use mysql_packets::io::ParseBuf;
 use mysql_packets::packets::{CommonOkPacket, LocalInfilePacket, OkPacketRefDeserializer};
 use std::alloc::Global;
 use std::io::{Read, Write};
 
-/// Runs `load data local infile 'NAME' ..`, and says how many rows came of it.
+/// Runs `load data local infile 'NAME' ..`, and returns the number of rows.
 ///
-/// A server may ask for any file after any query. So only the one that the caller names is sent; another gets an empty
-/// answer, and is an error.
+/// A server may ask for any file after any query. So only the file that the caller names is sent; for another one the recipe
+/// sends an empty file, and returns an error.
 pub fn load<R: Read, W: Write, F: Read>(
     connection: &mut Connection<R, W>,
     sql: &str,
@@ -21,7 +21,7 @@ pub fn load<R: Read, W: Write, F: Read>(
     content: &mut F,
 ) -> Result<u64> {
     connection.command_text(0x03, sql)?;
-    let (Kind::LocalInfile, payload) = answer(connection)? else {
+    let (PacketKind::LocalInfile, payload) = answer(connection)? else {
         return Err(Error::Unknown("an answer without a file"));
     };
     let is_meant = asks_for(connection.alloc, &payload, name)?;

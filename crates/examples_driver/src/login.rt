@@ -13,14 +13,14 @@ use std::alloc::Global;
 use std::borrow::CowSlice;
 use std::io::{Read, Write};
 
-/// The plugin that a greeting names, else the one of servers that name none.
+/// Returns the plugin that a greeting names, or the default one of servers that name none.
 fn plugin_of<'a>(greeting: &'a HandshakePacket<'_>) -> AuthPlugin<'a> {
     greeting
         .auth_plugin()
         .unwrap_or(AuthPlugin::MysqlNativePassword)
 }
 
-/// What these recipes do of what the packets can: results have their metadata, queries have no attributes, and there is one factor.
+/// The capabilities that these recipes support: results have metadata, queries have no attributes, and there is one factor.
 fn wanted() -> CapabilityFlags {
     supported_capabilities()
         .difference(CapabilityFlags::CLIENT_OPTIONAL_RESULTSET_METADATA)
@@ -28,7 +28,7 @@ fn wanted() -> CapabilityFlags {
         .difference(CapabilityFlags::MULTI_FACTOR_AUTHENTICATION)
 }
 
-/// The response to a greeting, with what is sent for the password. An empty name is no database.
+/// Creates the response to a greeting, with the response to its scramble. An empty name is no database.
 fn response_to<'a>(
     alloc: Global,
     greeting: &'a HandshakePacket<'_>,
@@ -71,7 +71,7 @@ fn respond<R: Read, W: Write>(
     connection.send_packet(&response)
 }
 
-/// Reads a greeting and answers it, and hands out its scramble.
+/// Reads a greeting, responds to it, and returns its scramble.
 fn greeted<R: Read, W: Write, A: Answers>(
     connection: &mut Connection<R, W>,
     payload: &[u8],
@@ -96,7 +96,7 @@ fn answer_greeting<R: Read, W: Write, A: Answers>(
     Ok(scramble)
 }
 
-/// Logs a user in, with a database where its name is not empty. `answers` has what is computed of the password.
+/// Logs in a user, with a database if its name isn't empty. `answers` computes the responses to scrambles.
 pub fn login<R: Read, W: Write, A: Answers>(
     connection: &mut Connection<R, W>,
     user: &str,

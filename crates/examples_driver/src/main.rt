@@ -1,8 +1,8 @@
 //! Recipes of what a driver sends and reads, each over a reader and a writer of the caller's.
 //!
-//! `examples_driver RECIPE USER PASSWORD PATH DATABASE ARG ..` speaks with a server on its standard input and output, and writes what it
-//! read as lines of standard error. The file PATH has what is computed of the password elsewhere: see [`passwords`].
-//! `examples_driver proxy` speaks with none, and plays a recorded conversation: see [`relay`].
+//! `examples_driver RECIPE USER PASSWORD PATH DATABASE ARG ..` talks to a server on its standard input and output, and writes
+//! what it read as lines of standard error. The file PATH has the results of cryptography that is done elsewhere: see
+//! [`passwords`]. `examples_driver proxy` talks to no server, and replays a recorded conversation: see [`relay`].
 #![tactic(auto)]
 
 mod authenticate;

@@ -1,4 +1,4 @@
-//! What the program computes of a password, and what it asks for.
+//! The cryptography that the program does itself, and that it asks for.
 
 use crate::authenticate::Answers;
 use crate::error::{Error, Result};
@@ -9,7 +9,7 @@ use sha2::{Digest, Sha256};
 use std::alloc::Global;
 use std::fs;
 
-/// A password, and the path of a file that has what the program can't compute: signatures, and what is encrypted.
+/// A password, and the path of a file with what the program can't compute: signatures and encrypted passwords.
 #[derive(Drop)]
 pub struct Passwords<'a> {
     pub rt: &'a HostRuntime,
@@ -36,7 +36,7 @@ impl Answers for Passwords<'_> {
     }
 }
 
-/// Writes a line with the name or the key and the scramble, and reads the file, which may be a pipe, for what is answered.
+/// Writes a line with the name or the key and the scramble, and reads the result from the file, which may be a pipe.
 fn asked(rt: &HostRuntime, path: &str, of: &[u8], scramble: &[u8]) -> Result<Vec<u8>> {
     eprintln!(rt; "answer: {} {}", Digits(of), Digits(scramble))?;
     let text = fs::read_to_string(rt, path)?;

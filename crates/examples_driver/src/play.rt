@@ -14,7 +14,7 @@ use std::borrow::CowStr;
 use std::fs;
 use std::io::{Read, Write};
 
-/// The arguments of a recipe: an empty text stands for one that is not there.
+/// The arguments of a recipe: a missing one is an empty text.
 #[derive(Drop)]
 pub struct Arguments<'a>(pub &'a [String]);
 

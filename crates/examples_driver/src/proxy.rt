@@ -1,14 +1,14 @@
 //! A proxy: what a side sends is read, and written on to the other.
 //!
-//! There is no IO in it. Whoever drives it passes on the bytes of each side as they come, in any pieces, and sends what is appended.
+//! It does no I/O: the caller passes the bytes of each side as they arrive, in any pieces, and sends what is appended.
 
 use crate::error::{Error, Result};
-use mysql_packets::constants::{CapabilityFlags, Flags};
-use mysql_packets::conversation::{Kind, Refusal, Side};
+use mysql_packets::constants::{CapabilityFlags, ColumnType, Flags};
+use mysql_packets::conversation::{PacketKind, SessionError, Side};
 use mysql_packets::frames::{FrameReader, write_frames};
 use mysql_packets::io::FaultOf;
 use mysql_packets::observer::{
-    ClientPacket, ClientRecord, Observer, ObserverLimits, ServerPacket, ServerRecord, client_packet,
+    ClientPacket, ClientRecord, Observer, ObserverLimits, ServerPacket, client_packet,
 };
 use mysql_packets::packets::{
     CommonOkPacket, ExecuteParamsView, OkPacketLayout, OkPacketRef, OkPacketSerializer,
@@ -16,24 +16,26 @@ use mysql_packets::packets::{
 };
 use mysql_packets::proto::MySerialize;
 use mysql_packets::row::{BinaryRowView, TextRowView};
-use mysql_packets::statements::{EarlyLimits, RowColumn, StatementLimits};
-use mysql_packets::value::ServerSide;
+use mysql_packets::statements::{PipelinedLimits, RowColumn, StatementLimits};
+use mysql_packets::value::convert::FromValueRef;
+use mysql_packets::value::{ServerSide, ValueRef};
 use std::alloc::{AllocError, Global};
 
-/// The longest payload that goes on: the most that a server's `max_allowed_packet` can be.
+/// The longest payload to forward: the maximum of a server's `max_allowed_packet`.
 const LONGEST: usize = 1 << 30;
 
-/// How many commands a client may send before the answers to earlier ones, and how much is kept of prepared statements.
+/// The maximum number of pipelined commands, and the limits for prepared statements.
 const LIMITS: ObserverLimits = ObserverLimits {
     waiting: 1 << 10,
     statements: StatementLimits {
         statements: 1 << 12,
         types: 1 << 18,
     },
-    early: EarlyLimits {
+    early: PipelinedLimits {
         commands: 1 << 11,
         bytes: 1 << 16,
     },
+    columns: 1 << 12,
 };
 
 /// How a packet went on.
@@ -41,18 +43,18 @@ const LIMITS: ObserverLimits = ObserverLimits {
 struct Passed {
     /// Whether its record was written, and is what came.
     is_as_read: bool,
-    /// How many values were read of it.
+    /// The number of its values that were read.
     values: u64,
 }
 
-/// What stands between a client and a server.
+/// A proxy between a client and a server.
 #[derive(Drop)]
 pub struct Proxy {
-    /// How many packets went on as their records are written.
+    /// The number of packets that were forwarded as their records are written.
     pub as_read: u64,
-    /// How many went on as the bytes that came.
+    /// The number of packets that were forwarded as they were received.
     pub as_sent: u64,
-    /// How many values of rows and parameters of executions were read.
+    /// The number of values of rows and parameters of executions that were read.
     pub values: u64,
     alloc: Global,
     observer: Observer,
@@ -74,27 +76,27 @@ impl Proxy {
         }
     }
 
-    /// Takes the next bytes of a side, and appends what goes on to the other: the packets that are whole.
+    /// Takes the next bytes of a side, and appends the packets that are complete to the other side's output.
     ///
-    /// An error ends the connection. A request to go on in TLS is one, and so is a login that agrees on compression, since no packet
-    /// is found in what follows: a proxy that is to read takes these capabilities out of the greeting.
+    /// An error ends the connection. A request for TLS is one, and so is a login that agrees on compression, since the packets
+    /// after it can't be found: to prevent them, remove these capabilities from the greeting.
     pub fn pass(&mut self, from: Side, bytes: &[u8], out: &mut Vec<u8>) -> Result<()> {
         let mut bytes = bytes;
         for _ in 0..u64::MAX {
             // Each command begins the numbers anew, so the number of a frame is the one that it was sent with.
             let frames = self.frames(from);
-            frames.expect_as_sent(bytes);
+            frames.resync_sequence(bytes);
             let number = frames.number();
             let Some(payload) = frames.read(&mut bytes)? else {
                 break;
             };
             self.write_on(from, number, payload.as_slice(), out)?;
-            self.frames(from).give_back(payload);
+            self.frames(from).recycle(payload);
         }
         Ok(())
     }
 
-    /// What holds the bytes of a side whose packet is not whole.
+    /// Returns the reader of a side, which holds the bytes of an incomplete packet.
     fn frames(&mut self, from: Side) -> &mut FrameReader {
         match from {
             Side::Client => &mut self.client,
@@ -111,8 +113,8 @@ impl Proxy {
         out: &mut Vec<u8>,
     ) -> Result<()> {
         let kind = self.observer.next(from, payload)?.kind;
-        if let Kind::SslRequest = kind {
-            return Err(Error::Session(Refusal::Encrypted));
+        if let PacketKind::SslRequest = kind {
+            return Err(Error::Session(SessionError::Encrypted));
         }
         let mut written = Vec::new(self.alloc);
         let passed = match from {
@@ -130,12 +132,13 @@ impl Proxy {
         Ok(())
     }
 
-    /// Writes what is read of the client, and reads the parameters of an execution.
+    /// Writes the record of a client's packet, and reads the parameters of an execution.
     ///
-    /// What a reader refuses goes on as it came: the observer knows its kind, and the other side answers it.
+    /// A packet that can't be parsed is forwarded as it was received: the observer knows its kind, and the other side answers
+    /// it.
     fn client_as_read(
         &self,
-        kind: Kind,
+        kind: PacketKind,
         payload: &[u8],
         written: &mut Vec<u8>,
     ) -> Result<Passed, AllocError> {
@@ -161,7 +164,7 @@ impl Proxy {
     /// Writes an execution, by its record as a command.
     fn execution_as_read(
         &self,
-        kind: Kind,
+        kind: PacketKind,
         payload: &[u8],
         written: &mut Vec<u8>,
     ) -> Result<bool, AllocError> {
@@ -171,10 +174,10 @@ impl Proxy {
         }
     }
 
-    /// Writes what is read of the server, and reads the values of a row, whose columns the observer knows.
+    /// Writes the record of a server's packet, and reads the values of a row, whose columns the observer knows.
     fn server_as_read(
         &self,
-        kind: Kind,
+        kind: PacketKind,
         payload: &[u8],
         written: &mut Vec<u8>,
     ) -> Result<Passed, AllocError> {
@@ -182,17 +185,13 @@ impl Proxy {
             Some(agreed) => agreed.mysql,
             None => CapabilityFlags::from_bits_retain(0),
         };
-        let read: Result<ServerRecord<'_, '_>, FaultOf<'_>> = self
+        let read: Result<ServerPacket<'_, '_, RowColumn>, FaultOf<'_>> = self
             .observer
             .server_packet(kind, payload);
         match read {
-            Ok(ServerRecord::Packet(packet)) => Ok(Passed {
+            Ok(packet) => Ok(Passed {
                 is_as_read: write_server(self.alloc, capabilities, &packet, payload, written)?,
-                values: values_of(packet),
-            }),
-            Ok(ServerRecord::Untyped(_bytes)) => Ok(Passed {
-                is_as_read: false,
-                values: 0,
+                values: values_of(packet, self.observer.result_columns().unwrap_or(&[])),
             }),
             Err(_) => Ok(Passed {
                 is_as_read: false,
@@ -202,23 +201,54 @@ impl Proxy {
     }
 }
 
-/// How many values of a row can be read. Who looks at them, as a rule of a firewall does, takes each one here.
-fn values_of(packet: ServerPacket<'_, '_, RowColumn>) -> u64 {
+/// Returns the number of values of a row that can be read. A firewall would examine each value here.
+fn values_of(packet: ServerPacket<'_, '_, RowColumn>, columns: &[RowColumn]) -> u64 {
     match packet {
-        ServerPacket::TextRow(row) => text_values_of(row),
+        ServerPacket::TextRow(row) => text_values_of(row, columns),
         ServerPacket::BinaryRow(row) => binary_values_of(row),
         _other => 0,
     }
 }
 
-/// The values of a row of text, up to the first that can't be read.
-fn text_values_of(row: TextRowView<'_>) -> u64 {
+/// A value of a row of text under the type of its column: an integer, if it has one. A value that is none of its type stays bytes.
+fn converted<'p>(value: ValueRef<'p>, column: Option<&RowColumn>) -> ValueRef<'p> {
+    let Some(column) = column else {
+        return value;
+    };
+    match column.column_type {
+        ColumnType::MYSQL_TYPE_TINY
+        | ColumnType::MYSQL_TYPE_SHORT
+        | ColumnType::MYSQL_TYPE_YEAR
+        | ColumnType::MYSQL_TYPE_INT24
+        | ColumnType::MYSQL_TYPE_LONG
+        | ColumnType::MYSQL_TYPE_LONGLONG => integer(value, column.is_unsigned),
+        _ => value,
+    }
+}
+
+/// Converts a value to an integer, or returns it if it is none.
+fn integer<'p>(value: ValueRef<'p>, is_unsigned: bool) -> ValueRef<'p> {
+    if is_unsigned {
+        return match u64::from_value_ref_opt(value) {
+            Ok(number) => ValueRef::UInt(number),
+            Err(_error) => value,
+        };
+    }
+    match i64::from_value_ref_opt(value) {
+        Ok(number) => ValueRef::Int(number),
+        Err(_error) => value,
+    }
+}
+
+/// The values of a row of text, each under the type of its column, up to the first that can't be read.
+fn text_values_of(row: TextRowView<'_>, columns: &[RowColumn]) -> u64 {
     let mut row = row;
     let mut count: u64 = 0;
-    for _ in 0..row.left() {
-        let Ok(Some(_value)) = row.next_value() else {
+    for place in 0..row.left() {
+        let Ok(Some(value)) = row.next_value() else {
             break;
         };
+        let _value = converted(value, columns.get(place));
         count = count.saturating_add(1);
     }
     count
@@ -252,8 +282,8 @@ fn params_of(params: ExecuteParamsView<'_, '_>) -> u64 {
 
 /// Writes a record, where its writer writes the bytes that came.
 ///
-/// A number may come in more bytes than it takes, and bytes may follow a record: then nothing is written, so that they are not lost. Who
-/// changes a packet writes the other one in place of this.
+/// If a number takes more bytes than it needs, or bytes follow the record, nothing is written, so that no byte is lost. To
+/// change a packet, write another record here.
 fn as_read<P: MySerialize>(
     packet: &P,
     payload: &[u8],
@@ -279,7 +309,7 @@ fn ok_as_read<T: OkPacketLayout>(
     as_read(&sent, payload, written)
 }
 
-/// Writes a packet of the client. A part of a file goes on as it came, and so does its end.
+/// Writes a packet of the client. A part of a file is forwarded as it was received, and so is its end.
 fn write_client(
     alloc: Global,
     packet: &ClientPacket<'_>,
@@ -297,7 +327,7 @@ fn write_client(
     }
 }
 
-/// Writes a packet of the server. A row goes on as it came, and so does a report of progress.
+/// Writes a packet of the server. A row is forwarded as it was received, and so is a progress report.
 fn write_server(
     alloc: Global,
     capabilities: CapabilityFlags,
@@ -319,7 +349,7 @@ fn write_server(
             ok_as_read::<ResultSetTerminator>(capabilities, ok, payload, written)
         }
         ServerPacket::Error(error) => as_read(&error.to_packet(), payload, written),
-        ServerPacket::UnaskedError(error) => as_read(&error.to_packet(), payload, written),
+        ServerPacket::UnsolicitedError(error) => as_read(&error.to_packet(), payload, written),
         ServerPacket::LocalInfile(packet) => as_read(&packet.to_packet(), payload, written),
         ServerPacket::ColumnCount(count) => as_read(count, payload, written),
         ServerPacket::Column(column) => as_read(column, payload, written),
@@ -329,7 +359,9 @@ fn write_server(
             as_read(text, payload, written)
         }
         ServerPacket::BinlogEvent(event) => as_read(event, payload, written),
-        ServerPacket::ProgressReport(_) | ServerPacket::TextRow(_) | ServerPacket::BinaryRow(_) =>
-            Ok(false),
+        ServerPacket::ProgressReport(_)
+        | ServerPacket::TextRow(_)
+        | ServerPacket::BinaryRow(_)
+        | ServerPacket::UntypedRow(_) => Ok(false),
     }
 }

@@ -1,5 +1,5 @@
-//! Plays the proxy over a recorded conversation: each line of the standard input is a piece of what a side sent, as `client HEX` or
-//! `server HEX`, and each line of the standard output is what goes on of it, in the same words.
+//! Replays a recorded conversation through the proxy: each line of the standard input is a piece of what a side sent, as
+//! `client HEX` or `server HEX`, and each line of the standard output is what is forwarded of it, in the same form.
 
 use crate::error::{Error, Result};
 use crate::proxy::Proxy;
@@ -16,7 +16,8 @@ fn piece(line: &str) -> Result<(Side, &str)> {
     }
 }
 
-/// Passes each line of the input through a proxy, and says how many packets went on as their records are written.
+/// Passes each line of the input through a proxy, and returns the number of packets that were forwarded as their records are
+/// written.
 pub fn relay(rt: &HostRuntime) -> Result<()> {
     let mut proxy = Proxy::new(rt.alloc());
     for line in BufReader::new(rt.alloc(), rt.reader())?.lines(rt.alloc()) {

@@ -5,7 +5,7 @@ use crate::error::Result;
 use crate::errors::answer;
 use crate::query::query;
 use mysql_packets::constants::BinlogDumpFlags;
-use mysql_packets::conversation::Kind;
+use mysql_packets::conversation::PacketKind;
 use mysql_packets::packets::{ComBinlogDump, ComBinlogDumpGtid, ComRegisterSlave};
 use std::io::{Read, Write};
 
@@ -66,7 +66,7 @@ fn dump_mariadb<R: Read, W: Write>(
 pub fn next_event<R: Read, W: Write>(connection: &mut Connection<R, W>) -> Result<Option<Vec<u8>>> {
     let (kind, payload) = answer(connection)?;
     match (kind, payload.split_first()) {
-        (Kind::BinlogEvent, Some((_, event))) => Ok(Some(Vec::from_slice(
+        (PacketKind::BinlogEvent, Some((_, event))) => Ok(Some(Vec::from_slice(
             connection.alloc,
             event,
         )?)),

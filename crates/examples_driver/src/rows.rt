@@ -3,7 +3,7 @@
 use crate::connection::Connection;
 use crate::error::Result;
 use crate::errors::answer;
-use mysql_packets::conversation::{Kind, KindName};
+use mysql_packets::conversation::{PacketKind, PacketKindTag};
 use mysql_packets::io::ParseBuf;
 use mysql_packets::packets::Column;
 use mysql_packets::row::{Row, RowDeserializer, RowProtocol};
@@ -22,11 +22,11 @@ fn row<P: RowProtocol>(alloc: Global, payload: &[u8], columns: &RcSlice<Column>)
     Ok(row.into_inner())
 }
 
-/// The definitions that come next.
+/// Receives the definitions of columns.
 fn columns<R: Read, W: Write>(connection: &mut Connection<R, W>) -> Result<RcSlice<Column>> {
     let mut columns = Vec::new(connection.alloc);
     for _ in 0..u64::MAX {
-        if !connection.expects(KindName::Column) {
+        if !connection.may_receive(PacketKindTag::Column) {
             break;
         }
         let (_, payload) = answer(connection)?;
@@ -35,21 +35,21 @@ fn columns<R: Read, W: Write>(connection: &mut Connection<R, W>) -> Result<RcSli
     Ok(RcSlice::from_vec(columns)?)
 }
 
-/// The rows of all results that answer a command. One without rows, as that of an update, has none. No file is sent.
+/// Receives the rows of all results of a command. A result without rows, such as that of an update, has none. No file is sent.
 pub fn rows<P: RowProtocol, R: Read, W: Write>(
     connection: &mut Connection<R, W>,
 ) -> Result<Vec<Row>> {
     let mut rows = Vec::new(connection.alloc);
     let mut defined = RcSlice::from_vec(Vec::new(connection.alloc))?;
     for _ in 0..u64::MAX {
-        if connection.is_at_rest() {
+        if connection.is_idle() {
             break;
         }
         let (kind, payload) = answer(connection)?;
         match kind {
-            Kind::ColumnCount(_, _) => defined = columns(connection)?,
-            Kind::Row(_) => rows.push(row::<P>(connection.alloc, &payload, &defined)?)?,
-            Kind::LocalInfile => connection.send(&[])?,
+            PacketKind::ColumnCount(_, _) => defined = columns(connection)?,
+            PacketKind::Row(_) => rows.push(row::<P>(connection.alloc, &payload, &defined)?)?,
+            PacketKind::LocalInfile => connection.send(&[])?,
             _ => {}
         }
     }

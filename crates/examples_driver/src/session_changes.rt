@@ -1,4 +1,4 @@
-//! What a statement changes in the session.
+//! Changes of the session by a statement.
 
 use crate::connection::Connection;
 use crate::error::Result;
@@ -10,7 +10,7 @@ use mysql_packets::packets::{CommonOkPacket, OkPacketDeserializer, SessionStateI
 use std::alloc::Global;
 use std::io::{Read, Write};
 
-/// The changes of the session that come with the answer to a statement without rows, as `use other` or `set autocommit=0`.
+/// Returns the changes of the session in the answer to a statement without rows, such as `use other` or `set autocommit=0`.
 ///
 /// The server says those that its `session_track_..` variables name.
 pub fn session_changes<R: Read, W: Write>(
@@ -38,6 +38,6 @@ fn changes_in(
 }
 
 fn owned_change(alloc: Global, info: &SessionStateInfo<'_>) -> Result<SessionStateChange<'static>> {
-    let change = info.decode_as_sent(alloc)?;
+    let change = info.decode_wire(alloc)?;
     Ok(change.into_owned(alloc)?)
 }

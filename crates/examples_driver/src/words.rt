@@ -8,7 +8,7 @@ use mysql_packets::value::{ParamType, Value};
 use std::alloc::Global;
 use std::fmt;
 
-/// The value of a word. What spells none is NULL.
+/// Parses a word as a value; NULL if it isn't one.
 pub fn value(alloc: Global, word: &str) -> Result<Value> {
     let mut letters = word.chars();
     let first = letters.next();
@@ -26,7 +26,7 @@ pub fn value(alloc: Global, word: &str) -> Result<Value> {
     })
 }
 
-/// The numbers of a word, with hyphens between them; 0 where there is none.
+/// Parses the numbers of a word, which are separated by hyphens; a missing one is 0.
 fn number(word: &str, place: usize) -> u32 {
     word.split('-')
         .nth(place)

@@ -1,4 +1,4 @@
-//! A server and its client: an execution is read as it was sent.
+//! A client and its server: an execution is read as it was sent.
 
 ghost use Rattle.std.specs.Prelude.{◌≡◌, ◌+◌, ◌<◌, ◌^◌, ◌++◌, List, ℕ, IfOk, None, Ok, [], false, true, length};
 ghost use Rattle.std.specs.List.{All};
@@ -16,8 +16,8 @@ use mysql_packets::packets::{
     TypedExecutionError,
 };
 
-/// The request that executes a statement with these parameters, in a session without CLIENT_QUERY_ATTRIBUTES. A server that knows of each
-/// whether it was sent ahead reads them as they were handed in.
+/// Writes the request that executes a statement with these parameters, in a session without CLIENT_QUERY_ATTRIBUTES. A server
+/// that knows which of them were sent ahead reads them as they were passed.
 pub fn execution<'a, V: AsExecuteParam>(
     statement_id: u32,
     params: &'a [V],

@@ -5,7 +5,7 @@ ghost use Rattle.mysql_packets.specs.GtidSetText.{read_sids};
 ghost use Rattle.examples_proved.specs.Refused.{refused_for};
 ghost use Rattle.mysql_packets.specs.Sid.{intervals};
 ghost use Rattle.mysql_packets.specs.MergedIntervals.{NumbersFit};
-ghost use Rattle.mysql_packets.specs.ServerSids.{is_as_servers_write};
+ghost use Rattle.mysql_packets.specs.ServerSids.{is_canonical};
 
 use mysql_packets::laws::repl::{
     gtid_set_entries_are_read, merged_intervals_are_as_servers_write,
@@ -17,14 +17,14 @@ use std::alloc::{AllocError, Global};
 /// The transactions of a server in the form that servers write, where their numbers are from 1 to 2^63 - 2.
 pub fn merged<'a>(alloc: Global, sid: Sid<'a>) -> Result<Sid<'a>, AllocError>
     requires fit { NumbersFit (intervals sid) }
-    ensures servers { IfOk result (λ s. is_as_servers_write s ≡ true) }
+    ensures servers { IfOk result (λ s. is_canonical s ≡ true) }
 {
-    let merged = sid.with_merged_intervals(alloc)?;
+    let merged = sid.normalized(alloc)?;
     merged_intervals_are_as_servers_write();
     Ok(merged)
 }
 
-/// The text of a set of GTIDs as it is kept: it spells the transactions that the given text spells.
+/// The text of a GTID set as it is stored: it contains the transactions of the given text.
 pub fn kept(alloc: Global, text: &str) -> Result<String, InvalidSid>
     ensures same { IfOk result (λ kept. read_sids (string_bytes kept) ≡ read_sids text.now) }
 {
@@ -34,7 +34,7 @@ pub fn kept(alloc: Global, text: &str) -> Result<String, InvalidSid>
     Ok(format!(in alloc; "{set}")?)
 }
 
-/// Refuses a text that spells no set of GTIDs, for the fault that it has first. It takes no memory.
+/// Rejects a text that isn't a GTID set, with its first error. It takes no memory.
 #[tactic(auto, using(crate::proofs::Sets::sets))]
 pub fn check(text: &str) -> Result<(), InvalidSid>
     ensures value { refused_for result ≡ refused_for (read_sids text.now) }

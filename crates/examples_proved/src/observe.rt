@@ -7,7 +7,7 @@ ghost use Rattle.examples_proved.specs.Audit.{AreSent};
 ghost use Rattle.examples_proved.specs.InOrder.{IsInOrder};
 
 use crate::audit::Sent;
-use mysql_packets::conversation::Refusal;
+use mysql_packets::conversation::SessionError;
 use mysql_packets::laws::conversation::what_a_session_took_is_a_beginning;
 use mysql_packets::laws::observer::{
     tracked_packets_are_the_steps_of_a_conversation,
@@ -16,22 +16,22 @@ use mysql_packets::laws::observer::{
 use mysql_packets::observer::{Observer, ObserverLimits};
 use std::alloc::Global;
 
-/// An observer that was passed these packets. What it knows after the login is what each packet says, one after another; and where
-/// each command that came early had its place, its table is that of the packets in the order of the exchanges.
+/// Creates an observer and passes it these packets. What it knows after the login follows from each packet in turn; and if each
+/// pipelined command had its place, its table is that of the packets in the order of the exchanges.
 ///
-/// The first packet that goes on with none is refused, and so is one for which there is no memory.
+/// The first packet that may not come next is an error, and so is one for which an allocation fails.
 pub fn follow(
     alloc: Global,
     limits: ObserverLimits,
     packets: &[Sent<'_>],
-) -> Result<Observer, Refusal>
+) -> Result<Observer, SessionError>
     ensures order { IfOk result (λ observer. (items : List Numbered) × AreSent items packets.now × Observed observer items × IsInOrder limits.statements limits.early items (tracked observer)) }
 {
     let mut observer = Observer::new(alloc, limits);
     for packet in packets {
         let seen = observer.next(packet.from, packet.payload)?;
         if !seen.has_memory {
-            return Err(Refusal::Memory);
+            return Err(SessionError::Memory);
         }
     }
     tracked_packets_are_the_steps_of_a_conversation();

@@ -1,4 +1,4 @@
-//! A proxy: what is no packet is named, and the bytes of a packet go on unchanged.
+//! A proxy: invalid packets are named, and the bytes of a packet are forwarded unchanged.
 
 ghost use Rattle.std.specs.Prelude.{◌≡◌, ◌++◌, [], List, ℕ, false, IfOk, IfErr, OnErr, OnOk};
 ghost use Rattle.mysql_packets.specs.CommandForm.{command};
@@ -13,7 +13,7 @@ use mysql_packets::packets::{Command, StmtPacket};
 use mysql_packets::proto::{MyDeserialize, MySerialize};
 use std::alloc::Global;
 
-/// The packet that answers a preparation; or the fault that the grammar has first.
+/// Parses the answer to a preparation, or returns the first fault of the grammar.
 pub fn statement<'s>(alloc: Global, payload: &[u8]) -> Result<StmtPacket, FaultOf<'s>>
     ensures packet { IfOk result (λ packet. (rest : List ℕ) × (stmt.form tt).Spells packet payload.now rest) }
     ensures fault { IfErr result (λ fault. Faults false fault ((stmt.form tt).reads payload.now)) }
@@ -22,9 +22,9 @@ pub fn statement<'s>(alloc: Global, payload: &[u8]) -> Result<StmtPacket, FaultO
     buf.parse(())
 }
 
-/// Appends a payload to what is sent on, unchanged, where it begins with a packet of that type.
+/// Appends a payload to the output, unchanged, if it begins with a packet of that type.
 ///
-/// Where it doesn't, or memory is refused, nothing is sent on.
+/// If it doesn't, or the allocation fails, nothing is appended.
 pub fn forward<'a, 's, T: MyDeserialize<'a> + Drop>(
     alloc: Global,
     ctx: T::Ctx,
@@ -39,9 +39,9 @@ pub fn forward<'a, 's, T: MyDeserialize<'a> + Drop>(
     out.extend_from_slice(payload).map_err(|_| FaultOf::Memory)
 }
 
-/// The command that a payload is. It is written to what is sent on, as the same bytes.
+/// Parses a command, and appends it to the output as the same bytes.
 ///
-/// Where the payload is no command, or bytes follow it, or memory is refused, nothing is sent on.
+/// If the payload isn't a command, or bytes follow it, or the allocation fails, nothing is appended.
 pub fn forward_command<'a, 's>(
     alloc: Global,
     capabilities: CapabilityFlags,

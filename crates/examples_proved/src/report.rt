@@ -10,7 +10,7 @@ use mysql_packets::value::ValueRef;
 use mysql_packets::value::convert::FromValueRef;
 use std::alloc::Global;
 
-/// The next value of a row, where there is one that is good.
+/// Returns the next value of a row, if there is one and it is valid.
 fn next<'a>(row: &mut TextRowView<'a>) -> Option<ValueRef<'a>>
     ensures { IfSome result (λ value. row.old.values ≡ ref_content value ∷ row.new.values) }
 {
@@ -33,7 +33,7 @@ pub fn value_at<'a>(row: TextRowView<'a>, place: usize) -> Option<ValueRef<'a>>
     Some(value)
 }
 
-/// The number in this place of a row of so many columns.
+/// The number in this place of a row of a given number of columns.
 fn number_at(alloc: Global, columns: usize, place: usize, payload: &[u8]) -> Option<u64>
     ensures number { IfSome result (λ number. HasNumber columns place payload.now number) }
 {

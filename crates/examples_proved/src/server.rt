@@ -1,4 +1,4 @@
-//! A server: an OK packet that was read is sent on as the same, and a row is read as it was written.
+//! A server: an OK packet is sent as it was read, and a row is read as it was written.
 
 ghost use Rattle.std.specs.Prelude.{◌≡◌, ◌++◌, [], List, ℕ, IfOk, Ok, OnErr, length, map};
 ghost use Rattle.std.specs.List.{All};
@@ -20,9 +20,9 @@ use mysql_packets::proto::MySerialize;
 use mysql_packets::row::write_text_row;
 use std::alloc::{AllocError, Global};
 
-/// Reads an OK packet, and sends it on: what is sent is read again as the packet that was read.
+/// Reads an OK packet, and sends it: what is sent is read back as the packet that was read.
 ///
-/// Where the payload is no OK packet, or memory is refused, nothing is sent.
+/// If the payload isn't an OK packet, or the allocation fails, nothing is sent.
 pub fn resend<'s>(
     alloc: Global,
     capabilities: CapabilityFlags,

@@ -1,7 +1,7 @@
-//! Reads MySQL packets given as hexadecimal digits, and writes what they hold.
+//! Reads a MySQL packet given as hexadecimal digits, and writes what it holds.
 #![tactic(auto)]
 
-use std::io::{ErrorKind, Write};
+use std::io::ErrorKind;
 use std::process::ExitCode;
 use std::{env, io};
 
@@ -13,25 +13,15 @@ fn words(rt: &HostRuntime) -> io::Result<Vec<String>> {
     Ok(words)
 }
 
-/// What the words ask for: a recording, which is shown as it comes, or one of the other commands.
-fn answer<W: Write>(rt: &HostRuntime, words: &[String], writer: &mut W) -> u8 {
-    match words {
-        [command, rest @ ..] if command.as_str() == "conversation" => {
-            mysql_recorder::run(rt.alloc(), rest, &mut rt.reader(), writer)
-        }
-        words => mysql_packets::run(rt.alloc(), words, &mut rt.reader(), writer),
-    }
-}
-
 fn main(rt: HostRuntime) -> ExitCode {
     let mut writer = io::writer(&rt);
     let status = match words(&rt) {
-        Ok(words) => answer(&rt, &words, &mut writer),
+        Ok(words) => mysql_program::run(rt.alloc(), &words, &mut rt.reader(), &mut writer),
         Err(error) if error.kind() == ErrorKind::OutOfMemory => {
-            mysql_packets::refuse_memory(&mut writer)
+            mysql_program::refuse_memory(&mut writer)
         }
         // A word that is no text is a bad call.
-        Err(_) => mysql_packets::run(rt.alloc(), &[], &mut rt.reader(), &mut writer),
+        Err(_) => mysql_program::run(rt.alloc(), &[], &mut rt.reader(), &mut writer),
     };
     ExitCode::from(status)
 }

@@ -78,7 +78,7 @@ module _ (c : CapabilityFlags) where
   unfolding more_data
   more-attributes_fault e p bytes mid same h = rw same (data-last_fault sent_attributes c (counts_any ((sent_room (sends_attributes c)).reads mid)) e p bytes mid same h)
 
-  -- the former is the latter, but for keys that come again
+  -- the former is the latter, except for keys that come again
   attributes-once : (mid : List ℕ) → made (option_map merged) ((pairs_as_sent.form c).reads mid) ≡ (sent_attributes.form c).reads mid
   unfolding pairs_as_sent sent_attributes
   attributes-once mid = given-once (sends_attributes c) mid
@@ -158,7 +158,7 @@ module _ (c : CapabilityFlags) where
   unfolding change_user
   change-more_fault e p bytes mid same h = rw same (whole-last_fault last_part c (counts_any ((in_last_part c).reads mid)) e p bytes mid same h)
 
-  -- the former is the latter, but for keys that come again
+  -- the former is the latter, except for keys that come again
   there-once : (there : Bool) (mid : List ℕ) → made (option_map more_with_each_key_once) ((when there (more_data_as_sent.form c)).reads mid) ≡ (when there (more_data.form c)).reads mid
   there-once true mid =
       last-put more_with_each_key_once (option_map more_with_each_key_once) Some ((more_data_as_sent.form c).reads mid) (λ more. refl)

@@ -1,4 +1,4 @@
--- The parts of packets that were read fit, but for what their lengths have to tell.
+-- The parts of packets that were read fit, except for what their lengths have to tell.
 use Rattle.std.proofs.Common.{◌≡◌, ℕ, List, Option, Some, None, Bool, true, false, refl, sym, subst, ap, ◌∙◌}
 use Rattle.std.specs.Option.{option_map}
 use Rattle.mysql_wire.specs.declared.int.RawInt.{RawInt}

@@ -94,7 +94,7 @@ attributes-fault e p bytes mid same h = rw same (whole-last_fault sent_attribute
 
 pub ruleset responses_read = (response-read, response-front_fault, attributes-fault)
 
--- ---- the former is the latter, but for keys that come again
+-- ---- the former is the latter, except for keys that come again
 
 level-once : (p : HandshakeResponse) (found : Option (List Attribute)) (level : Reading (Option (RawInt ℕ ℕ)))
     → made with_each_key_once (then_read level (λ level rest. Ok (with_last found level p, rest))) ≡ then_read level (λ level rest. Ok (with_last (option_map merged found) level p, rest))

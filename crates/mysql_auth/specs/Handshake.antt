@@ -73,7 +73,7 @@ auth_plugin_name p = p.auth_plugin_name
 abbrev pub auth_plugin : HandshakePacket → Option AuthPlugin
 auth_plugin p = option_map (λ name. plugin_of (without_last_zero name)) (auth_plugin_name p)
 
--- the bytes, cut to so many or filled with zeros
+-- the bytes, cut to this many or filled with zeros
 abbrev pub resized : ℕ → List ℕ → List ℕ
 resized n bytes = take n bytes ++ replicate (n - length bytes) 0
 

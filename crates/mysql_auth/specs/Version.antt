@@ -23,7 +23,7 @@ abbrev pub EndsDigits : List ℕ → Type 0
 EndsDigits [] = Unit {0}
 EndsDigits (b ∷ bytes) = is_ascii_digit b ≡ false
 
--- The digits that stand there write the number: at least one, at most so many, and as many as there are up to that.
+-- The digits that stand there write the number: at least one, at most this many, and as many as there are up to that.
 pub record Digits (most n : ℕ) (bytes rest : List ℕ) : Type 0 where
   pub digits : List ℕ
   pub parts : bytes ≡ digits ++ rest
@@ -33,7 +33,7 @@ pub record Digits (most n : ℕ) (bytes rest : List ℕ) : Type 0 where
   pub longest : length digits < most → EndsDigits rest
   pub value : digits_value 10 digits ≡ n
 
--- how many digits stand there, up to so many
+-- how many digits stand there, up to this many
 abbrev pub digit_count : ℕ → List ℕ → ℕ
 digit_count zero bytes = 0
 digit_count (suc most) [] = 0

@@ -12,7 +12,7 @@ use mysql_wire::{FaultOf, LenEnc, ParseBuf, Parts, RawBytes, Sink, parts};
 use std::alloc::{AllocError, Global};
 use std::marker::Model;
 
-/// The content as a text of its own, with U+FFFD for what is not UTF-8.
+/// Copies the content as text, with U+FFFD for invalid UTF-8.
 fn text_of(content: &RawBytes<'_, LenEnc>, alloc: Global) -> Result<String, AllocError>
     ensures value { IfOk result (λ text. string_bytes text ≡ lossy_text content.now) }
 {
@@ -55,7 +55,7 @@ impl<'a> Attribute<'a> {
         Ok(Attribute { key, value })
     }
 
-    /// The same, on memory of its own.
+    /// Copies the key and the value, so that the attribute borrows nothing.
     pub(crate) fn into_owned(self, alloc: Global) -> Result<Attribute<'static>, AllocError>
         ensures value { IfOk result (λ owned. owned ≡ self.entry) }
     {
@@ -64,7 +64,7 @@ impl<'a> Attribute<'a> {
         Ok(Attribute { key, value })
     }
 
-    /// The key and the value as texts, with U+FFFD for what is not UTF-8.
+    /// Copies the key and the value as text, with U+FFFD for invalid UTF-8.
     pub(crate) fn texts(&self, alloc: Global) -> Result<(String, String), AllocError>
         ensures value { IfOk result (λ texts. spec.text_pair texts ≡ spec.lossy_pair self.now) }
     {

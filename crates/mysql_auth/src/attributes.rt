@@ -23,10 +23,10 @@ use std::fmt;
 use std::fmt::Debug;
 use std::marker::Model;
 
-/// What a client tells of itself: keys with their values, each key once, in the order of their first places.
+/// A client's connection attributes: keys and values, with each key once, in the order of their first occurrence.
 ///
-/// On the wire it is one length-encoded string, whose content is the pairs one after another: the key and the value, each
-/// a length-encoded string. Where a key comes again, it keeps its first place and takes the last value.
+/// On the wire they are one length-encoded string, whose content is the pairs: the key and the value, each a length-encoded
+/// string. A key that is repeated keeps its first place and takes the last value.
 ///
 /// In contracts it is the list of the pairs.
 #[derive(Drop)]
@@ -45,10 +45,10 @@ impl<'a> Model for Attributes<'a> {
     ghost invariant = { λ a. merged a.list.items ≡ a.list.items };
 }
 
-/// How many pairs are looked through for a key. Of more pairs a map is made.
+/// The number of pairs that are searched for a key one by one. More pairs go into a map.
 const FEW: usize = 16;
 
-/// Reads few pairs to the end. Where they are many, or a key comes again, all are read anew, into a map.
+/// Reads a few pairs to the end. If there are many, or a key is repeated, all are read again, into a map.
 #[tactic(auto, using(crate::proofs::PairsRead::new_pairs, crate::proofs::Merging::distinct))]
 fn read_few<'s, 'a>(inside: ParseBuf<'a>) -> Result<Attributes<'a>, FaultOf<'s>>
     requires some { inside ≢ [] }
@@ -110,15 +110,15 @@ impl<'a> Attributes<'a> {
         Ok(Attributes { list })
     }
 
-    /// Each key stands once.
+    /// Each key occurs once.
     pub(crate) fn keys_stand_once(&self)
         ensures value { spec.merged self.now ≡ self.now }
     {
         let _list = &self.list;
     }
 
-    /// The attributes as texts, with U+FFFD for what is not UTF-8. Where two keys become one text, it keeps the first
-    /// place and takes the later value.
+    /// Copies the attributes as text, with U+FFFD for invalid UTF-8. If two keys become the same text, it keeps the first place
+    /// and takes the later value.
     #[tactic(auto, using(crate::proofs::Merging::merges))]
     pub(crate) fn texts(&self, alloc: Global) -> Result<IndexMap<String, String>, AllocError>
         ensures value { IfOk result (λ texts. map spec.text_pair texts.entries ≡ spec.lossy_pairs self.now) }
@@ -133,7 +133,7 @@ impl<'a> Attributes<'a> {
         Ok(texts)
     }
 
-    /// The same, on memory of their own.
+    /// Copies keys and values, so that the attributes borrow nothing.
     pub(crate) fn into_owned(self, alloc: Global) -> Result<Attributes<'static>, AllocError>
         ensures value { IfOk result (λ owned. owned ≡ self.entry) }
         ensures no_memory { self.entry ≡ [] → IsOk result }
@@ -156,7 +156,7 @@ impl<'a> Attributes<'a> {
         append_items(self.list.as_slice(), out);
     }
 
-    /// How many bytes the pairs are written as, or `usize::MAX` where that is less.
+    /// The encoded length of the pairs in bytes, or `usize::MAX` if it is greater.
     fn pairs_len(&self) -> usize
         ensures value { result ≡ saturated (length (spec.pairs_bytes self.now)) }
     {
@@ -220,7 +220,7 @@ impl PartialEq for Attributes<'_> {
 
     ghost laws = { lists_per spec.attribute_per };
 
-    /// The same pairs in the same order.
+    /// Compares the pairs, in order.
     fn eq(&self, other: &Self) -> bool {
         self.list == other.list
     }

@@ -16,10 +16,17 @@ use std::borrow::CowSlice;
 /// The first byte of further data: `01`.
 pub type AuthMoreDataHeader = ConstU8<InvalidAuthMoreDataHeader, 0x01>;
 
-/// What a server sends beyond its first challenge (`Protocol::AuthMoreData`): the byte `01`, and the plugin's data to
-/// the end of the packet.
+/// Further data from the server during authentication (`Protocol::AuthMoreData`): the byte `01`, and the plugin's data to the
+/// end of the packet.
 ///
 /// A packet that begins with another byte is `InvalidData`, an empty one `UnexpectedEof`.
+///
+/// ```
+/// let more: AuthMoreDataRef<'_> = buf.parse(())?;
+/// if more.data() != [4].as_slice() {
+///     return Ok(());
+/// }
+/// ```
 #[derive(Clone, Debug, PartialEq, Eq, Drop)]
 pub struct AuthMoreData<'a> {
     header: AuthMoreDataHeader,
@@ -46,7 +53,7 @@ impl<'a> AuthMoreData<'a> {
         self.data.as_bytes()
     }
 
-    /// The same packet, on memory of its own. Empty data takes none.
+    /// Copies the data, so that the packet borrows nothing. Empty data needs no allocation.
     pub fn into_owned(self, alloc: Global) -> Result<AuthMoreData<'static>, AllocError>
         ensures value { IfOk result (λ owned. owned ≡ self.entry) }
         ensures no_memory { spec.more_data self.entry ≡ [] → IsOk result }

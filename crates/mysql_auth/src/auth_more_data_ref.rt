@@ -1,4 +1,4 @@
-//! Further data of an authentication, where it lies.
+//! Borrowed further data of an authentication.
 #![tactic(auto, using(mysql_wire::proofs::Packets::packets), unfolding(crate::specs::AuthMoreData::auth_more_data))]
 
 ghost use Rattle.std.specs.Prelude.{◌≡◌, ⊤};
@@ -14,10 +14,16 @@ use std::fmt;
 use std::fmt::Debug;
 use std::marker::Model;
 
-/// What a server sends beyond its first challenge, whose data stays in the packet: an [`AuthMoreData`] for as long as the
-/// packet lives.
+/// Further data from the server during authentication: an [`AuthMoreData`] that borrows from the packet.
 ///
 /// It is read of the same bytes with the same faults, and in a clause it is that packet.
+///
+/// ```
+/// let more: AuthMoreDataRef<'_> = buf.parse(())?;
+/// if more.data() != [4].as_slice() {
+///     return Ok(());
+/// }
+/// ```
 #[derive(Drop)]
 pub struct AuthMoreDataRef<'a> {
     content: &'a [u8],
@@ -38,7 +44,7 @@ impl<'a> AuthMoreDataRef<'a> {
         self.content
     }
 
-    /// The packet in its other form, which borrows the data still. It takes no memory.
+    /// Converts to an [`AuthMoreData`], which still borrows the data. It takes no memory.
     #[inline]
     pub fn to_packet(&self) -> AuthMoreData<'a>
         ensures value { result ≡ self.now }

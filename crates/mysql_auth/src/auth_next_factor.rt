@@ -13,10 +13,10 @@ impl PluginRequestHeader for InvalidAuthNextFactorHeader {
 /// The first byte of a request for the next factor: `02`.
 pub type AuthNextFactorHeader = ConstU8<InvalidAuthNextFactorHeader, 0x02>;
 
-/// A server's request for the next factor of a login (`Protocol::AuthNextFactorRequest`), once the one before is taken: the
-/// byte `02`, the name of the factor's plugin, which ends in a zero, and the plugin's data to the end of the packet.
+/// A server's request for the next factor of a login (`Protocol::AuthNextFactorRequest`), after it has accepted the previous
+/// one: the byte `02`, the name of the factor's plugin, zero-terminated, and the plugin's data to the end of the packet.
 ///
-/// It comes where both sides agreed to `MULTI_FACTOR_AUTHENTICATION`.
+/// It is sent if both sides agreed on `MULTI_FACTOR_AUTHENTICATION`.
 ///
 /// A packet that begins with another byte is `InvalidData`; an empty one, or a name without its zero, is
 /// `UnexpectedEof`.

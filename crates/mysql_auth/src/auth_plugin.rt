@@ -26,8 +26,17 @@ const PARSEC: &[u8] = b"parsec";
 
 /// How a client proves who it is: the plugin that both sides run.
 ///
-/// On the wire it is its name. A reader takes all that is left as the name, one zero at its end aside; a writer puts a
+/// On the wire it is its name. Reading takes the rest of the buffer as the name, without one zero at its end; writing puts a
 /// zero after the name.
+///
+/// ```
+/// let plugin = request.auth_plugin();
+/// scramble.clear();
+/// scramble.extend_from_slice(match plugin {
+///     AuthPlugin::Ed25519 => request.plugin_data_raw(),
+///     _ => request.plugin_data(),
+/// })?;
+/// ```
 #[derive(Clone, Debug, PartialEq, Eq, Hash, Drop)]
 pub enum AuthPlugin<'a> {
     /// `mysql_old_password`: the hash of MySQL before 4.1.
@@ -42,12 +51,12 @@ pub enum AuthPlugin<'a> {
     Ed25519,
     /// `parsec`, of MariaDB.
     MariadbParsec {
-        /// How many rounds the password is hashed with, 0 until the server has sent it.
+        /// The number of rounds for hashing the password, 0 until the server has sent it.
         iterations: u32,
         /// The server's salt, zeros until the server has sent it.
         ext_salt: [u8; 18],
     },
-    /// A plugin of another name, which stands here.
+    /// Another plugin, by its name.
     Other(RawBytes<'a, EofBytes>),
 }
 
@@ -93,7 +102,7 @@ impl<'a> AuthPlugin<'a> {
         }
     }
 
-    /// The same plugin, where it has a variant of its own. It borrows nothing.
+    /// Returns the plugin if it has a variant of its own, which borrows nothing.
     fn known(&self) -> Option<AuthPlugin<'static>>
         ensures value { result ≡ spec.known self.now }
     {
@@ -114,9 +123,9 @@ impl<'a> AuthPlugin<'a> {
         })
     }
 
-    /// The same plugin, on memory of its own. Another name alone takes any, where it has a byte.
+    /// Converts to an owned plugin. Only the name of a plugin without a variant of its own is copied.
     ///
-    /// Where the copy is refused, the plugin is given up, and the bytes that it borrowed stay.
+    /// If the allocation fails, the plugin is dropped; the bytes that it borrowed aren't affected.
     #[tactic(auto, using(crate::proofs::Known::known_plugins))]
     pub fn into_owned(self, alloc: Global) -> Result<AuthPlugin<'static>, AllocError>
         ensures value { IfOk result (λ owned. owned ≡ self.entry) }
@@ -132,7 +141,7 @@ impl<'a> AuthPlugin<'a> {
         }
     }
 
-    /// The same plugin, whose name is borrowed from this one. It takes no memory.
+    /// Borrows the plugin: its name is not copied.
     #[tactic(auto, using(crate::proofs::Known::known_plugins))]
     pub fn borrow(&self) -> AuthPlugin<'_>
         ensures value { result ≡ self.now }
@@ -143,10 +152,10 @@ impl<'a> AuthPlugin<'a> {
         AuthPlugin::Other(RawBytes::new(CowSlice::Borrowed(self.as_bytes())))
     }
 
-    /// Takes in what a server tells beside the scramble: for `parsec` the number of rounds and the salt, as
+    /// Sets what a server sends in addition to the scramble: for `parsec` the number of rounds and the salt, as
     /// [`parse_parsec_salt`] reads them.
     ///
-    /// `None` where the plugin takes nothing in, or the payload isn't of that form; the plugin is then as it was.
+    /// Returns `None`, and leaves the plugin unchanged, if it needs no such data or the payload has another form.
     pub fn read_add_data(&mut self, payload: &[u8]) -> Option<()>
         ensures read { IfSome result (λ _. spec.with_salt self.old payload.now ≡ Some self.new) }
         ensures none { IfNone result ((spec.with_salt self.old payload.now ≡ None) × (self.new ≡ self.old)) }

@@ -1,4 +1,4 @@
-//! What a client answers to a scramble.
+//! Responses to a scramble.
 #![tactic(auto, using(mysql_wire::proofs::Packets::packets))]
 
 ghost use Rattle.std.specs.Prelude.{true, [], ◌≡◌, IfOk, IsOk, is_ok};
@@ -8,7 +8,7 @@ use mysql_wire::{EofBytes, Parts, RawBytes, Sink, Skip, parts};
 use std::alloc::{AllocError, Global};
 use std::borrow::CowSlice;
 
-/// What a client proves a password with, by the plugin that makes it.
+/// A client's proof of its password, by the plugin that computed it.
 ///
 /// It is only written: the bytes, and a zero after those of `Old` and `Clear`.
 #[derive(Clone, Debug, PartialEq, Eq, Drop)]
@@ -42,9 +42,9 @@ impl AuthPluginData<'_> {
         }
     }
 
-    /// The same data, on memory of its own. A password alone takes any, where it has a byte.
+    /// Converts to owned data. Only a password is copied.
     ///
-    /// Where the copy is refused, the data is given up, and the bytes that it borrowed stay.
+    /// If the allocation fails, the data is dropped; the bytes that it borrowed aren't affected.
     pub fn into_owned(self, alloc: Global) -> Result<AuthPluginData<'static>, AllocError>
         ensures value { IfOk result (λ owned. owned ≡ self.entry) }
         ensures fixed { spec.IsFixed self.entry → is_ok result ≡ true }

@@ -1,4 +1,4 @@
-//! What a server says before a login is done.
+//! Server packets during authentication.
 #![tactic(auto, using(mysql_wire::proofs::Packets::packets), unfolding(crate::specs::AuthReply::auth_reply))]
 
 ghost use Rattle.std.specs.Prelude.{false, ◌≡◌, [], OnErr};
@@ -13,8 +13,8 @@ use bitflags::Flags;
 use mysql_wire::{AnyWidth, CapabilityFlags, EofBytes, FaultOf, MyDeserialize, ParseBuf, RawBytes};
 use std::borrow::CowSlice;
 
-/// What a server answers to a handshake response, and to each packet of a plugin after it, until the login is done or
-/// refused. The bytes stay in the payload.
+/// A server's answer to a handshake response, and to each packet of a plugin after it, until the login succeeds or fails. The
+/// bytes borrow from the payload.
 ///
 /// | First byte | Reply |
 /// |---|---|
@@ -26,14 +26,20 @@ use std::borrow::CowSlice;
 /// | another, or none | [`PluginData`](AuthReply::PluginData) |
 ///
 /// A plugin speaks as it likes: MariaDB puts `01` in front of its data only where that begins with `00`, `01`, `fe` or
-/// `ff`, and MySQL, which alone knows of factors, in any case. So no reply has two meanings.
+/// `ff`, and MySQL, which alone knows of factors, in any case (`server_mpvio_write_packet` in MariaDB's `sql/sql_acl.cc` and
+/// MySQL's `sql/auth/sql_authentication.cc`). So no reply has two meanings.
 ///
-/// A switch or a factor without the zero of its plugin's name is `UnexpectedEof`. All else is read, without memory.
+/// A switch or a factor whose plugin name has no zero is `UnexpectedEof`. Any other payload is valid. It takes no memory.
+///
+/// ```
+/// let reply: AuthReply<'_> = ParseBuf::new(alloc, payload).parse(agreed)?;
+/// Ok(matches!(&reply, AuthReply::Switch(_)))
+/// ```
 #[derive(Clone, Debug, PartialEq, Eq, Drop)]
 pub enum AuthReply<'a> {
     /// The login is done: the payload of an OK packet.
     OkPacket(RawBytes<'a, EofBytes>),
-    /// The login is refused: the payload of an error.
+    /// The login failed: the payload of an error.
     ErrPacket(RawBytes<'a, EofBytes>),
     /// Another plugin shall go on.
     Switch(AuthSwitchRequestRef<'a>),
@@ -41,13 +47,13 @@ pub enum AuthReply<'a> {
     OldSwitch,
     /// Data of the plugin, after the byte `01`.
     MoreData(AuthMoreDataRef<'a>),
-    /// The factor is taken, and the next one is asked for.
+    /// The factor is accepted, and the next one is requested.
     NextFactor(AuthNextFactorRef<'a>),
     /// Data of the plugin: the whole payload.
     PluginData(RawBytes<'a, EofBytes>),
 }
 
-/// All that is left.
+/// The rest of the buffer.
 #[inline]
 fn all_of<'a>(buf: &mut ParseBuf<'a>) -> RawBytes<'a, EofBytes>
     ensures value { result ≡ buf.old }
@@ -56,7 +62,7 @@ fn all_of<'a>(buf: &mut ParseBuf<'a>) -> RawBytes<'a, EofBytes>
     RawBytes::new(CowSlice::Borrowed(buf.eat_all()))
 }
 
-/// A switch, of which the old one is one byte.
+/// A switch; the one to the oldest plugin is a single byte.
 fn read_switch<'s, 'a>(buf: &mut ParseBuf<'a>) -> Result<AuthReply<'a>, FaultOf<'s>>
     ensures value { Answers false result buf.new ((spec.switch_reply buf.old).reads buf.old) }
     ensures tail { OnErr result (IsTail buf.new buf.old) }
@@ -87,7 +93,7 @@ impl<'de> MyDeserialize<'de> for AuthReply<'de> {
 
     type Size = AnyWidth;
 
-    /// What both sides can do.
+    /// The capabilities of both sides.
     type Ctx = CapabilityFlags;
 
     ghost form = { spec.auth_reply };

@@ -25,14 +25,23 @@ use std::borrow::CowSlice;
 /// The first byte of a change of user: `11`.
 pub type ComChangeUserHeader = ConstU8<InvalidComChangeUserHeader, 0x11>;
 
-/// `COM_CHANGE_USER`: another user takes over the session, which is made new.
+/// `COM_CHANGE_USER`: changes the user of a session and resets its state.
 ///
-/// The byte `11`; the user's name, which ends in a zero; the answer to the scramble, after a length of one byte; the
-/// database's name, which ends in a zero; and, where bytes are left, [`ComChangeUserMoreData`].
+/// The byte `11`; the user's name, zero-terminated; the authentication response, after a length of one byte; the database's
+/// name, zero-terminated; and, if bytes are left, [`ComChangeUserMoreData`].
 ///
-/// A packet that begins with another byte is `InvalidData`; missing bytes are `UnexpectedEof`. Reading takes memory for
-/// the attributes alone. Of an answer the first 255
-/// bytes are written, of a name those up to its first zero.
+/// Another first byte is `InvalidData`; missing bytes are `UnexpectedEof`. Only the attributes take memory. Of a response the
+/// first 255 bytes are written, and of a name those before its first zero.
+///
+/// ```
+/// let more = ComChangeUserMoreData::new(45).with_auth_plugin(Some(
+///     AuthPlugin::CachingSha2Password,
+/// ));
+/// let change = ComChangeUser::new()
+///     .with_user(Some(CowSlice::Borrowed(user)))
+///     .with_more_data(Some(more));
+/// Ok(change.for_session(agreed).serialize(out)?)
+/// ```
 #[derive(Clone, Debug, PartialEq, Eq)]
 pub struct ComChangeUser<'a> {
     pub(crate) header: ComChangeUserHeader,
@@ -76,7 +85,7 @@ pub(crate) fn bytes_if_given<'a, R>(content: Option<CowSlice<'a, u8>>) -> Option
 }
 
 impl<'a> ComChangeUser<'a> {
-    /// A change to a user without a name, with an empty answer, no database and no more data.
+    /// Creates a change to a user without a name, with an empty response, no database and no more data.
     pub fn new() -> Self
         ensures value { result ≡ spec.change_of [] [] [] None }
     {
@@ -89,7 +98,7 @@ impl<'a> ComChangeUser<'a> {
         }
     }
 
-    /// The same with this user; with none it is empty.
+    /// Sets the user; `None` is an empty name.
     pub fn with_user(mut self, user: Option<CowSlice<'a, u8>>) -> Self
         ensures value { result ≡ spec.with_user (option_map_or cow_slice_items user.entry []) self.entry }
     {
@@ -97,7 +106,7 @@ impl<'a> ComChangeUser<'a> {
         self
     }
 
-    /// The same with this database; with none it is empty.
+    /// Sets the default database; `None` is an empty name.
     pub fn with_database(mut self, database: Option<CowSlice<'a, u8>>) -> Self
         ensures value { result ≡ spec.with_database (option_map_or cow_slice_items database.entry []) self.entry }
     {
@@ -105,7 +114,7 @@ impl<'a> ComChangeUser<'a> {
         self
     }
 
-    /// The same with this answer to the scramble; with none it is empty.
+    /// Sets the authentication response; `None` is an empty one.
     pub fn with_auth_plugin_data(mut self, auth_plugin_data: Option<CowSlice<'a, u8>>) -> Self
         ensures value { result ≡ spec.with_auth_plugin_data (option_map_or cow_slice_items auth_plugin_data.entry []) self.entry }
     {
@@ -113,7 +122,7 @@ impl<'a> ComChangeUser<'a> {
         self
     }
 
-    /// The same with more data, or without.
+    /// Sets or removes the fields after the database.
     pub fn with_more_data(mut self, more_data: Option<ComChangeUserMoreData<'a>>) -> Self
         ensures value { result ≡ spec.with_more_data more_data.entry self.entry }
     {
@@ -121,9 +130,9 @@ impl<'a> ComChangeUser<'a> {
         self
     }
 
-    /// The same, written by the flags that both sides agreed on: the plugin and the attributes exactly if these ask for them.
+    /// Returns the form to send in a session: it has the plugin and the attributes exactly if the agreed flags ask for them.
     ///
-    /// A proxy writes a change as it was read so, and a client that agreed to no attributes its own.
+    /// A proxy uses it to write a change as it was read, and a client that agreed on no attributes to write its own.
     #[inline]
     pub fn for_session(&self, capabilities: CapabilityFlags) -> ForSession<'_, Self>
         ensures value { result ≡ (capabilities, self.now) }
@@ -131,7 +140,7 @@ impl<'a> ComChangeUser<'a> {
         ForSession::new(self, capabilities)
     }
 
-    /// The character set of more data has two bytes, and each key stands once among its attributes.
+    /// The character set of more data has two bytes, and each key occurs once among its attributes.
     pub(crate) fn more_data_is_one(&self)
         ensures width { (given : ComChangeUserMoreData) → spec.more_data_in self.now ≡ Some given → spec.character_set given < 2 ^ 16 }
         ensures once { (given : ComChangeUserMoreData) (pairs : List Attribute) → spec.more_data_in self.now ≡ Some given → spec.connect_attributes given ≡ Some pairs → merged pairs ≡ pairs }
@@ -142,7 +151,7 @@ impl<'a> ComChangeUser<'a> {
         }
     }
 
-    /// The same, on memory of its own. Empty bytes take none.
+    /// Copies all fields, so that the packet borrows nothing. Empty fields need no allocation.
     pub fn into_owned(self, alloc: Global) -> Result<ComChangeUser<'static>, AllocError>
         ensures value { IfOk result (λ owned. owned ≡ self.entry) }
         ensures no_memory { spec.HasNoBytes self.entry → IsOk result }
@@ -197,7 +206,7 @@ impl<'de> MyDeserialize<'de> for ComChangeUser<'de> {
 
     ghost takes_memory = { λ capabilities bytes. counts_any ((in_change_user capabilities).reads bytes) };
 
-    /// What both sides can do.
+    /// The capabilities of both sides.
     type Ctx = CapabilityFlags;
 
     ghost form = { spec.change_user.form };

@@ -1,4 +1,4 @@
-//! What a change of a session's user tells besides.
+//! Optional fields of a change of user.
 #![tactic(auto, using(mysql_wire::proofs::Packets::packets), unfolding(crate::specs::ComChangeUser::more_data))]
 
 ghost use Rattle.std.specs.Prelude.{◌≡◌, ◌<◌, ◌^◌, [], List, IfOk, IsOk, None, Some, map, option_map};
@@ -20,13 +20,23 @@ use mysql_wire::{
 };
 use std::alloc::{AllocError, Global};
 
-/// What a change of a session's user tells besides: the character set in two bytes, little-endian; under
-/// `CLIENT_PLUGIN_AUTH` the plugin's name, which ends in a zero; under `CLIENT_CONNECT_ATTRS` the attributes, as in a
+/// The optional fields of a change of user: the character set in two bytes, little-endian; under `CLIENT_PLUGIN_AUTH` the
+/// plugin's name, zero-terminated; under `CLIENT_CONNECT_ATTRS` the attributes, as in a
 /// [`HandshakeResponse`](crate::HandshakeResponse).
 ///
 /// A writer isn't passed the flags: it writes a plugin where one is given, and always attributes, an empty list if none are
 /// given. [`for_session`](ComChangeUserMoreData::for_session) writes what the flags ask for. Reading takes memory for the
 /// attributes alone.
+///
+/// ```
+/// let more = ComChangeUserMoreData::new(45).with_auth_plugin(Some(
+///     AuthPlugin::CachingSha2Password,
+/// ));
+/// let change = ComChangeUser::new()
+///     .with_user(Some(CowSlice::Borrowed(user)))
+///     .with_more_data(Some(more));
+/// Ok(change.for_session(agreed).serialize(out)?)
+/// ```
 #[derive(Clone, Debug, PartialEq, Eq)]
 pub struct ComChangeUserMoreData<'a> {
     pub(crate) character_set: RawInt<LeU16>,
@@ -57,7 +67,7 @@ impl<'a> ComChangeUserMoreData<'a> {
         }
     }
 
-    /// The same with this plugin, or without one.
+    /// Sets or removes the authentication plugin.
     pub fn with_auth_plugin(mut self, auth_plugin: Option<AuthPlugin<'a>>) -> Self
         ensures value { result ≡ spec.with_auth_plugin auth_plugin.entry self.entry }
     {
@@ -65,7 +75,7 @@ impl<'a> ComChangeUserMoreData<'a> {
         self
     }
 
-    /// The same with the attributes of these texts, or without attributes.
+    /// Sets the connection attributes from texts, or removes them.
     pub fn with_connect_attributes(
         mut self,
         alloc: Global,
@@ -79,7 +89,7 @@ impl<'a> ComChangeUserMoreData<'a> {
         Ok(self)
     }
 
-    /// The same, written by the flags that both sides agreed on: the plugin and the attributes exactly if these ask for them.
+    /// Returns the form to send in a session: it has the plugin and the attributes exactly if the agreed flags ask for them.
     #[inline]
     pub fn for_session(&self, capabilities: CapabilityFlags) -> ForSession<'_, Self>
         ensures value { result ≡ (capabilities, self.now) }
@@ -87,7 +97,7 @@ impl<'a> ComChangeUserMoreData<'a> {
         ForSession::new(self, capabilities)
     }
 
-    /// The same, on memory of its own.
+    /// Copies all fields, so that they borrow nothing.
     pub fn into_owned(self, alloc: Global) -> Result<ComChangeUserMoreData<'static>, AllocError>
         ensures value { IfOk result (λ owned. owned ≡ self.entry) }
         // Attributes and the name of a plugin that has no variant of its own alone take memory.
@@ -130,7 +140,7 @@ impl<'a> ComChangeUserMoreData<'a> {
         let _character_set = self.character_set.0;
     }
 
-    /// Each key stands once among the attributes.
+    /// Each key occurs once among the attributes.
     pub(crate) fn keys_stand_once(&self)
         ensures value { (pairs : List Attribute) → spec.connect_attributes self.now ≡ Some pairs → merged pairs ≡ pairs }
     {
@@ -161,7 +171,7 @@ impl<'de> MyDeserialize<'de> for ComChangeUserMoreData<'de> {
 
     ghost takes_memory = { λ capabilities bytes. counts_any ((in_more_data capabilities).reads bytes) };
 
-    /// What both sides can do.
+    /// The capabilities of both sides.
     type Ctx = CapabilityFlags;
 
     ghost form = { spec.more_data.form };

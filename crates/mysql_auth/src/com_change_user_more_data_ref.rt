@@ -1,4 +1,4 @@
-//! What a change of a session's user tells besides, where it lies.
+//! Borrowed optional fields of a change of user.
 #![tactic(auto, using(mysql_wire::proofs::Packets::packets))]
 
 ghost use Rattle.std.specs.Prelude.{false, [], ◌≡◌, IfOk, IsOk, option_map, ⊤};
@@ -21,11 +21,15 @@ use std::fmt;
 use std::fmt::Debug;
 use std::marker::Model;
 
-/// What a change of a session's user tells besides, whose texts stay in the packet: a [`ComChangeUserMoreData`] for as
-/// long as the packet lives, without memory.
+/// The optional fields of a change of user: a [`ComChangeUserMoreData`] that borrows from the packet, and takes no memory.
 ///
-/// It is read of the same bytes with the same faults but for `Memory`. In a clause it is that data, with its attributes as
+/// It is read from the same bytes with the same faults, except `Memory`. In a clause it is that data, with its attributes as
 /// they were sent.
+///
+/// ```
+/// let change: ComChangeUserRef<'_> = ParseBuf::new(alloc, payload).parse(agreed)?;
+/// Ok((change.user(), change.database()))
+/// ```
 #[derive(Drop)]
 pub struct ComChangeUserMoreDataRef<'a> {
     character_set: RawInt<LeU16>,
@@ -76,7 +80,8 @@ impl<'a> ComChangeUserMoreDataRef<'a> {
         iter_given(&self.connect_attributes)
     }
 
-    /// The data in its other form, which borrows the texts still. It takes memory for the attributes alone, each key once.
+    /// Converts to a [`ComChangeUserMoreData`], which still borrows the texts. Only the attributes take memory, with each key
+    /// once.
     pub fn to_more_data(&self, alloc: Global) -> Result<ComChangeUserMoreData<'a>, AllocError>
         ensures value { IfOk result (λ more. more ≡ spec.more_with_each_key_once self.now) }
         // Without attributes it takes no memory.
@@ -85,7 +90,7 @@ impl<'a> ComChangeUserMoreDataRef<'a> {
         Ok(self.with_attributes(attributes_given(&self.connect_attributes, alloc)?))
     }
 
-    /// The data with these attributes in place of its own, in its other form.
+    /// Converts to a [`ComChangeUserMoreData`] with these attributes.
     #[inline]
     pub(crate) fn with_attributes(
         &self,
@@ -131,7 +136,7 @@ impl Clone for ComChangeUserMoreDataRef<'_> {
     }
 }
 
-/// The attributes are shown as they were sent.
+/// Prints the attributes as they were sent.
 impl Debug for ComChangeUserMoreDataRef<'_> {
     fn fmt<W: fmt::Write>(&self, f: &mut fmt::Formatter<W>) -> fmt::Result {
         f.debug_struct("ComChangeUserMoreDataRef")
@@ -170,13 +175,13 @@ fn read_attributes<'s, 'a>(
     Ok(Some(ConnectAttributesRef::read(buf)?))
 }
 
-/// As a [`ComChangeUserMoreData`], but for `Memory`: none is taken.
+/// Read like a [`ComChangeUserMoreData`], but never `Memory`.
 impl<'de> MyDeserialize<'de> for ComChangeUserMoreDataRef<'de> {
     const SIZE: Option<usize> = None;
 
     type Size = AnyWidth;
 
-    /// What both sides can do.
+    /// The capabilities of both sides.
     type Ctx = CapabilityFlags;
 
     ghost form = { spec.more_data_as_sent.form };

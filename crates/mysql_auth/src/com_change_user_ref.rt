@@ -1,4 +1,4 @@
-//! The change of a session's user, where it lies.
+//! Borrowed changes of user.
 #![tactic(auto, using(mysql_wire::proofs::Packets::packets))]
 
 ghost use Rattle.std.specs.Prelude.{false, [], ◌≡◌, IfOk, IfSome, IsOk, option_map, ⊤};
@@ -26,8 +26,13 @@ use std::marker::Model;
 /// The change of a session's user, whose texts stay in the packet: a [`ComChangeUser`] for as long as the packet lives,
 /// without memory.
 ///
-/// It is read of the same bytes with the same faults but for `Memory`. In a clause it is that change, with its attributes as
+/// It is read from the same bytes with the same faults, except `Memory`. In a clause it is that change, with its attributes as
 /// they were sent.
+///
+/// ```
+/// let change: ComChangeUserRef<'_> = ParseBuf::new(alloc, payload).parse(agreed)?;
+/// Ok((change.user(), change.database()))
+/// ```
 #[derive(Drop)]
 pub struct ComChangeUserRef<'a> {
     user: ParseBuf<'a>,
@@ -51,7 +56,7 @@ impl<'a> ComChangeUserRef<'a> {
         bytes_of(&self.user)
     }
 
-    /// What the client answers to the scramble.
+    /// The authentication response.
     #[inline]
     pub fn auth_plugin_data(&self) -> &'a [u8]
         ensures value { result.now ≡ spec.auth_plugin_data self.now }
@@ -75,7 +80,7 @@ impl<'a> ComChangeUserRef<'a> {
         self.more_data.as_ref()
     }
 
-    /// The change with this in place of its own more data, in its other form.
+    /// Converts to a [`ComChangeUser`] with these optional fields.
     #[inline]
     pub(crate) fn with_more_data(
         &self,
@@ -92,7 +97,7 @@ impl<'a> ComChangeUserRef<'a> {
         }
     }
 
-    /// The change in its other form, which borrows the texts still. It takes memory for the attributes alone, each key once.
+    /// Converts to a [`ComChangeUser`], which still borrows the texts. Only the attributes take memory, with each key once.
     pub fn to_change(&self, alloc: Global) -> Result<ComChangeUser<'a>, AllocError>
         ensures value { IfOk result (λ change. change ≡ spec.with_each_key_once self.now) }
         // Without attributes it takes no memory.
@@ -143,7 +148,7 @@ impl Clone for ComChangeUserRef<'_> {
     }
 }
 
-/// The attributes are shown as they were sent.
+/// Prints the attributes as they were sent.
 impl Debug for ComChangeUserRef<'_> {
     fn fmt<W: fmt::Write>(&self, f: &mut fmt::Formatter<W>) -> fmt::Result {
         f.debug_struct("ComChangeUserRef")
@@ -169,13 +174,13 @@ fn read_more_data<'s, 'a>(
     Ok(Some(buf.parse(capabilities)?))
 }
 
-/// As a [`ComChangeUser`], but for `Memory`: none is taken.
+/// Read like a [`ComChangeUser`], but never `Memory`.
 impl<'de> MyDeserialize<'de> for ComChangeUserRef<'de> {
     const SIZE: Option<usize> = None;
 
     type Size = AnyWidth;
 
-    /// What both sides can do.
+    /// The capabilities of both sides.
     type Ctx = CapabilityFlags;
 
     ghost form = { spec.change_user_as_sent.form };

@@ -1,4 +1,4 @@
-//! One attribute of a connection, where it lies.
+//! Borrowed connection attributes, one by one.
 #![tactic(auto, using(mysql_wire::proofs::Packets::packets), unfolding(crate::specs::Attributes::attribute))]
 
 ghost use Rattle.std.specs.Prelude.{◌≡◌, refl, ⊤};
@@ -14,6 +14,18 @@ use std::marker::Model;
 /// A key with its value, which stay in the packet: each a length-encoded string.
 ///
 /// In a clause it is the pair of their bytes.
+///
+/// ```
+/// let login: HandshakeResponseRef<'_> = ParseBuf::new(alloc, payload).parse(())?;
+/// let Some(mut attributes) = login.connect_attributes() else {
+///     return Ok(None);
+/// };
+/// Ok(
+///     attributes
+///         .find(|attribute| attribute.key() == key)
+///         .map(|attribute| attribute.value()),
+/// )
+/// ```
 #[derive(Drop)]
 pub struct ConnectAttributeRef<'a> {
     key: &'a [u8],

@@ -1,4 +1,4 @@
-//! Attributes of a connection, where they lie.
+//! Borrowed lists of connection attributes.
 #![tactic(auto, using(crate::proofs::PairsPassed::pairs_passed))]
 
 ghost use Rattle.std.specs.Prelude.{false, [], ◌≡◌, List, IfErr, IfOk, IsOk, OnOk, option_map, length, ⊤};
@@ -19,11 +19,23 @@ use std::fmt;
 use std::fmt::Debug;
 use std::marker::Model;
 
-/// What a client tells of itself, where it lies: keys with their values, one after another as they were sent, without
-/// memory.
+/// A client's connection attributes, which borrow from the packet: an iterator over the keys and values in the order in which
+/// they were sent, without memory.
 ///
-/// A key may come again: its last value counts, at its first place. All pairs were read before the first one is given, so
-/// none is refused. In a clause it is the list of the pairs that are left.
+/// A key may be repeated: its last value counts, at its first place. All pairs are read when the iterator is created, so none
+/// of them fails later. In a clause it is the list of the remaining pairs.
+///
+/// ```
+/// let login: HandshakeResponseRef<'_> = ParseBuf::new(alloc, payload).parse(())?;
+/// let Some(mut attributes) = login.connect_attributes() else {
+///     return Ok(None);
+/// };
+/// Ok(
+///     attributes
+///         .find(|attribute| attribute.key() == key)
+///         .map(|attribute| attribute.value()),
+/// )
+/// ```
 #[derive(Drop)]
 pub struct ConnectAttributesRef<'a> {
     pairs: ParseBuf<'a>,
@@ -73,7 +85,7 @@ impl<'a> ConnectAttributesRef<'a> {
         Ok(ConnectAttributesRef { pairs })
     }
 
-    /// The same pairs once more.
+    /// Iterates over the pairs from the first one on.
     #[inline]
     pub fn iter(&self) -> ConnectAttributesRef<'a>
         ensures value { result ≡ self.now }
@@ -93,7 +105,7 @@ impl<'a> ConnectAttributesRef<'a> {
         pairs.eat_all()
     }
 
-    /// The attributes in their other form, which borrows the texts still. It takes memory for the list of them.
+    /// Converts to a list with each key once, which still borrows the texts. It takes memory for the list.
     #[tactic(auto, using(crate::proofs::PairsPassed::pairs_merged))]
     pub(crate) fn to_attributes(&self, alloc: Global) -> Result<Attributes<'a>, AllocError>
         ensures value { IfOk result (λ attributes. attributes ≡ spec.merged self.now) }
@@ -107,7 +119,7 @@ impl<'a> ConnectAttributesRef<'a> {
     }
 }
 
-/// The same pairs once more, where attributes are given.
+/// Iterates over the pairs if there are attributes.
 #[inline]
 pub(crate) fn iter_given<'a>(
     attributes: &Option<ConnectAttributesRef<'a>>,
@@ -120,7 +132,7 @@ pub(crate) fn iter_given<'a>(
     }
 }
 
-/// The attributes in their other form, where they are given. Without them it takes no memory.
+/// Converts optional attributes. Without attributes it takes no memory.
 #[inline]
 pub(crate) fn attributes_given<'a>(
     attributes: &Option<ConnectAttributesRef<'a>>,
@@ -163,7 +175,7 @@ impl Clone for ConnectAttributesRef<'_> {
     }
 }
 
-/// The same pairs in the same order, as they were sent.
+/// Compares the pairs as they were sent, in order.
 impl PartialEq for ConnectAttributesRef<'_> {
     ghost use Rattle.std.specs.Cmp.Lexicographic.{pointwise, lists_per};
 

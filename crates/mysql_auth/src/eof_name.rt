@@ -19,7 +19,8 @@ pub(crate) fn without_last_zero(bytes: &[u8]) -> &[u8]
     }
 }
 
-/// All the bytes that are left, without one zero at their end.
+/// All the bytes that are left, without one zero at their end. MySQL before 5.5.10 and 5.6.2 sent the plugin's name in a
+/// handshake without its zero (bug 59453).
 ///
 /// A content is written up to its first zero, and then a zero.
 #[derive(Clone, Copy, Debug)]

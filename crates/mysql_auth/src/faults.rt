@@ -1,4 +1,4 @@
-//! What a reader answers where a packet begins with another byte than its own.
+//! Errors for packets whose first byte is that of another packet.
 #![tactic(auto)]
 
 use mysql_wire::ConstFault;
@@ -49,7 +49,7 @@ impl ConstFault for InvalidPublicKeyRequest {
     const MESSAGE: &'static str = "Invalid PublicKeyRequest header";
 }
 
-/// The first byte of an answer with a public key is not `01`.
+/// The first byte of a public key response is not `01`.
 #[derive(Clone, Copy, Debug, Default, PartialEq, Eq, Hash, Error)]
 #[error("Invalid PublicKeyResponse header")]
 pub struct InvalidPublicKeyResponse;

@@ -21,10 +21,21 @@ use std::marker::Model;
 /// A [`ComChangeUser`] or [`ComChangeUserMoreData`] that is written by the flags that both sides agreed on: the plugin's name
 /// exactly under `CLIENT_PLUGIN_AUTH`, and the attributes exactly under `CLIENT_CONNECT_ATTRS`.
 ///
-/// If the flags ask for a plugin or attributes that aren't given, an empty name or an empty list is written. What was read
-/// under the same flags is written as it was, except that each key of its attributes is written once. It takes no memory.
+/// If the flags ask for a plugin or attributes that aren't given, an empty name or an empty list is written. A packet that was
+/// read under the same flags is written back unchanged, except that each key of its attributes is written once. It takes no
+/// memory.
 ///
 /// In a clause it is the pair of the flags and the packet.
+///
+/// ```
+/// let more = ComChangeUserMoreData::new(45).with_auth_plugin(Some(
+///     AuthPlugin::CachingSha2Password,
+/// ));
+/// let change = ComChangeUser::new()
+///     .with_user(Some(CowSlice::Borrowed(user)))
+///     .with_more_data(Some(more));
+/// Ok(change.for_session(agreed).serialize(out)?)
+/// ```
 #[derive(Drop)]
 pub struct ForSession<'b, P> {
     packet: &'b P,

@@ -23,7 +23,7 @@ use std::alloc::{AllocError, Global};
 use std::borrow::{CowSlice, CowStr};
 use std::cmp::{max, min};
 
-/// How many bytes a plugin is given as its scramble.
+/// The length of a plugin's scramble in bytes.
 const NONCE_LEN: usize = 20;
 
 /// The initial handshake (`Protocol::HandshakeV10`).
@@ -48,6 +48,11 @@ const NONCE_LEN: usize = 20;
 /// A server that refuses a connection sends an error in place of the handshake, as `ff 1004 "Too many connections"`. No
 /// flags are agreed yet, and no server puts an SQL state into it: an `ErrPacket` reads it with `CapabilityFlags::empty()`
 /// as its context, and refuses it under `CLIENT_PROTOCOL_41`.
+///
+/// ```
+/// let greeting: HandshakePacket<'_> = ParseBuf::new(connection.alloc, payload).parse(())?;
+/// let scramble = greeting.nonce(connection.alloc)?;
+/// ```
 #[derive(Clone, Debug, PartialEq, Eq, Hash)]
 pub struct HandshakePacket<'a> {
     pub(crate) head: HandshakeHead<'a>,
@@ -122,7 +127,7 @@ impl<'a> HandshakePacket<'a> {
         }
     }
 
-    /// The same handshake with these capabilities of MariaDB's own.
+    /// Sets MariaDB's own capabilities.
     pub fn with_mariadb_ext_capabilities(self, flags: MariadbCapabilities) -> Self
         ensures value { result ≡ spec.with_mariadb flags self.entry }
     {
@@ -154,7 +159,7 @@ impl<'a> HandshakePacket<'a> {
         self.head.server_version.as_bytes()
     }
 
-    /// The server's version as text, with U+FFFD for what is not UTF-8. UTF-8 is borrowed.
+    /// The server's version as text, with U+FFFD for invalid UTF-8. Valid UTF-8 is borrowed.
     pub fn server_version_str(&self, alloc: Global) -> Result<CowStr<'_>, AllocError>
         ensures text { IfOk result (λ text. cow_str_bytes text ≡ lossy_text (spec.server_version self.now)) }
         ensures utf8 { BorrowsUtf8 (spec.server_version self.now) result }
@@ -164,7 +169,7 @@ impl<'a> HandshakePacket<'a> {
 
     /// The server's version: the first three numbers with dots between them that the text begins with.
     ///
-    /// The first two have one or two digits; the third has the first one to three digits that stand there.
+    /// The first two numbers have one or two digits; the third has its first one to three digits.
     pub fn server_version_parsed(&self) -> Option<(u16, u16, u16)>
         ensures some { IfSome result (HasVersion (spec.server_version self.now)) }
         ensures none { IfNone result ((v : ℕ × ℕ × ℕ) → HasVersion (spec.server_version self.now) v → ⊥) }
@@ -172,8 +177,8 @@ impl<'a> HandshakePacket<'a> {
         server_version(self.server_version_ref())
     }
 
-    /// The version of MariaDB: three such numbers with `-MariaDB` right after them, after a `5.5.5-` at the front of
-    /// the text or else at the front itself.
+    /// MariaDB's version: three such numbers directly followed by `-MariaDB`, at the start of the text or after a `5.5.5-`
+    /// there.
     pub fn maria_db_server_version_parsed(&self) -> Option<(u16, u16, u16)>
         ensures some { IfSome result (IsMariadbVersion (spec.server_version self.now)) }
         ensures none { IfNone result ((v : ℕ × ℕ × ℕ) → IsMariadbVersion (spec.server_version self.now) v → ⊥) }
@@ -210,14 +215,14 @@ impl<'a> HandshakePacket<'a> {
         self.head.status_flags.0
     }
 
-    /// What a MariaDB server can do besides.
+    /// The extended capabilities of a MariaDB server.
     pub fn mariadb_ext_capabilities(&self) -> MariadbCapabilities
         ensures value { result ≡ spec.mariadb_ext_capabilities self.now }
     {
         self.head.mariadb_capabilities.0
     }
 
-    /// The same handshake, on memory of its own. Empty texts take none.
+    /// Copies all texts, so that the handshake borrows nothing. Empty texts need no allocation.
     pub fn into_owned(self, alloc: Global) -> Result<HandshakePacket<'static>, AllocError>
         ensures value { IfOk result (λ owned. owned ≡ self.entry) }
         ensures no_memory { spec.HasNoTexts self.entry → IsOk result }
@@ -242,7 +247,7 @@ impl<'a> HandshakePacket<'a> {
         })
     }
 
-    /// What the server can do.
+    /// The server's capabilities.
     pub fn capabilities(&self) -> CapabilityFlags
         ensures value { result.0 ≡ spec.capabilities self.now }
         ensures halves { spec.HalvesFit self.now }
@@ -270,7 +275,7 @@ impl<'a> HandshakePacket<'a> {
         }
     }
 
-    /// The plugin's name as text, where one was sent, with U+FFFD for what is not UTF-8. UTF-8 is borrowed.
+    /// The plugin's name as text, where one was sent, with U+FFFD for invalid UTF-8. Valid UTF-8 is borrowed.
     pub fn auth_plugin_name_str(&self, alloc: Global) -> Result<Option<CowStr<'_>>, AllocError>
         ensures text { IfOk result (λ text. option_map cow_str_bytes text ≡ option_map lossy_text (spec.auth_plugin_name self.now)) }
         ensures utf8 { OptionBorrowsUtf8 (spec.auth_plugin_name self.now) result }
@@ -281,7 +286,7 @@ impl<'a> HandshakePacket<'a> {
         }
     }
 
-    /// The plugin, where one was named. One zero at the end of the name is taken off.
+    /// The plugin, if one was named. One zero at the end of the name is dropped.
     pub fn auth_plugin(&self) -> Option<AuthPlugin<'_>>
         ensures value { result ≡ spec.auth_plugin self.now }
     {

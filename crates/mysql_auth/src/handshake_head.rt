@@ -1,4 +1,4 @@
-//! What every handshake has.
+//! The fields that every handshake has.
 
 ghost use Rattle.std.specs.Prelude.{[], ◌≡◌, IfOk, IsOk};
 ghost use Rattle.mysql_auth.specs.Handshake as spec;
@@ -11,8 +11,9 @@ use mysql_wire::{
 use std::alloc::{AllocError, Global};
 use std::cmp::max;
 
-/// How many bytes the second scramble of a handshake has, for the length of both that stands in the handshake: what is
-/// left after the first 8, and at least 13.
+/// The length of the second scramble, from the length of both in the handshake: without the first 8 bytes, and at least 13.
+/// Servers send `SCRAMBLE_LENGTH` bytes and a zero after them (`send_server_handshake_packet` in
+/// `sql/auth/sql_authentication.cc`).
 #[inline]
 pub(crate) fn scramble_length(data_length: u8) -> usize
     ensures value { result ≡ spec.scramble_length data_length }
@@ -20,9 +21,9 @@ pub(crate) fn scramble_length(data_length: u8) -> usize
     max(13, usize::from(data_length).saturating_sub(8))
 }
 
-/// What every handshake has: the versions, and 31 bytes.
+/// The fields that every handshake has: the versions, and 31 bytes.
 ///
-/// The length of both scrambles, which stands among these, isn't kept: the second scramble tells it.
+/// The length of both scrambles, which is among these bytes, isn't kept: it follows from the second scramble.
 #[derive(Debug, PartialEq, Eq, Hash, Drop)]
 pub(crate) struct HandshakeHead<'a> {
     pub(crate) protocol_version: RawInt<u8>,
@@ -39,7 +40,7 @@ pub(crate) struct HandshakeHead<'a> {
 }
 
 impl<'a> HandshakeHead<'a> {
-    /// What the server can do, from both halves.
+    /// The server's capabilities, from both halves.
     pub(crate) fn capabilities(&self) -> CapabilityFlags
         ensures value { result.0 ≡ spec.capabilities_of self.now }
         ensures halves { spec.HalvesFitIn self.now }
@@ -49,7 +50,7 @@ impl<'a> HandshakeHead<'a> {
         CapabilityFlags::from_bits_retain(low + high * 0x1_0000)
     }
 
-    /// The same, on memory of its own.
+    /// Copies all texts, so that the head borrows nothing.
     pub(crate) fn into_owned(self, alloc: Global) -> Result<HandshakeHead<'static>, AllocError>
         ensures value { IfOk result (λ owned. owned ≡ self.entry) }
         ensures no_memory { self.entry.server_version ≡ [] → IsOk result }

@@ -1,4 +1,4 @@
-//! What every handshake has, where it lies.
+//! The borrowed fields that every handshake has.
 #![tactic(auto, using(mysql_wire::proofs::Packets::packets), unfolding(crate::specs::Handshake::handshake_head, crate::specs::Handshake::handshake_block))]
 
 ghost use Rattle.std.specs.Prelude.{false, ◌+◌, ◌≡◌, ◌≤◌, length, Ok, ℕ, List};
@@ -16,7 +16,7 @@ use mysql_wire::{
 use std::borrow::CowSlice;
 use std::marker::Model;
 
-/// The first scramble, where it lies. In a clause it is its eight bytes.
+/// The first scramble, which borrows from the packet. In a clause it is its eight bytes.
 #[derive(Drop)]
 pub(crate) struct FirstScramble<'a> {
     pub(crate) bytes: &'a [u8; 8],
@@ -43,7 +43,7 @@ impl<'a> FirstScramble<'a> {
     }
 }
 
-/// What every handshake has, where it lies: the versions, and 31 bytes. In a clause it is a
+/// The fields that every handshake has: the versions, and 31 bytes, which borrow from the packet. In a clause it is a
 /// [`HandshakeHead`].
 #[derive(Drop)]
 pub(crate) struct HandshakeHeadRef<'a> {
@@ -87,7 +87,7 @@ pub(crate) fn bytes_of<'a>(place: &ParseBuf<'a>) -> &'a [u8]
     rest.eat_all()
 }
 
-/// The same place once more, where there is one.
+/// Copies an optional position in the packet.
 #[inline]
 pub(crate) fn place_given<'a>(place: &Option<ParseBuf<'a>>) -> Option<ParseBuf<'a>>
     ensures value { result ≡ place.now }
@@ -107,7 +107,7 @@ pub(crate) fn shown(bytes: &[u8]) -> RawBytes<'_, EofBytes>
 }
 
 impl<'a> HandshakeHeadRef<'a> {
-    /// What the server can do, from both halves.
+    /// The server's capabilities, from both halves.
     #[inline]
     pub(crate) fn capabilities(&self) -> CapabilityFlags
         ensures value { result.0 ≡ spec.capabilities_of self.now }
@@ -118,7 +118,7 @@ impl<'a> HandshakeHeadRef<'a> {
         CapabilityFlags::from_bits_retain(low + high * 0x1_0000)
     }
 
-    /// The same head once more.
+    /// Copies the head; both borrow from the packet.
     pub(crate) fn again(&self) -> HandshakeHeadRef<'a>
         ensures value { result ≡ self.now }
     {
@@ -139,7 +139,7 @@ impl<'a> HandshakeHeadRef<'a> {
         }
     }
 
-    /// The head in its other form, which borrows the version still.
+    /// Converts to a [`HandshakeHead`], which still borrows the version.
     pub(crate) fn to_head(&self) -> HandshakeHead<'a>
         ensures value { result ≡ self.now }
     {

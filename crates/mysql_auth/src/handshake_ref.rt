@@ -1,4 +1,4 @@
-//! The initial handshake, where it lies.
+//! Borrowed initial handshakes.
 #![tactic(auto, using(mysql_wire::proofs::Packets::packets), unfolding(crate::specs::Handshake::handshake, crate::specs::Handshake::handshake_head, crate::specs::Handshake::handshake_block))]
 
 ghost use Rattle.std.specs.Prelude.{◌≡◌, length, option_map, ⊤};
@@ -25,6 +25,12 @@ use std::marker::Model;
 /// lives.
 ///
 /// It is read of the same bytes with the same faults, and in a clause it is that handshake.
+///
+/// ```
+/// let greeting: HandshakePacketRef<'_> = ParseBuf::new(alloc, payload).parse(())?;
+/// let capabilities = greeting.capabilities() & supported_capabilities();
+/// Ok((greeting.scramble_1(), capabilities))
+/// ```
 #[derive(Drop)]
 pub struct HandshakePacketRef<'a> {
     head: HandshakeHeadRef<'a>,
@@ -73,7 +79,7 @@ impl<'a> HandshakePacketRef<'a> {
         scramble
     }
 
-    /// What the server can do.
+    /// The server's capabilities.
     #[inline]
     pub fn capabilities(&self) -> CapabilityFlags
         ensures value { result.0 ≡ spec.capabilities self.now }
@@ -98,7 +104,7 @@ impl<'a> HandshakePacketRef<'a> {
         self.head.status_flags.0
     }
 
-    /// What a MariaDB server can do besides.
+    /// The extended capabilities of a MariaDB server.
     #[inline]
     pub fn mariadb_ext_capabilities(&self) -> MariadbCapabilities
         ensures value { result ≡ spec.mariadb_ext_capabilities self.now }
@@ -128,7 +134,7 @@ impl<'a> HandshakePacketRef<'a> {
         }
     }
 
-    /// The plugin, where one was named. One zero at the end of the name is taken off.
+    /// The plugin, if one was named. One zero at the end of the name is dropped.
     pub fn auth_plugin(&self) -> Option<AuthPlugin<'a>>
         ensures value { result ≡ spec.auth_plugin self.now }
     {
@@ -138,7 +144,7 @@ impl<'a> HandshakePacketRef<'a> {
         }
     }
 
-    /// The handshake in its other form, which borrows the texts still. It takes no memory.
+    /// Converts to a [`HandshakePacket`], which still borrows the texts. It takes no memory.
     pub fn to_packet(&self) -> HandshakePacket<'a>
         ensures value { result ≡ self.now }
     {

@@ -1,4 +1,4 @@
-//! The answer to a handshake.
+//! Handshake responses.
 #![tactic(auto, using(mysql_wire::proofs::Packets::packets), unfolding(crate::specs::HandshakeResponse::handshake_response))]
 
 ghost use Rattle.std.specs.Prelude.{[], ◌≡◌, ◌≢◌, ◌<◌, ℕ, List, Ok, Option, Some, None, Bool, IfOk, IsOk, map, option_map, is_some};
@@ -33,9 +33,9 @@ use mysql_wire::{
 use std::alloc::{AllocError, Global};
 use std::borrow::CowSlice;
 
-/// A client's answer to a handshake (`Protocol::HandshakeResponse41`).
+/// A client's response to a handshake (`Protocol::HandshakeResponse41`).
 ///
-/// The first 32 bytes are those of an [`SslRequest`]. After them stand
+/// The first 32 bytes are those of an [`SslRequest`]. They are followed by
 ///
 /// | Field | In the bytes |
 /// |---|---|
@@ -80,7 +80,7 @@ type WrittenScramble<'a> = Either<
     Either<RawBytes<'a, U8Bytes>, RawBytes<'a, NullBytes>>,
 >;
 
-/// The flags, of which each of the three is set exactly if its option is given.
+/// Returns the flags, of which each of the three is set exactly if its option is given.
 #[tactic(auto)]
 fn with_options(
     mut capabilities: CapabilityFlags,
@@ -99,7 +99,7 @@ fn with_options(
     capabilities
 }
 
-/// The collation that a server of this version knows: `utf8mb4_general_ci` from 5.5.3 on, else `utf8mb3_general_ci`.
+/// The collation that a server of this version supports: `utf8mb4_general_ci` from 5.5.3 on, otherwise `utf8mb3_general_ci`.
 fn collation_for(server_version: (u16, u16, u16)) -> u8
     ensures value { result ≡ spec.collation_for server_version }
 {
@@ -114,9 +114,9 @@ fn collation_for(server_version: (u16, u16, u16)) -> u8
 impl<'a> HandshakeResponse<'a> {
     /// A response of these, without capabilities of MariaDB's own.
     ///
-    /// The flags that say whether a database, a plugin and attributes are there are set exactly if these are given; the
-    /// other flags are as handed in. No scramble is an empty one, and no user too. The collation is the one that a
-    /// server of that version knows: 45 from 5.5.3 on, else 33.
+    /// The flags for a database, a plugin and attributes are set exactly if these are given; the other flags are those of
+    /// `capabilities`. A missing scramble or user is empty. The collation is one that a server of that version supports: 45
+    /// from 5.5.3 on, otherwise 33.
     ///
     /// ```
     /// let response = HandshakeResponse::new(
@@ -175,7 +175,7 @@ impl<'a> HandshakeResponse<'a> {
         })
     }
 
-    /// The same response with these capabilities of MariaDB's own.
+    /// Sets MariaDB's own capabilities.
     pub fn with_mariadb_ext_capabilities(mut self, flags: MariadbCapabilities) -> Self
         ensures value { result ≡ spec.with_mariadb flags self.entry }
     {
@@ -183,7 +183,7 @@ impl<'a> HandshakeResponse<'a> {
         self
     }
 
-    /// The same response with this collation, in place of the one that a server of the version knows.
+    /// Sets the collation, in place of the default for the server's version.
     pub fn with_collation(mut self, collation: u8) -> Self
         ensures value { result ≡ spec.with_collation collation self.entry }
     {
@@ -191,7 +191,7 @@ impl<'a> HandshakeResponse<'a> {
         self
     }
 
-    /// The same response with this level of compression by zstd, from 1 to 22, or with none.
+    /// Sets the zstd compression level, 1 to 22, or removes it.
     ///
     /// Servers read it where `CLIENT_ZSTD_COMPRESSION_ALGORITHM` is among the capabilities
     /// (`parse_client_handshake_packet` in MySQL's `sql/auth/sql_authentication.cc`).
@@ -205,7 +205,7 @@ impl<'a> HandshakeResponse<'a> {
         self
     }
 
-    /// What the client can do.
+    /// The client's capabilities.
     #[inline]
     pub fn capabilities(&self) -> CapabilityFlags
         ensures value { result ≡ spec.capabilities self.now }
@@ -213,7 +213,7 @@ impl<'a> HandshakeResponse<'a> {
         self.head.capabilities()
     }
 
-    /// What a MariaDB client can do besides.
+    /// The extended capabilities of a MariaDB client.
     #[inline]
     pub fn mariadb_ext_capabilities(&self) -> MariadbCapabilities
         ensures value { result ≡ spec.mariadb_ext_capabilities self.now }
@@ -229,12 +229,12 @@ impl<'a> HandshakeResponse<'a> {
         self.head.character_set()
     }
 
-    /// The request for TLS that goes before this response: its flags and `CLIENT_SSL`, its packet size, its collation
-    /// and its capabilities of MariaDB's own.
+    /// Returns the request for TLS that precedes this response: its flags with `CLIENT_SSL`, its packet size, its collation and
+    /// its MariaDB capabilities.
     ///
-    /// MySQL and MariaDB read the response by the flags of the request before it, and not by the response's own.
-    /// [`new`](HandshakeResponse::new) sets some flags by what is given, so a request that is made of other flags lets
-    /// a server take one part of the response for another, as the database's name for the plugin's.
+    /// MySQL and MariaDB read the response by the flags of the request before it, instead of the response's own.
+    /// [`new`](HandshakeResponse::new) sets some flags by what is given, so after a request with other flags a server may read
+    /// one field of the response as another, for example the database's name as the plugin's.
     pub fn ssl_request(&self) -> SslRequest
         ensures capabilities { (ssl.capabilities result).0 ≡ ssl.with_client_ssl (spec.capabilities self.now).0 }
         ensures max_packet_size { ssl.max_packet_size result ≡ spec.max_packet_size self.now }
@@ -244,7 +244,7 @@ impl<'a> HandshakeResponse<'a> {
         self.head.for_tls()
     }
 
-    /// What the client answers to the scramble.
+    /// The authentication response.
     #[inline]
     pub fn scramble_buf(&self) -> &[u8]
         ensures value { result.now ≡ spec.scramble_buf self.now }
@@ -270,7 +270,7 @@ impl<'a> HandshakeResponse<'a> {
         }
     }
 
-    /// The plugin that made the answer, where one was named.
+    /// The plugin that computed the response, if one was named.
     #[inline]
     pub fn auth_plugin(&self) -> Option<&AuthPlugin<'a>>
         ensures value { option_map (λ s. s.now) result ≡ spec.auth_plugin self.now }
@@ -278,9 +278,9 @@ impl<'a> HandshakeResponse<'a> {
         self.auth_plugin.as_ref()
     }
 
-    /// The attributes in their order, where they were sent, as text with U+FFFD for what is not UTF-8.
+    /// The attributes in their order, if they were sent, as text with U+FFFD for invalid UTF-8.
     ///
-    /// Where two keys become one text, it keeps the first place and takes the later value.
+    /// If two keys become the same text, it keeps the first place and takes the later value.
     pub fn connect_attributes(
         &self,
         alloc: Global,
@@ -308,11 +308,11 @@ impl<'a> HandshakeResponse<'a> {
         }
     }
 
-    /// What is written of it before its attributes, without its level of compression.
-    pub fn before_attributes(&self) -> ResponseBeforeAttributes<'_, 'a>
+    /// The fields before the attributes, without the compression level.
+    pub fn before_attributes(&self) -> HandshakeResponseHead<'_, 'a>
         ensures { result.0.now ≡ self.now }
     {
-        ResponseBeforeAttributes(self)
+        HandshakeResponseHead(self)
     }
 
     /// Each number has its width.
@@ -322,7 +322,7 @@ impl<'a> HandshakeResponse<'a> {
         self.head.widths();
     }
 
-    /// Each key stands once among the attributes.
+    /// Each key occurs once among the attributes.
     pub(crate) fn keys_stand_once(&self)
         ensures value { (pairs : List Attribute) → spec.connect_attributes self.now ≡ Some pairs → merged pairs ≡ pairs }
     {
@@ -420,12 +420,12 @@ impl Parts for HandshakeResponse<'_> {
     }
 }
 
-/// What is written of a [`HandshakeResponse`] before its attributes: who writes attributes of its own writes them after it.
+/// The fields of a [`HandshakeResponse`] before its attributes, for callers that write the attributes themselves.
 #[derive(Drop)]
-pub struct ResponseBeforeAttributes<'b, 'a>(&'b HandshakeResponse<'a>);
+pub struct HandshakeResponseHead<'b, 'a>(&'b HandshakeResponse<'a>);
 
 #[tactic(auto, using(mysql_wire::proofs::Packets::packets), unfolding(crate::specs::HandshakeResponse::handshake_response, crate::specs::HandshakeResponse::database, crate::specs::HandshakeResponse::plugin, crate::specs::HandshakeResponse::sent_attributes, crate::specs::HandshakeResponse::sent_zstd_level, crate::specs::PluginName::plugin_null_or_eof))]
-impl Parts for ResponseBeforeAttributes<'_, '_> {
+impl Parts for HandshakeResponseHead<'_, '_> {
     ghost bytes = { λ r. spec.before_attributes r.0.now };
 
     #[inline(always)]

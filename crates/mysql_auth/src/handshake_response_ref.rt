@@ -1,4 +1,4 @@
-//! The answer to a handshake, where it lies.
+//! Borrowed handshake responses.
 #![tactic(auto, using(mysql_wire::proofs::Packets::packets))]
 
 ghost use Rattle.std.specs.Prelude.{false, [], ◌≡◌, IfOk, IsOk, Ok, option_map, ⊤};
@@ -27,11 +27,15 @@ use std::fmt;
 use std::fmt::Debug;
 use std::marker::Model;
 
-/// A client's answer to a handshake, whose texts stay in the packet: a [`HandshakeResponse`] for as long as the packet
-/// lives, without memory.
+/// A client's response to a handshake: a [`HandshakeResponse`] that borrows from the packet, and takes no memory.
 ///
-/// It is read of the same bytes with the same faults but for `Memory`. In a clause it is that response, with its attributes
+/// It is read from the same bytes with the same faults, except `Memory`. In a clause it is that response, with its attributes
 /// as they were sent.
+///
+/// ```
+/// let login: HandshakeResponseRef<'_> = ParseBuf::new(alloc, payload).parse(())?;
+/// Ok((login.user(), login.db_name()))
+/// ```
 #[derive(Drop)]
 pub struct HandshakeResponseRef<'a> {
     pub(crate) head: SslRequest,
@@ -58,7 +62,7 @@ impl<'a> Model for HandshakeResponseRef<'a> {
 }
 
 impl<'a> HandshakeResponseRef<'a> {
-    /// As [`HandshakeResponse::capabilities`].
+    /// Like [`HandshakeResponse::capabilities`].
     #[inline]
     pub fn capabilities(&self) -> CapabilityFlags
         ensures value { result ≡ spec.capabilities self.now }
@@ -74,7 +78,7 @@ impl<'a> HandshakeResponseRef<'a> {
         self.head.max_packet_size()
     }
 
-    /// As [`HandshakeResponse::collation`].
+    /// Like [`HandshakeResponse::collation`].
     #[inline]
     pub fn collation(&self) -> u8
         ensures value { result ≡ spec.collation self.now }
@@ -82,7 +86,7 @@ impl<'a> HandshakeResponseRef<'a> {
         self.head.character_set()
     }
 
-    /// As [`HandshakeResponse::mariadb_ext_capabilities`].
+    /// Like [`HandshakeResponse::mariadb_ext_capabilities`].
     #[inline]
     pub fn mariadb_ext_capabilities(&self) -> MariadbCapabilities
         ensures value { result ≡ spec.mariadb_ext_capabilities self.now }
@@ -90,7 +94,7 @@ impl<'a> HandshakeResponseRef<'a> {
         self.head.mariadb_capabilities()
     }
 
-    /// As [`HandshakeResponse::user`].
+    /// Like [`HandshakeResponse::user`].
     #[inline]
     pub fn user(&self) -> &'a [u8]
         ensures value { result.now ≡ spec.user self.now }
@@ -98,7 +102,7 @@ impl<'a> HandshakeResponseRef<'a> {
         bytes_of(&self.user)
     }
 
-    /// As [`HandshakeResponse::scramble_buf`].
+    /// Like [`HandshakeResponse::scramble_buf`].
     #[inline]
     pub fn scramble_buf(&self) -> &'a [u8]
         ensures value { result.now ≡ spec.scramble_buf self.now }
@@ -106,7 +110,7 @@ impl<'a> HandshakeResponseRef<'a> {
         bytes_of(&self.scramble_buf)
     }
 
-    /// As [`HandshakeResponse::db_name`].
+    /// Like [`HandshakeResponse::db_name`].
     #[inline]
     pub fn db_name(&self) -> Option<&'a [u8]>
         ensures value { option_map (λ s. s.now) result ≡ spec.db_name self.now }
@@ -117,7 +121,7 @@ impl<'a> HandshakeResponseRef<'a> {
         }
     }
 
-    /// The name of the plugin that made the answer, where one was sent.
+    /// The name of the plugin that computed the response, if one was sent.
     #[inline]
     pub fn auth_plugin_name(&self) -> Option<&'a [u8]>
         ensures value { option_map (λ s. plugin_of s.now) result ≡ spec.auth_plugin self.now }
@@ -126,15 +130,15 @@ impl<'a> HandshakeResponseRef<'a> {
         name_given(&self.auth_plugin)
     }
 
-    /// As [`HandshakeResponse::auth_plugin`].
+    /// Like [`HandshakeResponse::auth_plugin`].
     pub fn auth_plugin(&self) -> Option<AuthPlugin<'a>>
         ensures value { result ≡ spec.auth_plugin self.now }
     {
         plugin_given(&self.auth_plugin)
     }
 
-    /// The attributes, where they were sent: each as it was sent, one after another. Where a key comes again, its last value
-    /// counts.
+    /// Iterates over the attributes in the order in which they were sent, if they were sent. If a key is repeated, its last
+    /// value counts.
     #[inline]
     pub fn connect_attributes(&self) -> Option<ConnectAttributesRef<'a>>
         ensures value { result ≡ spec.connect_attributes self.now }
@@ -142,7 +146,7 @@ impl<'a> HandshakeResponseRef<'a> {
         iter_given(&self.connect_attributes)
     }
 
-    /// As [`HandshakeResponse::zstd_level`].
+    /// Like [`HandshakeResponse::zstd_level`].
     #[inline]
     pub fn zstd_level(&self) -> Option<u8>
         ensures value { result ≡ spec.zstd_level self.now }
@@ -163,7 +167,7 @@ impl<'a> HandshakeResponseRef<'a> {
         }
     }
 
-    /// The response with these attributes and this level of compression in place of its own, in its other form.
+    /// Converts to a [`HandshakeResponse`] with these attributes and this compression level.
     #[inline]
     pub(crate) fn with_last(
         &self,
@@ -186,7 +190,7 @@ impl<'a> HandshakeResponseRef<'a> {
         }
     }
 
-    /// The response in its other form, which borrows the texts still. It takes memory for the attributes alone, each key once.
+    /// Converts to a [`HandshakeResponse`], which still borrows the texts. Only the attributes take memory, with each key once.
     pub fn to_response(&self, alloc: Global) -> Result<HandshakeResponse<'a>, AllocError>
         ensures value { IfOk result (λ response. response ≡ spec.with_each_key_once self.now) }
         // Without attributes it takes no memory.
@@ -304,7 +308,7 @@ impl Clone for HandshakeResponseRef<'_> {
     }
 }
 
-/// The attributes are shown as they were sent.
+/// Prints the attributes as they were sent.
 impl Debug for HandshakeResponseRef<'_> {
     fn fmt<W: fmt::Write>(&self, f: &mut fmt::Formatter<W>) -> fmt::Result {
         let db_name = match self.db_name() {
@@ -323,7 +327,7 @@ impl Debug for HandshakeResponseRef<'_> {
     }
 }
 
-/// As a [`HandshakeResponse`], but for `Memory`: none is taken.
+/// Read like a [`HandshakeResponse`], but never `Memory`.
 impl<'de> MyDeserialize<'de> for HandshakeResponseRef<'de> {
     const SIZE: Option<usize> = None;
 

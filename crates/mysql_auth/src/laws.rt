@@ -58,66 +58,65 @@ pub use values::{
     this_handshake_round_trips, this_more_data_round_trips, this_ssl_request_round_trips,
 };
 
-/// What is written of a plugin is read again, where the plugin is that of its name and nothing follows. So is what is
-/// written of a plugin that was read.
+/// A plugin is read back, where the plugin is that of its name and nothing follows. So is what is written of a plugin that was
+/// read.
 pub fn auth_plugin_round_trips()
     ensures spelled { (p : AuthPlugin) → plugin_named (plugin_name p) ≡ p → (auth_plugin.form tt).Spells p (auth_plugin.bytes p) [] }
     ensures read { (p : AuthPlugin) (bytes rest : List ℕ) → (auth_plugin.form tt).Spells p bytes rest → (auth_plugin.form tt).Spells p (auth_plugin.bytes p) [] }
 {}
 
-/// What is written of further data is read again, where nothing follows.
+/// Further data is read back if nothing follows.
 pub fn auth_more_data_round_trips()
     ensures spelled { (p : AuthMoreData) → (auth_more_data.form tt).Spells p (auth_more_data.bytes p) [] }
 {}
 
-/// What is written of a request for a public key is read again, whatever follows.
+/// A request for a public key is read back, whatever bytes follow.
 pub fn public_key_request_round_trips()
     ensures spelled { (p : PublicKeyRequest) (rest : List ℕ) → (public_key_request.form tt).Spells p (public_key_request.bytes p ++ rest) rest }
 {}
 
-/// What is written of a public key is read again, where nothing follows.
+/// A public key is read back if nothing follows.
 pub fn public_key_response_round_trips()
     ensures spelled { (p : PublicKeyResponse) → (public_key_response.form tt).Spells p (public_key_response.bytes p) [] }
 {}
 
-/// What is written of a switch to the oldest plugin is read again, whatever follows.
+/// A switch to the oldest plugin is read back, whatever bytes follow.
 pub fn old_auth_switch_request_round_trips()
     ensures spelled { (p : OldAuthSwitchRequest) (rest : List ℕ) → (old_auth_switch_request.form tt).Spells p (old_auth_switch_request.bytes p ++ rest) rest }
 {}
 
-/// What is written of a switch is read again, where nothing follows and no zero is in the plugin's name.
+/// A switch is read back if nothing follows and no zero is in the plugin's name.
 pub fn auth_switch_request_round_trips()
     ensures spelled { (p : AuthSwitchRequest) → HasNoZero (switch_name p) → (auth_switch_request.form tt).Spells p (auth_switch_request.bytes p) [] }
 {}
 
-/// What is written of a request for the next factor is read again, where nothing follows and no zero is in the plugin's name.
+/// A request for the next factor is read back if nothing follows and no zero is in the plugin's name.
 pub fn auth_next_factor_round_trips()
     ensures spelled { (p : AuthNextFactor) → HasNoZero (factor_name p) → (auth_next_factor.form tt).Spells p (auth_next_factor.bytes p) [] }
 {}
 
-/// What is written of a request for TLS is read again, whatever follows.
+/// A request for TLS is read back, whatever bytes follow.
 pub fn ssl_request_round_trips()
     ensures spelled { (p : SslRequest) (rest : List ℕ) → SslRequestFits p → (ssl_request.form tt).Spells p (ssl_request.bytes p ++ rest) rest }
 {}
 
-/// What is written of a handshake is read again.
+/// A handshake is read back.
 pub fn handshake_round_trips()
     ensures spelled { (p : HandshakePacket) (rest : List ℕ) → HandshakeFits p rest → (handshake.form tt).Spells p (handshake.bytes p ++ rest) rest }
 {}
 
-/// What is written of a response to a handshake is read again.
+/// A response to a handshake is read back.
 pub fn handshake_response_round_trips()
     ensures spelled { (p : HandshakeResponse) (rest : List ℕ) → HandshakeResponseFits p rest → (handshake_response.form tt).Spells p (handshake_response.bytes p ++ rest) rest }
 {}
 
-/// What is written of a change of user is read again, under the flags that both sides know. So is what a session writes.
+/// A change of user is read back, under the flags that both sides know. So is what a session writes.
 pub fn change_user_round_trips()
     ensures spelled { (c : CapabilityFlags) (p : ComChangeUser) (rest : List ℕ) → ChangeUserFits c p rest → (change_user.form c).Spells p (change_user.bytes p ++ rest) rest }
     ensures session { (c : CapabilityFlags) (p : ComChangeUser) (rest : List ℕ) → SessionChangeUserFits c p rest → (change_user.form c).Spells p ((session_change_user c).bytes p ++ rest) rest }
 {}
 
-/// What is written of a change of user's more data is read again, under the flags that both sides know. So is what a session
-/// writes.
+/// A change of user's more data is read back, under the flags that both sides know. So is what a session writes.
 pub fn more_data_round_trips()
     ensures spelled { (c : CapabilityFlags) (p : ComChangeUserMoreData) (rest : List ℕ) → MoreDataFits c p → (more_data.form c).Spells p (more_data.bytes p ++ rest) rest }
     ensures session { (c : CapabilityFlags) (p : ComChangeUserMoreData) (rest : List ℕ) → SessionMoreDataFits c p → (more_data.form c).Spells p ((session_more_data c).bytes p ++ rest) rest }

@@ -1,5 +1,5 @@
-//! What a client and a server say before the first command: the handshake, the response to it, the request for TLS,
-//! the switches to another plugin, the packets with keys and further data, and the change of a session's user.
+//! The connection phase: the handshake, the response to it, the request for TLS, switches to another plugin, packets with keys
+//! and further data, and the change of a session's user.
 #![tactic(auto)]
 
 mod attribute;
@@ -61,7 +61,7 @@ pub use faults::{
 pub use for_session::ForSession;
 pub use handshake::HandshakePacket;
 pub use handshake_ref::HandshakePacketRef;
-pub use handshake_response::{HandshakeResponse, ResponseBeforeAttributes};
+pub use handshake_response::{HandshakeResponse, HandshakeResponseHead};
 pub use handshake_response_ref::HandshakeResponseRef;
 pub use old_auth_switch_request::OldAuthSwitchRequest;
 pub use parsec::parse_parsec_salt;

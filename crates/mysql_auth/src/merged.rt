@@ -1,4 +1,4 @@
-//! Pairs in which a key may come again.
+//! Lists of pairs with repeated keys.
 
 ghost use Rattle.std.specs.Prelude.{◌≡◌, ◌≢◌, [], List, ℕ, length, IfOk};
 ghost use Rattle.mysql_wire.specs.Reading.{Answers};
@@ -25,7 +25,7 @@ impl<'a> Model for Merged<'a> {
     ghost view = { λ a. a.0.entries };
 }
 
-/// Reads pairs to the end. Where a key comes again, it keeps its first place and takes the last value.
+/// Reads pairs to the end. A key that is repeated keeps its first place and takes the last value.
 #[tactic(auto, using(crate::proofs::PairsRead::pair_loops))]
 pub(crate) fn read_merged<'s, 'a>(mut inside: ParseBuf<'a>) -> Result<Merged<'a>, FaultOf<'s>>
     ensures value { Answers (is_any (length inside.entry)) result [] (spec.pairs.reads inside.entry) }
@@ -39,7 +39,7 @@ pub(crate) fn read_merged<'s, 'a>(mut inside: ParseBuf<'a>) -> Result<Merged<'a>
 }
 
 impl<'a> Merged<'a> {
-    /// The pairs in a list: each key stands once.
+    /// Converts to a list, with each key once.
     #[tactic(auto, using(crate::proofs::Merging::merges))]
     pub(crate) fn into_list(self, alloc: Global) -> Result<Vec<Attribute<'a>>, AllocError>
         ensures value { IfOk result (λ list. list.items ≡ self.entry) }

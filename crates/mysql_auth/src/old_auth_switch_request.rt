@@ -13,6 +13,10 @@ use mysql_wire::{ConstU8, FaultOf, Fixed, MyDeserialize, ParseBuf, Parts, Sink, 
 /// without `CLIENT_PLUGIN_AUTH`: the byte `fe` alone.
 ///
 /// Another byte is `InvalidData`, an empty packet `UnexpectedEof`.
+///
+/// ```
+/// Ok(OldAuthSwitchRequest::new().serialize(out)?)
+/// ```
 #[derive(Clone, Debug, PartialEq, Eq, Drop)]
 pub struct OldAuthSwitchRequest {
     header: AuthSwitchRequestHeader,

@@ -12,7 +12,7 @@ use crate::auth_plugin::AuthPlugin;
 use mysql_wire::{BytesRepr, FaultOf, NullBytes, ParseBuf};
 use std::marker::Model;
 
-/// A plugin's name, where it lies: no zero is in it. In a clause it is the plugin.
+/// A plugin's name without a zero, which borrows from the packet. In a clause it is the plugin.
 #[derive(Drop)]
 pub(crate) struct AuthPluginRef<'a> {
     name: &'a [u8],
@@ -37,7 +37,7 @@ impl<'a> AuthPluginRef<'a> {
         })
     }
 
-    /// The plugin of a name that ends in a zero, or else at the end.
+    /// Returns the plugin of a name that ends at the first zero, or at the end.
     pub(crate) fn to_zero_or_end(buf: &mut ParseBuf<'a>) -> AuthPluginRef<'a>
         ensures value { (spec.plugin_null_or_eof.form tt).reads buf.old ≡ Ok (result, buf.new) }
     {
@@ -48,7 +48,7 @@ impl<'a> AuthPluginRef<'a> {
         AuthPluginRef { name }
     }
 
-    /// The same plugin once more.
+    /// Copies the plugin; both borrow the name.
     #[inline]
     pub(crate) fn again(&self) -> AuthPluginRef<'a>
         ensures value { result ≡ self.now }
@@ -74,7 +74,7 @@ impl<'a> AuthPluginRef<'a> {
     }
 }
 
-/// The same plugin once more, where one is named.
+/// Copies an optional plugin; both borrow the name.
 #[inline]
 pub(crate) fn again_given<'a>(plugin: &Option<AuthPluginRef<'a>>) -> Option<AuthPluginRef<'a>>
     ensures value { result ≡ plugin.now }

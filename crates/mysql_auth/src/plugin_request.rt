@@ -1,4 +1,4 @@
-//! What asks a client for a plugin: the switch to it, and the next factor by it.
+//! A server's requests for a plugin: the switch to it, and the next factor by it.
 #![tactic(auto, using(mysql_wire::proofs::Packets::packets), unfolding(crate::specs::PluginRequest::plugin_request))]
 
 ghost use Rattle.std.specs.Prelude.{[], ◌≡◌, IfOk, IsOk};
@@ -94,7 +94,7 @@ impl<'a, T, const HEADER: u8> PluginRequest<'a, T, HEADER> {
         self.plugin_data.as_bytes()
     }
 
-    /// The same request, on memory of its own. Empty bytes take none.
+    /// Copies all bytes, so that the request borrows nothing. Empty bytes need no allocation.
     pub fn into_owned(self, alloc: Global) -> Result<PluginRequest<'static, T, HEADER>, AllocError>
         ensures value { IfOk result (λ owned. owned ≡ self.entry) }
         ensures no_memory { spec.plugin_name self.entry ≡ [] → spec.plugin_data self.entry ≡ [] → IsOk result }

@@ -1,4 +1,4 @@
-//! What asks a client for a plugin, where it lies.
+//! Borrowed requests for a plugin.
 #![tactic(auto, using(mysql_wire::proofs::Packets::packets), unfolding(crate::specs::PluginRequest::plugin_request))]
 
 ghost use Rattle.std.specs.Prelude.{◌≡◌, ⊤};
@@ -69,7 +69,7 @@ impl<'a, T, const HEADER: u8> PluginRequestRef<'a, T, HEADER> {
         self.plugin_data
     }
 
-    /// The request in its other form, which borrows the texts still. It takes no memory.
+    /// Converts to a [`PluginRequest`], which still borrows the texts. It takes no memory.
     #[inline]
     pub fn to_packet(&self) -> PluginRequest<'a, T, HEADER>
         ensures value { result ≡ self.now }

@@ -13,6 +13,11 @@ pub type PublicKeyRequestHeader = ConstU8<InvalidPublicKeyRequest, 0x02>;
 /// A client's request for the server's public RSA key, of the plugin `caching_sha2_password`: the byte `02`.
 ///
 /// Another byte is `InvalidData`, an empty packet `UnexpectedEof`.
+///
+/// ```
+/// connection.send_packet(&PublicKeyRequest::new())?;
+/// let (_, payload) = answer(connection)?;
+/// ```
 #[derive(Clone, Debug, PartialEq, Eq, Drop)]
 pub struct PublicKeyRequest {
     header: PublicKeyRequestHeader,

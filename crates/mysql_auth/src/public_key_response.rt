@@ -14,13 +14,18 @@ use mysql_wire::{
 use std::alloc::{AllocError, Global};
 use std::borrow::{CowSlice, CowStr};
 
-/// The first byte of an answer with a public key: `01`.
+/// The first byte of a public key response: `01`.
 pub type PublicKeyResponseHeader = ConstU8<InvalidPublicKeyResponse, 0x01>;
 
 /// A server's public RSA key, which a client asked for by a
 /// [`PublicKeyRequest`](crate::PublicKeyRequest): the byte `01`, and the key as PEM to the end of the packet.
 ///
 /// A packet that begins with another byte is `InvalidData`, an empty one `UnexpectedEof`.
+///
+/// ```
+/// let response: PublicKeyResponse<'_> = ParseBuf::new(alloc, payload).parse(())?;
+/// let key = response.rsa_key(alloc)?;
+/// ```
 #[derive(Clone, Debug, PartialEq, Eq, Drop)]
 pub struct PublicKeyResponse<'a> {
     header: PublicKeyResponseHeader,
@@ -39,7 +44,7 @@ impl<'a> PublicKeyResponse<'a> {
         }
     }
 
-    /// The key as text (PEM), with U+FFFD for what is not UTF-8. UTF-8 is borrowed.
+    /// The key as text (PEM), with U+FFFD for invalid UTF-8. Valid UTF-8 is borrowed.
     pub fn rsa_key(&self, alloc: Global) -> Result<CowStr<'_>, AllocError>
         ensures text { IfOk result (λ text. cow_str_bytes text ≡ lossy_text (spec.rsa_key self.now)) }
         ensures utf8 { BorrowsUtf8 (spec.rsa_key self.now) result }

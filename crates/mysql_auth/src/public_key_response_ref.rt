@@ -1,4 +1,4 @@
-//! A server's public key, where it lies.
+//! Borrowed public keys of a server.
 #![tactic(auto, using(mysql_wire::proofs::Packets::packets), unfolding(crate::specs::PublicKeyResponse::public_key_response))]
 
 ghost use Rattle.std.specs.Prelude.{◌≡◌, ⊤};
@@ -17,6 +17,11 @@ use std::marker::Model;
 /// A server's public RSA key, which stays in the packet: a [`PublicKeyResponse`] for as long as the packet lives.
 ///
 /// It is read of the same bytes with the same faults, and in a clause it is that packet.
+///
+/// ```
+/// let response: PublicKeyResponse<'_> = ParseBuf::new(alloc, payload).parse(())?;
+/// let key = response.rsa_key(alloc)?;
+/// ```
 #[derive(Drop)]
 pub struct PublicKeyResponseRef<'a> {
     rsa_key: &'a [u8],
@@ -37,7 +42,7 @@ impl<'a> PublicKeyResponseRef<'a> {
         self.rsa_key
     }
 
-    /// The packet in its other form, which borrows the key still. It takes no memory.
+    /// Converts to a [`PublicKeyResponse`], which still borrows the key. It takes no memory.
     #[inline]
     pub fn to_packet(&self) -> PublicKeyResponse<'a>
         ensures value { result ≡ self.now }

@@ -22,6 +22,15 @@ use mysql_wire::{
 /// | 4 | what a MariaDB client can do besides |
 ///
 /// Fewer than 32 bytes are `UnexpectedEof`.
+///
+/// ```
+/// let request = SslRequest::new(
+///     CapabilityFlags::CLIENT_SSL | CapabilityFlags::CLIENT_PROTOCOL_41,
+///     1 << 24, // the longest packet that the client takes
+///     45, // utf8mb4_general_ci
+/// );
+/// Ok(request.serialize(out)?)
+/// ```
 #[derive(Clone, Debug, PartialEq, Eq, Drop)]
 pub struct SslRequest {
     capabilities: Const<CapabilityFlags, LeU32>,
@@ -45,7 +54,7 @@ impl SslRequest {
         }
     }
 
-    /// The same request with these capabilities of MariaDB's own, which servers from 10.2 on look at.
+    /// Sets MariaDB's own capabilities, which servers read from version 10.2 on.
     pub fn with_mariadb_capabilities(mut self, flags: MariadbCapabilities) -> Self
         ensures value { result ≡ spec.with_mariadb flags self }
     {
@@ -67,7 +76,7 @@ impl SslRequest {
         self.character_set = RawInt::new(character_set);
     }
 
-    /// What the client can do.
+    /// The client's capabilities.
     #[inline]
     pub fn capabilities(&self) -> CapabilityFlags
         ensures value { result ≡ spec.capabilities self.now }
@@ -91,7 +100,7 @@ impl SslRequest {
         self.character_set.0
     }
 
-    /// What a MariaDB client can do besides.
+    /// The extended capabilities of a MariaDB client.
     #[inline]
     pub fn mariadb_capabilities(&self) -> MariadbCapabilities
         ensures value { result ≡ spec.mariadb_capabilities self.now }
@@ -99,7 +108,7 @@ impl SslRequest {
         self.mariadb_capabilities.0
     }
 
-    /// The same request with these capabilities.
+    /// Replaces the capabilities.
     #[inline]
     fn with_capabilities(&self, capabilities: CapabilityFlags) -> Self
         ensures value { result ≡ spec.with_capabilities capabilities self.now }
@@ -111,7 +120,7 @@ impl SslRequest {
         ).with_mariadb_capabilities(self.mariadb_capabilities())
     }
 
-    /// The same request once more.
+    /// Copies the request.
     #[inline]
     pub(crate) fn again(&self) -> Self
         ensures value { result ≡ self.now }
@@ -119,7 +128,7 @@ impl SslRequest {
         self.with_capabilities(self.capabilities())
     }
 
-    /// The same request with the flag `CLIENT_SSL`.
+    /// Adds the flag `CLIENT_SSL`.
     pub(crate) fn for_tls(&self) -> Self
         ensures value { result ≡ spec.for_tls self.now }
     {

@@ -16,13 +16,19 @@ use mysql_wire::CapabilityFlags;
 /// | `CLIENT_COMPRESS`, `CLIENT_ZSTD_COMPRESSION_ALGORITHM` | packets stand in compressed ones, and the second adds a byte to the response |
 /// | `CLIENT_SSL` | it makes the first 32 bytes of a response a request for TLS: [`HandshakeResponse::ssl_request`](crate::HandshakeResponse::ssl_request) sets it |
 ///
-/// Three change what a driver has to do, so that only one that does so agrees to them: under
-/// `CLIENT_OPTIONAL_RESULTSET_METADATA` a byte more follows the answer to a preparation and the count of
-/// columns, under `CLIENT_QUERY_ATTRIBUTES` a query and an execution have counts in any case, and under
-/// `MULTI_FACTOR_AUTHENTICATION` a login may go on with a further plugin
-/// ([`AuthReply::NextFactor`](crate::AuthReply::NextFactor)).
+/// Three of them change what a driver has to do, so a driver must agree to them explicitly: under
+/// `CLIENT_OPTIONAL_RESULTSET_METADATA` the answer to a preparation and the column count have one more byte, under
+/// `CLIENT_QUERY_ATTRIBUTES` a query and an execution always have counts, and under `MULTI_FACTOR_AUTHENTICATION` a login may
+/// continue with another plugin ([`AuthReply::NextFactor`](crate::AuthReply::NextFactor)).
 ///
 /// `docs/PROTOCOL.md` has the table of all flags.
+///
+/// ```
+/// supported_capabilities()
+///     .difference(CapabilityFlags::CLIENT_OPTIONAL_RESULTSET_METADATA)
+///     .difference(CapabilityFlags::CLIENT_QUERY_ATTRIBUTES)
+///     .difference(CapabilityFlags::MULTI_FACTOR_AUTHENTICATION)
+/// ```
 pub fn supported_capabilities() -> CapabilityFlags
     ensures value { result.0 ≡ spec.supported }
 {

@@ -1,11 +1,11 @@
-//! The versions that stand in a server's version text.
+//! Parses the versions in a server's version text.
 
 ghost use Rattle.std.specs.Prelude.{◌≡◌, ◌≤◌, ◌^◌, ◌<◌, ◌++◌, ◌≢◌, ℕ, List, option_map, MatchOption, IfSome, IfNone};
 ghost use Rattle.mysql_auth.specs.Version as spec;
 ghost use Rattle.mysql_auth.specs.Scan.{Scans};
 
-/// The number that the digits at the front write, and what stands after them: as many digits as stand there, but at
-/// most so many. `None` where no digit stands there.
+/// Parses a number of at most `most` digits at the front, and returns it with the rest of the text. `None` if there is no
+/// digit.
 #[tactic(auto, using(crate::proofs::Scanner::digit_counts))]
 fn number(text: &[u8], most: usize) -> Option<(u16, &[u8])>
     requires { most ≤ 3 }
@@ -23,14 +23,14 @@ fn number(text: &[u8], most: usize) -> Option<(u16, &[u8])>
     Some((number, &text[count..]))
 }
 
-/// What stands after a text that stands at the front.
+/// Strips a prefix.
 fn later<'a>(text: &'a [u8], front: &[u8]) -> Option<&'a [u8]>
     ensures value { Scans (option_map (λ rest. (tt, rest.now)) result) ((spec.literal front.now).reads text.now) }
 {
     text.strip_prefix(front)
 }
 
-/// The version at the front, and what stands after it.
+/// Parses a version at the front, and returns it with the rest of the text.
 #[tactic(auto, unfolding(crate::specs::Version::version))]
 fn version(text: &[u8]) -> Option<((u16, u16, u16), &[u8])>
     ensures value { Scans (option_map (λ found. (found.0, found.1.now)) result) (spec.version.reads text.now) }
@@ -41,7 +41,7 @@ fn version(text: &[u8]) -> Option<((u16, u16, u16), &[u8])>
     Some(((major, minor, patch), rest))
 }
 
-/// The version of MariaDB at the front, and what stands after it.
+/// Parses MariaDB's version at the front, and returns it with the rest of the text.
 #[tactic(auto, unfolding(crate::specs::Version::mariadb_version))]
 fn mariadb_version(text: &[u8]) -> Option<((u16, u16, u16), &[u8])>
     ensures value { Scans (option_map (λ found. (found.0, found.1.now)) result) (spec.mariadb_version.reads text.now) }
@@ -84,7 +84,7 @@ fn mariadb_version_after(text: &[u8]) -> Option<(u16, u16, u16)>
     }
 }
 
-/// The version of MariaDB in a server's version text: after `5.5.5-`, or else at its start.
+/// Parses MariaDB's version in a server's version text: after `5.5.5-`, or at its start.
 pub(crate) fn mariadb_server_version(text: &[u8]) -> Option<(u16, u16, u16)>
     ensures some { IfSome result (spec.IsMariadbVersion text.now) }
     ensures none { IfNone result ((v : ℕ × ℕ × ℕ) → spec.IsMariadbVersion text.now v → ⊥) }

@@ -7,7 +7,7 @@ use Rattle.mysql_values.specs.declared.value.Value.{Value}
 use Rattle.mysql_values.specs.Value.{Content}
 use Rattle.mysql_bulk.specs.declared.error.BulkExecuteRequestError.{BulkExecuteRequestError}
 use Rattle.mysql_bulk.specs.declared.error.BulkExecuteRequestBuilderError.TheVariants as refused
-use Rattle.mysql_bulk.specs.declared.error.BulkRowRefusal.{BulkRowRefusal}
+use Rattle.mysql_bulk.specs.declared.error.BulkRowError.{BulkRowError}
 use Rattle.mysql_bulk.specs.Builder.{BuilderState, Adds, AddsCopy, BuildsRequest, IsConsistent}
 use Rattle.mysql_bulk.specs.CollectedRows.{Collects, EndsRefused}
 use Rattle.mysql_bulk.specs.Request.{BulkRequest}
@@ -72,7 +72,7 @@ row_ends s t rows later requests row e c collects a =
     (r.0, gives_refused row later e r.2 a)
 
 -- so was a copy of one
-pub copy_ends : (s t : BuilderState) (rows later : List (List Content)) (requests : List BulkRequest) (row : List Content) (e : BulkRowRefusal) → IsConsistent s → Collects s rows requests t → AddsCopy t row (Err e) t
+pub copy_ends : (s t : BuilderState) (rows later : List (List Content)) (requests : List BulkRequest) (row : List Content) (e : BulkRowError) → IsConsistent s → Collects s rows requests t → AddsCopy t row (Err e) t
     → EndsRefused s rows requests row later e t
 copy_ends s t rows later requests row e c collects a =
     let r = (runs_to s t rows (row ∷ later) requests c collects).2 in

@@ -11,7 +11,7 @@ use Rattle.std.proofs.lemmas.List.Sums.{fold-append}
 use Rattle.std.proofs.lemmas.List.{length-map}
 use Rattle.mysql_values.specs.declared.param_type.ParamType.{ParamType}
 use Rattle.mysql_values.specs.Value.{Content}
-use Rattle.mysql_bulk.specs.ColumnTypes.{may_be_declared, spells, spell_row, TakesTypes, types_of_rows, types_so_far, types_after_row}
+use Rattle.mysql_bulk.specs.ColumnTypes.{is_declarable, can_encode, spell_row, TakesTypes, types_of_rows, types_so_far, types_after_row}
 use Rattle.mysql_bulk.specs.DeclaredTypes.{declared_type, column_values, types_with_row}
 use Rattle.mysql_bulk.specs.Row.{first_length, EqualLengths}
 use Rattle.mysql_bulk.proofs.DeclaredTypes.{types_all}
@@ -21,17 +21,17 @@ pub spelled_long : (types : List ParamType) (row : List Content) → spell_row t
 spelled_long [] [] e = refl
 spelled_long [] (value ∷ row) e = let f : false ≡ true = e in cc
 spelled_long (t ∷ types) [] e = let f : false ≡ true = e in cc
-spelled_long (t ∷ types) (value ∷ row) e = ap suc (spelled_long types row (and_parts (spells t value) (spell_row types row) e).1)
+spelled_long (t ∷ types) (value ∷ row) e = ap suc (spelled_long types row (and_parts (can_encode t value) (spell_row types row) e).1)
 
 pub not_as_long : {V : Type 0} (content : V → Content) (types : List ParamType) (row : List V) → length types ≢ length row → spell_row types (map content row) ≡ false
 not_as_long content types row n = false_from_ne_true (spell_row types (map content row)) (λ e. n (sym (spelled_long types (map content row) e) ∙ length-map row content))
 
 spell_from : {V : Type 0} (content : V → Content) (types : List ParamType) (row : List V) (i : ℕ) (d : ParamType) (e : V) → length types ≡ length row → i < length row
-    → spell_row (drop i types) (map content (drop i row)) ≡ (spells (get_or types i d) (content (get_or row i e)) && spell_row (drop (i + 1) types) (map content (drop (i + 1) row)))
+    → spell_row (drop i types) (map content (drop i row)) ≡ (can_encode (get_or types i d) (content (get_or row i e)) && spell_row (drop (i + 1) types) (map content (drop (i + 1) row)))
 spell_from {V} content types row i d e same lt = rw add-one (from types row i d e same lt)
   where
     from : (types : List ParamType) (row : List V) (i : ℕ) (d : ParamType) (e : V) → length types ≡ length row → i < length row
-        → spell_row (drop i types) (map content (drop i row)) ≡ (spells (get_or types i d) (content (get_or row i e)) && spell_row (drop (suc i) types) (map content (drop (suc i) row)))
+        → spell_row (drop i types) (map content (drop i row)) ≡ (can_encode (get_or types i d) (content (get_or row i e)) && spell_row (drop (suc i) types) (map content (drop (suc i) row)))
     from [] [] i d e same lt = absurd (omega (arith, lt))
     from [] (v ∷ row) i d e same lt = absurd (omega (arith, same))
     from (t ∷ types) [] i d e same lt = absurd (omega (arith, same))
@@ -39,11 +39,11 @@ spell_from {V} content types row i d e same lt = rw add-one (from types row i d 
     from (t ∷ types) (v ∷ row) (suc i) d e same lt = from types row i d e (omega (arith, same)) (omega (arith, lt))
 
 -- one more value is spelled
-pub spell_next : {V : Type 0} (content : V → Content) (types : List ParamType) (row : List V) (i : ℕ) (d : ParamType) (value : V) (b : Bool) → length types ≡ length row → i < length row → b ≡ spells (get_or types i d) (content value)
+pub spell_next : {V : Type 0} (content : V → Content) (types : List ParamType) (row : List V) (i : ℕ) (d : ParamType) (value : V) (b : Bool) → length types ≡ length row → i < length row → b ≡ can_encode (get_or types i d) (content value)
     → value ≡ get_or row i value → b ≡ true → spell_row (drop i types) (map content (drop i row)) ≡ spell_row (drop (i + 1) types) (map content (drop (i + 1) row))
 spell_next {V} content types row i d value b same lt is at spelled =
     spell_from content types row i d value same lt
-    ∙ ap (λ (x : Bool). x && spell_row (drop (i + 1) types) (map content (drop (i + 1) row))) (ap (λ (v : V). spells (get_or types i d) (content v)) (sym at) ∙ sym is ∙ spelled)
+    ∙ ap (λ (x : Bool). x && spell_row (drop (i + 1) types) (map content (drop (i + 1) row))) (ap (λ (v : V). can_encode (get_or types i d) (content v)) (sym at) ∙ sym is ∙ spelled)
 
 -- where types are declared, a row that they spell is as long as they say
 pub taken_long : (columns : Option (List ParamType)) (types : List ParamType) (row : List Content) → columns ≡ Some types → TakesTypes columns row → length row ≡ length types
@@ -57,11 +57,11 @@ length-types_of_rows (Some types) [] a = refl
 length-types_of_rows (Some types) (row ∷ rows) a = sym (spelled_long types row (All-head (TakesTypes (Some types)) row rows a))
 
 -- where no type is refused, each may be declared
-pub none_refused : (types : List ParamType) → position (λ kind. not (may_be_declared kind)) types ≡ None → All (λ kind. IsTrue (may_be_declared kind)) types
+pub none_refused : (types : List ParamType) → position (λ kind. not (is_declarable kind)) types ≡ None → All (λ kind. IsTrue (is_declarable kind)) types
 none_refused types e = λ k d lt.
-    let refused : ParamType → Bool = λ kind. not (may_be_declared kind) in
+    let refused : ParamType → Bool = λ kind. not (is_declarable kind) in
     let past : length types ≤ position_or_len refused types = grind (arith, common_steps) in
-    not-false (may_be_declared (get_or types k d)) (fails_before_first refused types k d (omega (arith, past, lt)))
+    not-false (is_declarable (get_or types k d)) (fails_before_first refused types k d (omega (arith, past, lt)))
 
 -- ---- the types so far
 

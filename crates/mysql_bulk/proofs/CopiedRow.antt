@@ -8,7 +8,7 @@ use Rattle.mysql_values.specs.ValueDeserializer.{has_bytes}
 use Rattle.mysql_bulk.specs.Row.{RefusesValue, RefusesRow, values_size}
 use Rattle.mysql_bulk.proofs.RequestBytes.{size_of_contents}
 
--- why a value is refused, of which so many bytes were left, is why its row is
+-- why a value is refused, of which a given number of bytes were left, is why its row is
 pub row_refused : {V : Type 0} (content : V → Content) (row : List V) (i : ℕ) (value : V) (left most : ℕ) → i < length row → value ≡ get_or row i value
     → left + values_size content (take i row) ≡ most → RefusesValue left (content value) → RefusesRow most (map content row)
 row_refused {V} content row i value left most within is total refused = elim refused [

@@ -13,7 +13,7 @@ one_takes : (t : ParamType) (old rest : List ℕ) → (param_type.form tt).Spell
 unfolding param_type bytes
 one_takes t old rest s = (param_type.form tt).sized.exact t old rest ((param_type.form tt).only t old rest s)
 
--- so many types take two bytes each
+-- a given number of types take two bytes each
 all_take : (count : ℕ) (types : List ParamType) (old rest : List ℕ) → (counted count (param_type.form tt)).Spells types old rest → length old ≡ 2 * count + length rest
 unfolding counted
 all_take zero types old rest s = omega (arith, ap length s.1)

@@ -22,7 +22,7 @@ use Rattle.mysql_values.specs.SentType.{is_uint}
 use Rattle.mysql_values.specs.Value.{Content, NULL, Bytes, Int, UInt, Float, Double, Date, Time, bin}
 use Rattle.mysql_bulk.specs.Builder.{BuilderState, IsRequest}
 use Rattle.mysql_values.specs.ValueKind.{kind_of, is_longlong}
-use Rattle.mysql_bulk.specs.ColumnTypes.{is_declarable, may_be_declared, TakesTypes, types_of_rows}
+use Rattle.mysql_bulk.specs.ColumnTypes.{is_declarable_type, is_declarable, TakesTypes, types_of_rows}
 use Rattle.mysql_bulk.proofs.ColumnTypes.{length-types_of_rows}
 use Rattle.mysql_bulk.specs.DeclaredTypes.{first_not_null, type_from, declared_type, declared_types, column_values}
 use Rattle.mysql_bulk.specs.Head.{BulkHead, head, sends_types, value_columns, column_of_type}
@@ -175,9 +175,9 @@ type_small (Date x) values = omega arith
 type_small (Time x) values = omega arith
 
 -- a type that may be declared has one flag at most
-pub declarable_small : (kind : ParamType) → may_be_declared kind ≡ true → kind.flags.0 < 2 ^ 8
+pub declarable_small : (kind : ParamType) → is_declarable kind ≡ true → kind.flags.0 < 2 ^ 8
 declarable_small kind e =
-    let flags = (and_parts (is_declarable kind.column_type) (kind.flags.0 == 0 || (kind.flags.0 == UNSIGNED && is_longlong (kind_of kind.column_type))) e).1 in
+    let flags = (and_parts (is_declarable_type kind.column_type) (kind.flags.0 == 0 || (kind.flags.0 == UNSIGNED && is_longlong (kind_of kind.column_type))) e).1 in
     elim (eqb_tells kind.flags.0 0) [
       | inl none ↦ omega (arith, none.1)
       | inr some ↦ let unsigned = eqb-true kind.flags.0 UNSIGNED (and_parts (kind.flags.0 == UNSIGNED) (is_longlong (kind_of kind.column_type)) (rw some.0 at flags)).0 in omega (arith, unsigned)
@@ -187,13 +187,13 @@ types_small : (rows : List (List Content)) → All (λ t. t.flags.0 < 2 ^ 8) (de
 types_small rows =
     All-map (λ (t : ParamType). t.flags.0 < 2 ^ 8) (λ i. declared_type (column_values rows i)) (range_with_len 0 (first_length rows)) (λ k d lt. type_small (first_not_null (column_values rows _)) (column_values rows _))
 
-all_small : (declared : Option (List ParamType)) (rows : List (List Content)) → IfSome declared (λ types. All (λ kind. IsTrue (may_be_declared kind)) types) → All (λ t. t.flags.0 < 2 ^ 8) (types_of_rows declared rows)
+all_small : (declared : Option (List ParamType)) (rows : List (List Content)) → IfSome declared (λ types. All (λ kind. IsTrue (is_declarable kind)) types) → All (λ t. t.flags.0 < 2 ^ 8) (types_of_rows declared rows)
 all_small None rows d = types_small rows
 all_small (Some types) [] d = All-nil (λ (t : ParamType). t.flags.0 < 2 ^ 8)
-all_small (Some types) (row ∷ rows) d = All-weaker (λ (kind : ParamType). IsTrue (may_be_declared kind)) (λ (t : ParamType). t.flags.0 < 2 ^ 8) declarable_small types d
+all_small (Some types) (row ∷ rows) d = All-weaker (λ (kind : ParamType). IsTrue (is_declarable kind)) (λ (t : ParamType). t.flags.0 < 2 ^ 8) declarable_small types d
 
 pub sent_types : (b : Bool) (declared : Option (List ParamType)) (rows : List (List Content)) (count : ℕ) → count ≡ first_length rows → All (TakesTypes declared) rows
-    → IfSome declared (λ types. All (λ kind. IsTrue (may_be_declared kind)) types) → TypesFor b count (if b then types_of_rows declared rows else [])
+    → IfSome declared (λ types. All (λ kind. IsTrue (is_declarable kind)) types) → TypesFor b count (if b then types_of_rows declared rows else [])
 sent_types true declared rows count e taken d = (length-types_of_rows declared rows taken ∙ sym e, all_small declared rows d)
 sent_types false declared rows count e taken d = refl
 

@@ -15,7 +15,7 @@ use Rattle.mysql_values.specs.Value.{Content, NULL, Bytes, Int, UInt, Float, Dou
 use Rattle.mysql_values.specs.ValueKind.{kind_of, is_longlong}
 use Rattle.mysql_values.proofs.ValueAgain.{agrees-by_kind, agrees-by_type, longlong-kind}
 use Rattle.mysql_bulk.specs.Builder.{BuilderState, IsRequest}
-use Rattle.mysql_bulk.specs.ColumnTypes.{is_unsigned, spells, spell_row, TakesTypes, types_of_rows}
+use Rattle.mysql_bulk.specs.ColumnTypes.{is_unsigned, can_encode, spell_row, TakesTypes, types_of_rows}
 use Rattle.mysql_bulk.specs.Head.{sends_types, value_columns, column_of_type}
 use Rattle.mysql_bulk.specs.HeadTypes.{TypesFor}
 use Rattle.mysql_bulk.specs.ParamValue.{with_indicator, param_value_bytes, values_bytes}
@@ -39,7 +39,7 @@ not-negative : (u : Bool) (n : ℕ) → u ≡ true → not (u && is_negative (ne
 not-negative true n e h = let f : false ≡ true = h in cc
 not-negative false n e h = let f : false ≡ true = e in cc
 
-agrees_as : (t : ParamType) (u : Bool) (v : Content) → is_unsigned t ≡ u → spells t v ≡ true → IsInRange v → Agrees t.column_type u (as_signed u v)
+agrees_as : (t : ParamType) (u : Bool) (v : Content) → is_unsigned t ≡ u → can_encode t v ≡ true → IsInRange v → Agrees t.column_type u (as_signed u v)
 agrees_as t u NULL e s r = tt
 agrees_as t u (Bytes b) e s r = agrees-by_kind t.column_type u (Bytes b) s r
 agrees_as t true (Int (pos n)) e s r =
@@ -88,7 +88,7 @@ row_agrees [] [] s r = tt
 row_agrees [] (v ∷ row) s r = let f : false ≡ true = s in cc
 row_agrees (t ∷ types) [] s r = let f : false ≡ true = s in cc
 row_agrees (t ∷ types) (v ∷ row) s r =
-    let parts = and_parts (spells t v) (spell_row types row) s in
+    let parts = and_parts (can_encode t v) (spell_row types row) s in
     let A : Bool → Type 0 = λ u. Agrees t.column_type u (as_signed (is_unsigned t) v) in (
       subst A (sym (same_sign (is_unsigned t))) (agrees_as t (is_unsigned t) v refl parts.0 (All-head IsInRange v row r)),
       row_agrees types row parts.1 (All-tail IsInRange v row r),

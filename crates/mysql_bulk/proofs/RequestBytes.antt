@@ -32,7 +32,7 @@ length-values (v ∷ values) =
       sum_by-append param_size (v.content ∷ []) (contents values),
     )
 
--- so many bytes without the indicators, which take one each
+-- a given number of bytes without the indicators, which take one each
 pub length-values_alone : (values : List Value) → length (flat_map (λ (value : Value). bin (content_of value)) values) + length values ≡ row_size (contents_of values)
 length-values_alone [] = refl
 length-values_alone (v ∷ values) =
@@ -48,7 +48,7 @@ pub length-head : (h : BulkHead) → length (head.bytes h) ≡ 7 + 2 * length h.
 unfolding head le_bytes
 length-head h = omega (arith, length-types h.types, length-append (types_bytes h.types) [])
 
--- a request is written as so many bytes
+-- a request is written as a given number of bytes
 pub length-request : (r : BulkRequest) → length (request_bytes r) ≡ written_size r
 length-request r =
     omega (arith, length-head (head_of r), length-values r.values, length-append (head.bytes (head_of r)) (values_bytes r.values ++ []), length-append (values_bytes r.values) [])

@@ -10,7 +10,7 @@ use Rattle.mysql_values.specs.declared.param_type.ParamType.{ParamType}
 use Rattle.mysql_values.specs.declared.value_ref.ValueRef.{ValueRef}
 use Rattle.mysql_values.specs.Value.{Content}
 use Rattle.mysql_values.specs.ValueRef.{ref_content}
-use Rattle.mysql_bulk.specs.declared.error.BulkRowRefusal.TheVariants as refused
+use Rattle.mysql_bulk.specs.declared.error.BulkRowError.TheVariants as refused
 use Rattle.mysql_bulk.specs.declared.error.BulkExecuteRequestError.TheVariants as request_refused
 use Rattle.mysql_bulk.specs.Builder.{BuilderState, packing, TakesRow, RowFits, after_row, IsRequest, BuildsRequest, after_request}
 use Rattle.mysql_bulk.specs.ColumnTypes.{TakesTypes, spell_row}

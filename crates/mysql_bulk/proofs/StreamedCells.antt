@@ -4,8 +4,8 @@ use Rattle.std.proofs.lemmas.Bool.{ne_eqb}
 use Rattle.std.proofs.lemmas.List.{append-nil}
 use Rattle.mysql_cuts.specs.Cut.{Packing, PartFits, HasFittingCut, IsFullFromFront, NextDoesNotFit, rows_in, types_after}
 use Rattle.mysql_cuts.proofs.Packed.{IsPacked, open_packed, packed_more, packed_close, packed_fewest, packed_full, packed_fits, packed_stuck, types_after_push}
-use Rattle.mysql_bulk.specs.declared.error.BulkRowRefusal.{BulkRowRefusal}
-use Rattle.mysql_bulk.specs.declared.error.BulkRowRefusal.TheVariants as refused
+use Rattle.mysql_bulk.specs.declared.error.BulkRowError.{BulkRowError}
+use Rattle.mysql_bulk.specs.declared.error.BulkRowError.TheVariants as refused
 use Rattle.mysql_bulk.specs.BulkValue.{Cell}
 use Rattle.mysql_bulk.specs.RequestWriter.{WriterState}
 use Rattle.mysql_bulk.specs.ValueRows.{AddsAfter, AddsCells, AreCellRequests, CellsFit, HoldsCells, LetsGo, StreamsCells, packing, request_of_cells, so_far}
@@ -132,7 +132,7 @@ streamed w u before rows rest requests h s = gone rows rest before w u [] reques
 
 -- ---- its ends
 
-some_is : {x y : BulkRowRefusal} → Some x ≡ Some y → x ≡ y
+some_is : {x y : BulkRowError} → Some x ≡ Some y → x ≡ y
 some_is h = cc
 
 -- the same rows, by their parts
@@ -143,7 +143,7 @@ by_parts {w} {u} {before} {rest} g due =
     subst (λ l. P true l) (sym g.packed.same) (subst (λ t. P t before) due g.packed)
 
 -- a run ends where these rows come next
-ends_at : (w u : WriterState) (before rows rest : List (List Cell)) (requests : List (List ℕ)) (e : BulkRowRefusal) (g : Going w (before ++ rows) rest requests u) → EndsBy (Some e) u g.waiting rest
+ends_at : (w u : WriterState) (before rows rest : List (List Cell)) (requests : List (List ℕ)) (e : BulkRowError) (g : Going w (before ++ rows) rest requests u) → EndsBy (Some e) u g.waiting rest
     → (w.types_due ≡ true → e ≡ refused.TooLarge → HasFittingCut (packing w) ((rows_in g.cut ++ g.waiting) ++ next_of rest) → ⊥)
     → CellsRunGives w before (rows ++ rest) requests (Some e) u
 ends_at w u before rows rest requests e g ended large =
@@ -235,37 +235,37 @@ too_large : (k : Packing (List Cell)) (cut : List (List (List Cell))) (waiting r
 too_large k cut [] rows later row p n e = packed_stuck k cut rows row later p n
 too_large k cut (r ∷ waiting) rows later row p n e = absurd cc
 
-refuses : (u v : WriterState) (waiting later : List (List Cell)) (row : List Cell) (e : BulkRowRefusal) → AddsAfter u waiting row (Err e) v → EndsBy (Some e) u waiting (row ∷ later)
+refuses : (u v : WriterState) (waiting later : List (List Cell)) (row : List Cell) (e : BulkRowError) → AddsAfter u waiting row (Err e) v → EndsBy (Some e) u waiting (row ∷ later)
 refuses u v waiting later row refused.MixedArity a = (a.0, refl)
 refuses u v waiting later row refused.MixedTypes a = (a.0, a.1, refl)
 refuses u v waiting later row refused.TooLarge a = (a.0, a.1, a.2, refl)
 refuses u v waiting later row refused.Memory a = inr (a.0, a.1, refl)
 
-refused_stays : (u v : WriterState) (waiting : List (List Cell)) (row : List Cell) (e : BulkRowRefusal) → AddsAfter u waiting row (Err e) v → v ≡ u
+refused_stays : (u v : WriterState) (waiting : List (List Cell)) (row : List Cell) (e : BulkRowError) → AddsAfter u waiting row (Err e) v → v ≡ u
 refused_stays u v waiting row refused.MixedArity a = a.1
 refused_stays u v waiting row refused.MixedTypes a = a.2
 refused_stays u v waiting row refused.TooLarge a = a.3
 refused_stays u v waiting row refused.Memory a = a.2
 
 -- a row is refused
-refused_at : (w u v : WriterState) (before rows later : List (List Cell)) (requests : List (List ℕ)) (row : List Cell) (e : BulkRowRefusal) → Going w (before ++ rows) (row ∷ later) requests u → AddsCells u row (Err e) v
+refused_at : (w u v : WriterState) (before rows later : List (List Cell)) (requests : List (List ℕ)) (row : List Cell) (e : BulkRowError) → Going w (before ++ rows) (row ∷ later) requests u → AddsCells u row (Err e) v
     → CellsRunGives w before (rows ++ row ∷ later) requests (Some e) v
 refused_at w u v before rows later requests row e g adds =
     let k = packing w in
     let a = adds g.waiting g.holds in
-    let A : BulkRowRefusal → Type 0 = λ x. AddsAfter u g.waiting row (Err x) v in
+    let A : BulkRowError → Type 0 = λ x. AddsAfter u g.waiting row (Err x) v in
     let N : Bool → Type 0 = λ t. PartFits k (types_after k t g.cut) (g.waiting ++ row ∷ []) → ⊥ in
     let R : WriterState → Type 0 = λ x. CellsRunGives w before (rows ++ row ∷ later) requests (Some e) x in
     subst R (sym (refused_stays u v g.waiting row e a))
     (ends_at w u before rows (row ∷ later) requests e g (refuses u v g.waiting later row e a)
     (λ due is. let b : A refused.TooLarge = subst A is a in too_large k g.cut g.waiting (rows_in g.cut ++ g.waiting) later row (by_parts g due) (subst N due (λ f. b.1 (fits_there row g f))) b.2))
 
-pub cells_refused : (w u v : WriterState) (before rows later : List (List Cell)) (requests : List (List ℕ)) (row : List Cell) (e : BulkRowRefusal) → HoldsCells w before → StreamsCells w rows requests u
+pub cells_refused : (w u v : WriterState) (before rows later : List (List Cell)) (requests : List (List ℕ)) (row : List Cell) (e : BulkRowError) → HoldsCells w before → StreamsCells w rows requests u
     → AddsCells u row (Err e) v → CellsRunGives w before (rows ++ row ∷ later) requests (Some e) v
 cells_refused w u v before rows later requests row e h s adds = refused_at w u v before rows later requests row e (streamed w u before rows (row ∷ later) requests h s) adds
 
 -- a row is refused after a request was let go
-pub sent_refused : (w u v x : WriterState) (before rows later : List (List Cell)) (requests : List (List ℕ)) (row : List Cell) (e : BulkRowRefusal) → HoldsCells w before → StreamsCells w rows requests u
+pub sent_refused : (w u v x : WriterState) (before rows later : List (List Cell)) (requests : List (List ℕ)) (row : List Cell) (e : BulkRowError) → HoldsCells w before → StreamsCells w rows requests u
     → AddsCells u row (Ok false) u → LetsGo u v → AddsCells v row (Err e) x → CellsRunGives w before (rows ++ row ∷ later) (requests ++ u.bytes ∷ []) (Some e) x
 sent_refused w u v x before rows later requests row e h s full go adds =
     refused_at w v x before rows later (requests ++ u.bytes ∷ []) row e (one_sent row later v (streamed w u before rows (row ∷ later) requests h s) full go) adds

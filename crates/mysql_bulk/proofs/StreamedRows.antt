@@ -6,8 +6,8 @@ use Rattle.std.proofs.lemmas.List.Elements.{All-nil}
 use Rattle.mysql_cuts.specs.Cut.{IsFewest, rows_in}
 use Rattle.mysql_values.specs.Value.{Content}
 use Rattle.mysql_bulk.specs.declared.error.BulkExecuteRequestError.{BulkExecuteRequestError}
-use Rattle.mysql_bulk.specs.declared.error.BulkRowRefusal.{BulkRowRefusal}
-use Rattle.mysql_bulk.specs.declared.error.BulkRowRefusal.TheVariants as copy
+use Rattle.mysql_bulk.specs.declared.error.BulkRowError.{BulkRowError}
+use Rattle.mysql_bulk.specs.declared.error.BulkRowError.TheVariants as copy
 use Rattle.mysql_bulk.specs.Builder.{BuilderState, packing, AddsCopy, Builds, BuildsRequest, IsConsistent, IsRequest, after_request}
 use Rattle.mysql_bulk.specs.CollectedRows.{Collects}
 use Rattle.mysql_bulk.specs.ColumnTypes.{TakesTypes}
@@ -124,7 +124,7 @@ streamed_fewest w u rows requests h due s some =
     }
 
 -- a refusal leaves the builder
-stays : (s t : BuilderState) (row : List Content) (e : BulkRowRefusal) → AddsCopy s row (Err e) t → t ≡ s
+stays : (s t : BuilderState) (row : List Content) (e : BulkRowError) → AddsCopy s row (Err e) t → t ≡ s
 stays s t row copy.MixedArity a = a.1
 stays s t row copy.MixedTypes a = a.2
 stays s t row copy.TooLarge a = a.3
@@ -133,7 +133,7 @@ stays s t row copy.Memory a = a.2
 none_consistent : (w : WriterState) → IsConsistent (as_builder w [])
 none_consistent w = record { one_length = tt; arity = refl; taken = All-nil (TakesTypes (as_builder w []).columns); fits = λ some. absurd (some refl) }
 
-pub stream_refused : (w u v : WriterState) (rows later : List (List Content)) (requests : List (List ℕ)) (row : List Content) (e : BulkRowRefusal) → Holds w [] → Streams w rows requests u → AddsAsBuilder u row (Err e) v
+pub stream_refused : (w u v : WriterState) (rows later : List (List Content)) (requests : List (List ℕ)) (row : List Content) (e : BulkRowError) → Holds w [] → Streams w rows requests u → AddsAsBuilder u row (Err e) v
     → StreamEndsRefused w rows requests row later e u
 stream_refused w u v rows later requests row e h s a =
     let c = is_collected rows w u [] requests h s in

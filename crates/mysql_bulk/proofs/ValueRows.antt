@@ -5,7 +5,7 @@ use Rattle.std.proofs.lemmas.List.{append-nil, length-map}
 use Rattle.std.proofs.lemmas.List.Elements.{All-nil, All-push}
 use Rattle.std.proofs.lemmas.List.Sums.{sum_by-append}
 use Rattle.mysql_bulk.specs.declared.bulk_value.BulkValue.{BulkValue}
-use Rattle.mysql_bulk.specs.declared.error.BulkRowRefusal.TheVariants as refused
+use Rattle.mysql_bulk.specs.declared.error.BulkRowError.TheVariants as refused
 use Rattle.mysql_bulk.specs.BulkValue.{Cell, cell_of, cells_bytes, cells_size}
 use Rattle.mysql_bulk.specs.RequestWriter.{WriterState, head_bytes, with_row}
 use Rattle.mysql_bulk.specs.ValueRows.{AddsCells, CellsFit, HoldsCells, IsRequestOf, Spells, rows_bytes, request_of_cells, so_far}

@@ -2,8 +2,8 @@
 use Rattle.std.proofs.Common.{◌≡◌, ◌≢◌, ◌⊎◌, ℕ, add-one, ◌+◌, ◌<◌, suc, zero, Bool, true, false, if◌then◌else◌, List, [], ◌∷◌, ◌++◌, length, map, take, drop, get_or, Some, None, Result, Ok, Err, refl, sym, ◌∙◌, ap, subst, inl, inr, arith}
 use Rattle.std.specs.Prelude.{IfErr, OnOk}
 use Rattle.std.proofs.lemmas.List.{append-nil}
-use Rattle.mysql_bulk.specs.declared.error.BulkRowRefusal.{BulkRowRefusal}
-use Rattle.mysql_bulk.specs.declared.error.BulkRowRefusal.TheVariants as refused
+use Rattle.mysql_bulk.specs.declared.error.BulkRowError.{BulkRowError}
+use Rattle.mysql_bulk.specs.declared.error.BulkRowError.TheVariants as refused
 use Rattle.mysql_bulk.specs.BulkValue.{Cell}
 use Rattle.mysql_bulk.specs.RequestWriter.{WriterState}
 use Rattle.mysql_bulk.specs.ValueRows.{AddsCells, HoldsCells, LetsGo, StreamsCells}
@@ -27,12 +27,12 @@ again_taken u m v x row b c q more a f e g sent adds is =
     let A : Bool → Type 0 = λ t. AddsCells v row (Ok t) x in
     inr (v, not_taken u m row b a f e, let_go_from u m v e g, subst A is adds, sent ∙ ap (λ (s : WriterState). q ++ s.bytes ∷ []) e)
 
-pub again_refused : (u m v x : WriterState) (row : List Cell) (b : Bool) (q more : List (List ℕ)) (e : BulkRowRefusal) → AddsCells u row (Ok b) m → b ≡ false → m ≡ u → LetsGo m v → more ≡ q ++ m.bytes ∷ []
+pub again_refused : (u m v x : WriterState) (row : List Cell) (b : Bool) (q more : List (List ℕ)) (e : BulkRowError) → AddsCells u row (Ok b) m → b ≡ false → m ≡ u → LetsGo m v → more ≡ q ++ m.bytes ∷ []
     → AddsCells v row (Err e) x → OfferRefused u row q e x more
 again_refused u m v x row b q more e a f same g sent adds =
     inr (inr (inl (v, not_taken u m row b a f same, let_go_from u m v same g, adds, sent ∙ ap (λ (s : WriterState). q ++ s.bytes ∷ []) same)))
 
-pub again_kept : (u m v x : WriterState) (row : List Cell) (b c : Bool) (q more : List (List ℕ)) (e : BulkRowRefusal) → AddsCells u row (Ok b) m → b ≡ false → m ≡ u → LetsGo m v → AddsCells v row (Ok c) x → c ≡ false → x ≡ v
+pub again_kept : (u m v x : WriterState) (row : List Cell) (b c : Bool) (q more : List (List ℕ)) (e : BulkRowError) → AddsCells u row (Ok b) m → b ≡ false → m ≡ u → LetsGo m v → AddsCells v row (Ok c) x → c ≡ false → x ≡ v
     → OfferRefused u row q e x more
 again_kept u m v x row b c q more e a f same g adds is stays =
     inr (inr (inr (v, not_taken u m row b a f same, let_go_from u m v same g, not_taken v x row c adds is stays)))
@@ -75,10 +75,10 @@ streams_more rows w u m row q more s o =
 
 -- ---- the ends of a run
 
-pub run_refused : (w u m : WriterState) (before all rows later : List (List Cell)) (row : List Cell) (q more : List (List ℕ)) (e : BulkRowRefusal) → HoldsCells w before → all ≡ rows ++ row ∷ later → StreamsCells w rows q u
+pub run_refused : (w u m : WriterState) (before all rows later : List (List Cell)) (row : List Cell) (q more : List (List ℕ)) (e : BulkRowError) → HoldsCells w before → all ≡ rows ++ row ∷ later → StreamsCells w rows q u
     → OfferRefused u row q e m more → CellsRunGives w before all more (Some e) m
 run_refused w u m before all rows later row q more e h whole s o =
-    let R : List (List Cell) → List (List ℕ) → BulkRowRefusal → WriterState → Type 0 = λ l p x y. CellsRunGives w before l p (Some x) y in
+    let R : List (List Cell) → List (List ℕ) → BulkRowError → WriterState → Type 0 = λ l p x y. CellsRunGives w before l p (Some x) y in
     subst (λ l. R l more e m) (sym whole)
     (
     elim o [
@@ -127,10 +127,10 @@ split_at {X} {Y} f xs i x lt at = rw add-one (from xs i lt at)
 
 -- ---- the answer to a row that is offered where none waits
 
-pub answered_ok : (r : Result (Unit {0}) BulkRowRefusal) (c : Bool) (P : Type 0) → r ≡ (if c then Ok tt else Err refused.TooLarge) → (c ≡ true → P) → OnOk r P
-answered_ok r true P e h = let Q : Result (Unit {0}) BulkRowRefusal → Type 0 = λ x. OnOk x P in subst Q (sym e) (h refl)
-answered_ok r false P e h = let Q : Result (Unit {0}) BulkRowRefusal → Type 0 = λ x. OnOk x P in subst Q (sym e) tt
+pub answered_ok : (r : Result (Unit {0}) BulkRowError) (c : Bool) (P : Type 0) → r ≡ (if c then Ok tt else Err refused.TooLarge) → (c ≡ true → P) → OnOk r P
+answered_ok r true P e h = let Q : Result (Unit {0}) BulkRowError → Type 0 = λ x. OnOk x P in subst Q (sym e) (h refl)
+answered_ok r false P e h = let Q : Result (Unit {0}) BulkRowError → Type 0 = λ x. OnOk x P in subst Q (sym e) tt
 
-pub answered_err : (r : Result (Unit {0}) BulkRowRefusal) (c : Bool) (P : BulkRowRefusal → Type 0) → r ≡ (if c then Ok tt else Err refused.TooLarge) → (c ≡ false → P refused.TooLarge) → IfErr r P
-answered_err r true P e h = let Q : Result (Unit {0}) BulkRowRefusal → Type 0 = λ x. IfErr x P in subst Q (sym e) tt
-answered_err r false P e h = let Q : Result (Unit {0}) BulkRowRefusal → Type 0 = λ x. IfErr x P in subst Q (sym e) (h refl)
+pub answered_err : (r : Result (Unit {0}) BulkRowError) (c : Bool) (P : BulkRowError → Type 0) → r ≡ (if c then Ok tt else Err refused.TooLarge) → (c ≡ false → P refused.TooLarge) → IfErr r P
+answered_err r true P e h = let Q : Result (Unit {0}) BulkRowError → Type 0 = λ x. IfErr x P in subst Q (sym e) tt
+answered_err r false P e h = let Q : Result (Unit {0}) BulkRowError → Type 0 = λ x. IfErr x P in subst Q (sym e) (h refl)

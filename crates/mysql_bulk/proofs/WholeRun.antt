@@ -16,8 +16,8 @@ use Rattle.mysql_bulk.specs.declared.error.BulkExecuteRequestBuilderError.{BulkE
 use Rattle.mysql_bulk.specs.declared.error.BulkExecuteRequestBuilderError.TheVariants.{Request, Params}
 use Rattle.mysql_bulk.specs.declared.error.BulkExecuteRequestError.{BulkExecuteRequestError}
 use Rattle.mysql_bulk.specs.declared.error.BulkExecuteRequestError.TheVariants.{MixedArity, MixedTypes, RowTooLarge, MemoryRow, NoParams, Memory}
-use Rattle.mysql_bulk.specs.declared.error.BulkRowRefusal.{BulkRowRefusal}
-use Rattle.mysql_bulk.specs.declared.error.BulkRowRefusal.TheVariants as copy
+use Rattle.mysql_bulk.specs.declared.error.BulkRowError.{BulkRowError}
+use Rattle.mysql_bulk.specs.declared.error.BulkRowError.TheVariants as copy
 use Rattle.mysql_bulk.specs.CollectedRows.{RefusesIn}
 use Rattle.mysql_bulk.specs.Builder.{BuilderState, packing, TakesArity, TakesRow, RowFits, after_row, Adds, AddsCopy, IsRequest, BuildsRequest, after_request, arity_after, IsConsistent}
 use Rattle.mysql_bulk.specs.ColumnTypes.{takes_types, TakesTypes, types_of_rows}
@@ -401,7 +401,7 @@ module _ {s : BuilderState} {all : List (List Content)} {requests : List BulkReq
       )
 
   -- a copy of the next row is refused
-  pub copy_refused : (row : List Content) (rest : List (List Content)) (e : BulkRowRefusal) → Running s all requests ends sent b (row ∷ rest) → AddsCopy b row (Err e) b → IsNew s → RefusesIn s all row e
+  pub copy_refused : (row : List Content) (rest : List (List Content)) (e : BulkRowError) → Running s all requests ends sent b (row ∷ rest) → AddsCopy b row (Err e) b → IsNew s → RefusesIn s all row e
   copy_refused row rest copy.MixedArity r a n = other_length row rest r a.0 n
   copy_refused row rest copy.MixedTypes r a n = other_types row rest r a.0 a.1 n
   copy_refused row rest copy.TooLarge r a n = too_large row rest r a.0 a.1 a.2 n

@@ -13,9 +13,9 @@ use Rattle.mysql_bulk.specs.declared.error.BulkExecuteRequestError.{BulkExecuteR
 use Rattle.mysql_bulk.specs.declared.error.BulkExecuteRequestError.TheVariants.{MixedArity, MixedTypes, RowTooLarge, MemoryRow, NoParams, Memory}
 use Rattle.mysql_bulk.specs.declared.error.BulkExecuteRequestBuilderError.{BulkExecuteRequestBuilderError}
 use Rattle.mysql_bulk.specs.declared.error.BulkExecuteRequestBuilderError.TheVariants as refused
-use Rattle.mysql_bulk.specs.declared.error.BulkRowRefusal.{BulkRowRefusal}
-use Rattle.mysql_bulk.specs.declared.error.BulkRowRefusal.TheVariants as copy_refused
-use Rattle.mysql_bulk.specs.ColumnTypes.{may_be_declared, TakesTypes, types_of_rows, types_so_far}
+use Rattle.mysql_bulk.specs.declared.error.BulkRowError.{BulkRowError}
+use Rattle.mysql_bulk.specs.declared.error.BulkRowError.TheVariants as copy_refused
+use Rattle.mysql_bulk.specs.ColumnTypes.{is_declarable, TakesTypes, types_of_rows, types_so_far}
 use Rattle.mysql_bulk.specs.ParamValue.{with_indicator}
 use Rattle.mysql_bulk.specs.Request.{BulkRequest, request_flags, request_bytes}
 use Rattle.mysql_bulk.specs.Row.{contents_of_row, first_length, OneLength, rows_packing}
@@ -39,7 +39,7 @@ pub record BuilderState : Type 0 where
   pub types_due : Bool
   pub waiting : List (List Content)
 
--- a builder with these settings, which holds so many rows, whose values stand in one list
+-- a builder with these settings, which holds a given number of rows, whose values stand in one list
 abbrev pub builder_state : (stmt_id limit : ℕ) (results : Bool) → BulkRule → (names : Option (List (Vec ℕ))) → (columns : Option (List ParamType)) → (arity : Option ℕ) → (types_due : Bool) → (count : ℕ) → List Content → BuilderState
 builder_state stmt_id limit results rule names columns arity types_due count values = record {
   stmt_id = stmt_id;
@@ -61,8 +61,8 @@ packing s arity = rows_packing s.rule s.limit arity
 
 -- the columns are as many as the types, which are due in the next request; or this is the first type that may not be declared
 abbrev pub Declares : BuilderState → List ParamType → Result BuilderState BulkColumnTypeError → Type 0
-Declares s types (Ok t) = All (λ kind. IsTrue (may_be_declared kind)) types × (t ≡ record s { columns = Some types; arity = Some (length types); types_due = true })
-Declares s types (Err e) = position (λ kind. not (may_be_declared kind)) types ≡ Some e.place
+Declares s types (Ok t) = All (λ kind. IsTrue (is_declarable kind)) types × (t ≡ record s { columns = Some types; arity = Some (length types); types_due = true })
+Declares s types (Err e) = position (λ kind. not (is_declarable kind)) types ≡ Some e.place
 
 -- ---- a row is offered
 
@@ -101,7 +101,7 @@ AddsRow s row (Err (refused.Request e)) t = Adds s row (Err e) t
 AddsRow s row (Err (refused.Params e)) t = ⊥
 
 -- a copy of a row is offered: it waits, or it does not fit with the rows that wait, or it is refused
-abbrev pub AddsCopy : BuilderState → List Content → Result Bool BulkRowRefusal → BuilderState → Type 0
+abbrev pub AddsCopy : BuilderState → List Content → Result Bool BulkRowError → BuilderState → Type 0
 AddsCopy s row (Ok true) t = TakesRow s row × RowFits s row × (t ≡ after_row s row)
 AddsCopy s row (Ok false) t = TakesRow s row × (RowFits s row → ⊥) × (s.waiting ≢ []) × (t ≡ s)
 AddsCopy s row (Err copy_refused.MixedArity) t = (TakesArity s.arity (length row) → ⊥) × (t ≡ s)
@@ -177,7 +177,7 @@ pub record IsConsistent (s : BuilderState) : Type 0 where
   -- and they may be a request
   pub fits : s.waiting ≢ [] → WaitingFits s
 
--- so many rows wait, of so many bytes: their values stand in one list, and beside it the types of their columns so far
+-- a given number of rows wait, of a given number of bytes: their values stand in one list, and beside it the types of their columns so far
 pub record IsStoredAs (s : BuilderState) (count size : ℕ) (values : List Content) (types : List ParamType) : Type 0 where
   pub limit_is : s.limit < 2 ^ 64
   pub rows_is : s.waiting ≡ waiting_rows s.arity count values

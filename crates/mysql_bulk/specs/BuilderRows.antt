@@ -3,7 +3,7 @@ use Rattle.std.specs.Prelude.{◌≡◌, ℕ, zero, suc, ◌*◌, List, [], ◌�
 use Rattle.mysql_values.specs.Value.{Content}
 use Rattle.mysql_bulk.specs.Row.{row_size}
 
--- so many rows of so many values
+-- a given number of rows of a given number of values
 abbrev pub rows_of : ℕ → ℕ → List Content → List (List Content)
 rows_of arity zero values = []
 rows_of arity (suc count) values = take arity values ∷ rows_of arity count (drop arity values)
@@ -12,7 +12,7 @@ rows_of arity (suc count) values = take arity values ∷ rows_of arity count (dr
 abbrev pub waiting_rows : Option ℕ → ℕ → List Content → List (List Content)
 waiting_rows arity count values = rows_of (unwrap_or arity 0) count values
 
--- the values are those of so many rows, which have so many bytes
+-- the values are those of a given number of rows, which have a given number of bytes
 pub record IsFlat (arity : Option ℕ) (count size : ℕ) (values : List Content) : Type 0 where
   pub lengths : length values ≡ count * unwrap_or arity 0
   pub none : arity ≡ None → count ≡ 0

@@ -2,8 +2,8 @@
 use Rattle.std.specs.Prelude.{◌≡◌, ◌⊎◌, true, false, List, [], ◌∷◌, ◌++◌, Ok}
 use Rattle.mysql_cuts.specs.Cut.{rows_in, NoneEmpty, FullFrom, IsFullFromFront}
 use Rattle.mysql_values.specs.Value.{Content}
-use Rattle.mysql_bulk.specs.declared.error.BulkRowRefusal.{BulkRowRefusal}
-use Rattle.mysql_bulk.specs.declared.error.BulkRowRefusal.TheVariants.{MixedArity, MixedTypes, TooLarge, Memory}
+use Rattle.mysql_bulk.specs.declared.error.BulkRowError.{BulkRowError}
+use Rattle.mysql_bulk.specs.declared.error.BulkRowError.TheVariants.{MixedArity, MixedTypes, TooLarge, Memory}
 use Rattle.mysql_bulk.specs.Builder.{BuilderState, AddsCopy, BuildsRequest}
 use Rattle.mysql_bulk.specs.Request.{BulkRequest}
 use Rattle.mysql_bulk.specs.WholeRun.{AreRequests, IsNew, left_by}
@@ -18,14 +18,14 @@ Collects s (row ∷ rows) requests t =
     × AddsCopy v row (Ok true) u × (requests ≡ request ∷ later) × Collects u rows later t)
 
 -- the right row is refused, and for the right reason: the same is refused in each list that begins with these rows, memory alone aside
-abbrev pub RefusesIn : BuilderState → List (List Content) → List Content → BulkRowRefusal → Type 0
+abbrev pub RefusesIn : BuilderState → List (List Content) → List Content → BulkRowError → Type 0
 RefusesIn s rows row MixedArity = RefusesArity s rows row
 RefusesIn s rows row MixedTypes = RefusesTypes s rows row
 RefusesIn s rows row TooLarge = RefusesSize s rows row
 RefusesIn s rows row Memory = Unit {0}
 
 -- the loop of these rows was ended by a row that is refused: `later` come after it
-pub record EndsRefused (s : BuilderState) (rows : List (List Content)) (requests : List BulkRequest) (row : List Content) (later : List (List Content)) (e : BulkRowRefusal) (t : BuilderState) : Type 0 where
+pub record EndsRefused (s : BuilderState) (rows : List (List Content)) (requests : List BulkRequest) (row : List Content) (later : List (List Content)) (e : BulkRowError) (t : BuilderState) : Type 0 where
   -- the rows that were sent, in a part for each request, none of them empty
   pub cut : List (List (List Content))
   pub none_empty : NoneEmpty cut

@@ -9,7 +9,7 @@ use Rattle.mysql_values.specs.declared.param_type.ParamType.{ParamType}
 use Rattle.mysql_values.specs.declared.value_kind.ValueKind.{ValueKind}
 use Rattle.mysql_values.specs.declared.value_kind.ValueKind.TheVariants as kind
 use Rattle.mysql_values.specs.Value.{Content, Int, UInt}
-use Rattle.mysql_values.specs.ValueKind.{kind_of, is_longlong, suits}
+use Rattle.mysql_values.specs.ValueKind.{kind_of, is_longlong, matches_type}
 use Rattle.mysql_bulk.specs.DeclaredTypes.{declared_types, types_with_row}
 
 -- ---- types
@@ -26,28 +26,28 @@ is_declarable_kind kind.Null = false
 is_declarable_kind kind.Unsupported = false
 is_declarable_kind k = true
 
-abbrev pub is_declarable : ColumnType → Bool
-is_declarable column.MYSQL_TYPE_BIT = false
-is_declarable t = is_declarable_kind (kind_of t)
+abbrev pub is_declarable_type : ColumnType → Bool
+is_declarable_type column.MYSQL_TYPE_BIT = false
+is_declarable_type t = is_declarable_kind (kind_of t)
 
 -- the type may be declared; integers alone may be unsigned
-abbrev pub may_be_declared : ParamType → Bool
-may_be_declared t = is_declarable t.column_type && (t.flags.0 == 0 || (t.flags.0 == UNSIGNED && is_longlong (kind_of t.column_type)))
+abbrev pub is_declarable : ParamType → Bool
+is_declarable t = is_declarable_type t.column_type && (t.flags.0 == 0 || (t.flags.0 == UNSIGNED && is_longlong (kind_of t.column_type)))
 
 -- ---- the values that they spell
 
 -- the value is spelled under the type as it is under its own
-abbrev pub spells : ParamType → Content → Bool
-spells t (Int n) = is_longlong (kind_of t.column_type) && not (is_unsigned t && is_negative n)
-spells t (UInt n) = is_longlong (kind_of t.column_type) && (is_unsigned t || nat_lt n (2 ^ 63))
-spells t value = suits (kind_of t.column_type) value
+abbrev pub can_encode : ParamType → Content → Bool
+can_encode t (Int n) = is_longlong (kind_of t.column_type) && not (is_unsigned t && is_negative n)
+can_encode t (UInt n) = is_longlong (kind_of t.column_type) && (is_unsigned t || nat_lt n (2 ^ 63))
+can_encode t value = matches_type (kind_of t.column_type) value
 
 -- the row has one value for each type, which spells it
 abbrev pub spell_row : List ParamType → List Content → Bool
 spell_row [] [] = true
 spell_row [] (value ∷ row) = false
 spell_row (t ∷ types) [] = false
-spell_row (t ∷ types) (value ∷ row) = spells t value && spell_row types row
+spell_row (t ∷ types) (value ∷ row) = can_encode t value && spell_row types row
 
 -- where types are declared, they spell the row
 abbrev pub takes_types : Option (List ParamType) → List Content → Bool

@@ -20,7 +20,7 @@ pub record BulkHead : Type 0 where
 abbrev pub sends_types : StmtBulkExecuteFlags → Bool
 sends_types flags = has flags.0 SEND_TYPES_TO_SERVER
 
--- the types of so many columns, where they are sent
+-- the types of a given number of columns, where they are sent
 abbrev pub column_types : Bool → Codec ℕ (List ParamType)
 column_types sent = record {
   form = λ count. types_block sent count;

@@ -18,7 +18,7 @@ types_block sent count = either sent (block (2 * count) (seq (give count) (param
 abbrev pub types_bytes : List ParamType → List ℕ
 types_bytes types = flat_map param_type.bytes types
 
--- a type for each of so many columns, if they are sent
+-- a type for each of a given number of columns, if they are sent
 abbrev pub TypesFor : Bool → ℕ → List ParamType → Type 0
 TypesFor true count types = (length types ≡ count) × All (λ t. t.flags.0 < 2 ^ 8) types
 TypesFor false count types = types ≡ []

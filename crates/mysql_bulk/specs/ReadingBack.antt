@@ -11,7 +11,7 @@ use Rattle.mysql_values.specs.ValueDeserializer.{bin_value}
 use Rattle.mysql_values.specs.declared.param_type.ParamType.{ParamType}
 use Rattle.mysql_values.specs.ReadingBack.{Agrees, IsInRange}
 use Rattle.mysql_bulk.specs.Row.{first_length}
-use Rattle.mysql_bulk.specs.ColumnTypes.{is_unsigned, may_be_declared, types_of_rows}
+use Rattle.mysql_bulk.specs.ColumnTypes.{is_unsigned, is_declarable, types_of_rows}
 use Rattle.mysql_bulk.specs.ParamValue.{ParamValue, with_indicator, value_follows}
 use Rattle.mysql_bulk.specs.ParamValues.{BulkColumn}
 use Rattle.mysql_bulk.specs.Head.{sends_types, value_columns, column_of_type}
@@ -53,7 +53,7 @@ pub record PartAgrees (s : BuilderState) (columns : List BulkColumn) (rows : Lis
   pub some : columns ≢ []
   pub long : length columns ≡ first_length rows
   -- types that were declared may be
-  pub declarable : IfSome s.columns (λ types. All (λ kind. IsTrue (may_be_declared kind)) types)
+  pub declarable : IfSome s.columns (λ types. All (λ kind. IsTrue (is_declarable kind)) types)
   pub agree : All (AgreesWith (columns_read_by s columns rows)) rows
 
 -- ---- under types that a caller declared
@@ -74,7 +74,7 @@ row_under (t ∷ types) (value ∷ row) = as_signed (is_unsigned t) value ∷ ro
 pub record IsDeclaredPart (s : BuilderState) (types : List ParamType) (rows : List (List Content)) : Type 0 where
   pub stmt_id : s.stmt_id < 2 ^ 32
   pub columns : s.columns ≡ Some types
-  pub declarable : All (λ kind. IsTrue (may_be_declared kind)) types
+  pub declarable : All (λ kind. IsTrue (is_declarable kind)) types
   pub some : types ≢ []
   pub some_row : rows ≢ []
   pub in_range : All (λ row. All IsInRange row) rows

@@ -9,7 +9,7 @@ use Rattle.mysql_values.specs.Value.{Content}
 use Rattle.mysql_values.specs.ValueRef.{ref_content}
 use Rattle.mysql_bulk.specs.declared.error.BulkColumnTypeError.{BulkColumnTypeError}
 use Rattle.mysql_bulk.specs.declared.error.BulkExecuteRequestError.{BulkExecuteRequestError}
-use Rattle.mysql_bulk.specs.declared.error.BulkRowRefusal.{BulkRowRefusal}
+use Rattle.mysql_bulk.specs.declared.error.BulkRowError.{BulkRowError}
 use Rattle.mysql_bulk.specs.Builder.{BuilderState, packing, AddsCopy, BuildsRequest, Builds, Declares, after_request}
 use Rattle.mysql_bulk.specs.ColumnTypes.{TakesTypes, types_of_rows}
 use Rattle.mysql_bulk.specs.Head.{head}
@@ -96,7 +96,7 @@ StartsAsBuilder stmt_id limit types (Ok w) = Holds w [] × Declares (new_builder
 StartsAsBuilder stmt_id limit types (Err e) = Declares (new_builder stmt_id limit) types (Err e)
 
 -- a row is offered: the answer is what the builder answers of a copy, and the writer then has written the rows that wait there
-abbrev pub AddsAsBuilder : WriterState → List Content → Result Bool BulkRowRefusal → WriterState → Type 0
+abbrev pub AddsAsBuilder : WriterState → List Content → Result Bool BulkRowError → WriterState → Type 0
 AddsAsBuilder w row result u =
     (rows : List (List Content)) → Holds w rows → (later : List (List Content)) × Holds u later × AddsCopy (as_builder w rows) row result (as_builder u later)
 
@@ -118,7 +118,7 @@ cells_bytes row = flat_map (λ v. cell (ref_content v)) row
 abbrev pub head_bytes : WriterState → List ℕ
 head_bytes w = head.bytes (record { stmt_id = w.stmt_id; bulk_flags = request_flags w.types_due w.results; types = if w.types_due then w.types else [] })
 
--- one more row, which is these bytes, was written after those before it, where the rows have so many bytes now, and the buffer has this capacity
+-- one more row, which is these bytes, was written after those before it, where the rows have a given number of bytes now, and the buffer has this capacity
 abbrev pub with_row : WriterState → (before : List ℕ) → (size capacity : ℕ) → (row : List ℕ) → WriterState
 with_row w before size capacity row = record w { count = w.count + 1; size = size; bytes = before ++ row; capacity = capacity }
 

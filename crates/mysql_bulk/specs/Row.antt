@@ -66,6 +66,6 @@ rows_packing rule limit arity = record {
   max_rows = rule.max_rows;
 }
 
--- so many rows of so many values, of so many bytes, may be one request, which sends types or not
+-- a given number of rows of a given number of values, of a given number of bytes, may be one request, which sends types or not
 abbrev pub MayBeRequest : BulkRule → (limit arity : ℕ) → (types : Bool) → (count size : ℕ) → Type 0
 MayBeRequest rule limit arity types count size = (7 + (if types then 2 * arity else 0) + size ≤ limit) × WithinRows rule.max_rows count

@@ -3,7 +3,7 @@ use Rattle.std.specs.Prelude.{◌≡◌, ◌⊎◌, ℕ, true, false, List, [], 
 use Rattle.mysql_cuts.specs.Cut.{IsFewest}
 use Rattle.mysql_values.specs.Value.{Content}
 use Rattle.mysql_bulk.specs.Builder.{BuilderState, packing, after_request}
-use Rattle.mysql_bulk.specs.declared.error.BulkRowRefusal.{BulkRowRefusal}
+use Rattle.mysql_bulk.specs.declared.error.BulkRowError.{BulkRowError}
 use Rattle.mysql_bulk.specs.CollectedRows.{EndsRefused}
 use Rattle.mysql_bulk.specs.Request.{BulkRequest, request_bytes}
 use Rattle.mysql_bulk.specs.RequestWriter.{WriterState, as_builder, request_of, Holds, AddsAsBuilder, FinishesAsBuilder}
@@ -31,7 +31,7 @@ pub record AreFewest (w : WriterState) (rows : List (List Content)) (requests : 
   pub bytes : AreBytes (as_builder w []) cut requests
 
 -- a row that was offered after these was refused: these are the requests that were let go, and the rows that wait
-pub record StreamEndsRefused (w : WriterState) (rows : List (List Content)) (requests : List (List ℕ)) (row : List Content) (later : List (List Content)) (e : BulkRowRefusal) (u : WriterState) : Type 0 where
+pub record StreamEndsRefused (w : WriterState) (rows : List (List Content)) (requests : List (List ℕ)) (row : List Content) (later : List (List Content)) (e : BulkRowError) (u : WriterState) : Type 0 where
   pub sent : List BulkRequest
   pub bytes : requests ≡ map request_bytes sent
   pub waiting : List (List Content)

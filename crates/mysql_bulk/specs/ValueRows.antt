@@ -4,8 +4,8 @@ use Rattle.std.specs.List.{flat_map}
 use Rattle.mysql_cuts.specs.declared.rule.BulkRule.{BulkRule}
 use Rattle.mysql_cuts.specs.Cut.{Packing, PartFits}
 use Rattle.mysql_values.specs.declared.param_type.ParamType.{ParamType}
-use Rattle.mysql_bulk.specs.declared.error.BulkRowRefusal.{BulkRowRefusal}
-use Rattle.mysql_bulk.specs.declared.error.BulkRowRefusal.TheVariants as refused
+use Rattle.mysql_bulk.specs.declared.error.BulkRowError.{BulkRowError}
+use Rattle.mysql_bulk.specs.declared.error.BulkRowError.TheVariants as refused
 use Rattle.mysql_bulk.specs.Builder.{BuilderState}
 use Rattle.mysql_bulk.specs.BulkValue.{Cell, cells_bytes, cells_size, spells_cells}
 use Rattle.mysql_bulk.specs.RequestWriter.{WriterState, head_bytes, head_size}
@@ -87,7 +87,7 @@ abbrev pub Wrote : WriterState → List (List Cell) → List Cell → WriterStat
 Wrote w rows row u = HoldsCells u (rows ++ row ∷ []) × (u ≡ record w { count = u.count; size = u.size; bytes = u.bytes; capacity = u.capacity })
 
 -- a row is offered after these: it is written, or it does not fit with them, or it is refused
-abbrev pub AddsAfter : WriterState → List (List Cell) → List Cell → Result Bool BulkRowRefusal → WriterState → Type 0
+abbrev pub AddsAfter : WriterState → List (List Cell) → List Cell → Result Bool BulkRowError → WriterState → Type 0
 AddsAfter w rows row (Ok true) u = Spells w.types row × CellsFit w rows row × Wrote w rows row u
 AddsAfter w rows row (Ok false) u = Spells w.types row × (CellsFit w rows row → ⊥) × (rows ≢ []) × (u ≡ w)
 AddsAfter w rows row (Err refused.MixedArity) u = (length row ≢ length w.types) × (u ≡ w)
@@ -95,7 +95,7 @@ AddsAfter w rows row (Err refused.MixedTypes) u = (length row ≡ length w.types
 AddsAfter w rows row (Err refused.TooLarge) u = Spells w.types row × (CellsFit w rows row → ⊥) × (rows ≡ []) × (u ≡ w)
 AddsAfter w rows row (Err refused.Memory) u = Spells w.types row × CellsFit w rows row × (u ≡ w)
 
-abbrev pub AddsCells : WriterState → List Cell → Result Bool BulkRowRefusal → WriterState → Type 0
+abbrev pub AddsCells : WriterState → List Cell → Result Bool BulkRowError → WriterState → Type 0
 AddsCells w row result u = (rows : List (List Cell)) → HoldsCells w rows → AddsAfter w rows row result u
 
 -- the request is let go: where a row was written, no row waits, and the rule says whether the next request sends types

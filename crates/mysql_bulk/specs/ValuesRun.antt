@@ -3,8 +3,8 @@ use Rattle.std.specs.Prelude.{◌≡◌, ◌≢◌, ◌⊎◌, ℕ, Bool, true, 
 use Rattle.std.specs.Global.{Vec}
 use Rattle.mysql_cuts.specs.Cut.{FullFrom, HasFittingCut, IsFewest, IsFullFromFront, NoneEmpty, rows_in, types_after}
 use Rattle.mysql_bulk.specs.declared.bulk_value.BulkValue.{BulkValue}
-use Rattle.mysql_bulk.specs.declared.error.BulkRowRefusal.{BulkRowRefusal}
-use Rattle.mysql_bulk.specs.declared.error.BulkRowRefusal.TheVariants as refused
+use Rattle.mysql_bulk.specs.declared.error.BulkRowError.{BulkRowError}
+use Rattle.mysql_bulk.specs.declared.error.BulkRowError.TheVariants as refused
 use Rattle.mysql_bulk.specs.BulkValue.{Cell, cell_of}
 use Rattle.mysql_bulk.specs.RequestWriter.{WriterState}
 use Rattle.mysql_bulk.specs.ValueRows.{AddsAfter, AddsCells, AreCellRequests, CellsFit, HoldsCells, LetsGo, Spells, packing}
@@ -28,7 +28,7 @@ Offered u row requests m more =
 
 -- it was refused: at once; or for memory, since the request that is due was not let go; or after that; or it did not fit where no
 -- row waits, which is no answer
-abbrev pub OfferRefused : WriterState → List Cell → List (List ℕ) → BulkRowRefusal → WriterState → List (List ℕ) → Type 0
+abbrev pub OfferRefused : WriterState → List Cell → List (List ℕ) → BulkRowError → WriterState → List (List ℕ) → Type 0
 OfferRefused u row requests e m more =
     (AddsCells u row (Err e) m × (more ≡ requests))
     ⊎ (((e ≡ refused.Memory) × AddsCells u row (Ok false) u × (m ≡ u) × (more ≡ requests))
@@ -50,12 +50,12 @@ RequestIsDue u waiting [] = waiting ≢ []
 RequestIsDue u waiting (row ∷ later) = (waiting ≢ []) × Spells u.types row × (CellsFit u waiting row → ⊥)
 
 -- the next row is refused, and for this reason
-abbrev pub RefusesNext : WriterState → (waiting dropped : List (List Cell)) → BulkRowRefusal → Type 0
+abbrev pub RefusesNext : WriterState → (waiting dropped : List (List Cell)) → BulkRowError → Type 0
 RefusesNext u waiting [] e = ⊥
 RefusesNext u waiting (row ∷ later) e = AddsAfter u waiting row (Err e) u
 
 -- why a run ended that left this writer, and before these rows
-abbrev pub EndsBy : Option BulkRowRefusal → WriterState → (waiting dropped : List (List Cell)) → Type 0
+abbrev pub EndsBy : Option BulkRowError → WriterState → (waiting dropped : List (List Cell)) → Type 0
 -- all rows were sent
 EndsBy None u waiting dropped = (waiting ≡ []) × (dropped ≡ [])
 -- no memory was had for the request that is due, or for the next row, which fits
@@ -68,7 +68,7 @@ next_of [] = []
 next_of (row ∷ later) = row ∷ []
 
 -- A run of a writer over rows, after those that waited before it, gave these requests, ended by this refusal if by one, and left the writer so.
-pub record CellsRunGives (w : WriterState) (before rows : List (List Cell)) (requests : List (List ℕ)) (refusal : Option BulkRowRefusal) (u : WriterState) : Type 0 where
+pub record CellsRunGives (w : WriterState) (before rows : List (List Cell)) (requests : List (List ℕ)) (refusal : Option BulkRowError) (u : WriterState) : Type 0 where
   -- the rows that were sent, in a part for each request, none of them empty
   pub cut : List (List (List Cell))
   pub none_empty : NoneEmpty cut
@@ -95,6 +95,6 @@ pub record CellsRunGives (w : WriterState) (before rows : List (List Cell)) (req
   -- and where none is refused, no fitting cut of the rows has fewer parts
   pub fewest : w.types_due ≡ true → refusal ≡ None → IsFewest (packing w) (before ++ rows) cut
 
-abbrev pub refusal_of : Result (Unit {0}) BulkRowRefusal → Option BulkRowRefusal
+abbrev pub refusal_of : Result (Unit {0}) BulkRowError → Option BulkRowError
 refusal_of (Ok done) = None
 refusal_of (Err e) = Some e

@@ -1,8 +1,8 @@
 //! A builder of bulk requests: its settings, and its requests.
 //!
-//! Types that are declared for the columns stand in `builder/columns.rt`, rows that are handed over in `builder/owned.rt`,
-//! rows that are borrowed in `builder/borrowed.rt`, runs over rows and over parameters in `run.rt` and `params_run.rt`,
-//! and a whole run in `whole_run.rt`.
+//! Declared column types are in `builder/columns.rt`, rows by value in `builder/owned.rt`, borrowed rows in
+//! `builder/borrowed.rt`, runs over rows and over parameters in `run.rt` and `params_run.rt`, and a whole run in
+//! `whole_run.rt`.
 
 ghost use Rattle.std.specs.Prelude.{◌≡◌, ◌≢◌, ◌+◌, ◌≤◌, ◌-◌, ◌↔◌, ◌++◌, ◌∷◌, [], length, map, IsTrue, MatchOption, IfSome, Some, None, true, false, sum_by, List, ℕ};
 ghost use Rattle.std.specs.Option.{option_copied};
@@ -29,21 +29,26 @@ mod borrowed;
 mod columns;
 mod owned;
 
-/// Collects rows for requests of a bulk execution, none of which is past the limit.
+/// Collects rows for requests of a bulk execution, each within the packet limit.
 ///
 /// Rows are added until one does not fit; then a request is built of those that wait, and so on. The first request
 /// alone sends types, if `with_types_always` does not say otherwise.
 ///
-/// The types are those that `with_column_types` declares. Where none are declared, they are those of each column's first
-/// value that is not `NULL`, and a number is unsigned where some value of its column is; then a server stores other
-/// values than were handed in, or breaks off in the middle, in two cases:
+/// The types are those that `with_column_types` declares. If none are declared, they are those of each column's first value
+/// that is not `NULL`, and an integer is unsigned if any value of its column is; in two cases a server then stores other
+/// values, or stops in the middle:
 ///
-/// * Values of a column are of more than one kind: the server reads all of them under the one type. -1 beside an
-///   unsigned 5 is stored as 18446744073709551615, and 1 beside the double 1.5 as another number; no error tells of it.
-/// * A column is `NULL` in each row of the first request, which then declares `MYSQL_TYPE_NULL`: a later request, which
-///   sends no types, is refused where the column has a value, and the rows of the first one are stored.
+/// * Values of a column are of different kinds: the server reads all of them under one type. -1 in a column with an unsigned 5
+///   is stored as 18446744073709551615, and 1 in a column with the double 1.5 as another number; there is no error.
+/// * A column is `NULL` in each row of the first request, which then declares `MYSQL_TYPE_NULL`: a later request, which sends
+///   no types, is rejected if the column has a value, after the rows of the first one are stored.
 ///
 /// With declared types neither happens.
+///
+/// ```
+/// let mut builder = ComStmtBulkExecuteRequestBuilder::new(alloc, 1, 31);
+/// let run = builder.build_all(rows); // the fewest requests that fit, or which row has no place
+/// ```
 #[derive(Debug)]
 pub struct ComStmtBulkExecuteRequestBuilder<'a> {
     names: Option<&'a [Vec<u8>]>,
@@ -119,7 +124,7 @@ impl<'a> Clone for ComStmtBulkExecuteRequestBuilder<'a> {
     }
 }
 
-/// The same settings, and waiting rows whose values hold the same.
+/// Compares the settings and the values of the rows that wait.
 impl<'a> PartialEq for ComStmtBulkExecuteRequestBuilder<'a> {
     ghost use Rattle.mysql_bulk.specs.BuilderEq.{builder_eq, builder_per};
     ghost use Rattle.mysql_cuts.specs.contracts.rule.BulkRulePartialEq.TheImpl.Laws as of_rules;
@@ -141,7 +146,7 @@ impl<'a> PartialEq for ComStmtBulkExecuteRequestBuilder<'a> {
     }
 }
 
-/// The bytes of so many waiting rows with one more, if these may be one request.
+/// The bytes of a given number of waiting rows with one more, if these may be one request.
 pub(crate) fn size_with<V: RowValue>(
     rule: BulkRule,
     limit: u64,
@@ -228,7 +233,7 @@ impl<'a> ComStmtBulkExecuteRequestBuilder<'a> {
         builder
     }
 
-    /// Sends at most so many rows in a request.
+    /// Sends at most `k` rows in a request.
     pub fn with_max_rows(self, k: usize) -> Self
         requires none_waits { self.waiting ≡ [] }
         requires some { 1 ≤ k }
@@ -270,7 +275,7 @@ impl<'a> ComStmtBulkExecuteRequestBuilder<'a> {
         self.count == other.count && self.values == other.values
     }
 
-    /// What holds of every builder, for the proof of a run. It does nothing.
+    /// States the invariant of every builder, for the proof of a run. It has no effect.
     #[inline(always)]
     pub(crate) fn is_consistent(&self)
         ensures { IsConsistent self.now }
@@ -278,14 +283,14 @@ impl<'a> ComStmtBulkExecuteRequestBuilder<'a> {
         let _names = &self.names;
     }
 
-    /// How many rows wait.
+    /// The number of rows that wait.
     pub(crate) fn rows_waiting(&self) -> usize
         ensures { result ≡ length self.now.waiting }
     {
         self.count
     }
 
-    /// Whether a row of so many values may come after those that were accepted.
+    /// Whether a row of `arity` values may come after those that were accepted.
     fn takes_arity(&self, arity: usize) -> bool
         ensures { IsTrue result ↔ TakesArity self.now.arity arity }
     {
@@ -314,7 +319,7 @@ impl<'a> ComStmtBulkExecuteRequestBuilder<'a> {
     /// The request of the waiting rows, which wait no longer. It writes exactly the bytes of rows of their sizes, which are
     /// within the limit, and it takes no memory.
     ///
-    /// `NoParams` where no row waits, and only there: the builder stays as it was then.
+    /// `NoParams` where no row waits, and only there: the builder is unchanged then.
     pub fn build(&mut self) -> Result<ComStmtBulkExecuteRequest, BulkExecuteRequestError>
         ensures { Builds self.old result self.new }
     {

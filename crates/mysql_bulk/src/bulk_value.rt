@@ -1,4 +1,4 @@
-//! What stands in a column of a row: a value, DEFAULT or IGNORE, under the declared type of the column.
+//! Cells of a row: a value, DEFAULT or IGNORE, under the declared type of the column.
 
 ghost use Rattle.std.specs.Prelude.{◌≡◌, ◌+◌, ◌++◌, ◌<◌, ◌≤◌, ◌^◌, length, map, MatchOption};
 ghost use Rattle.std.specs.Option.{option_map};
@@ -8,10 +8,14 @@ ghost use Rattle.mysql_bulk.specs.TypedCell.{typed_cell_bytes};
 use mysql_values::{ParamType, TypedValue, ValueRef};
 use mysql_wire::{Buffer, Const, MariadbBulkIndicator, MySerialize, Parts, Sink, parts};
 
-/// What stands in a column of a row that is offered.
+/// A cell of a row.
+///
+/// ```
+/// writer.add_row_values(&[BulkValue::Value(ValueRef::Int(id)), BulkValue::Default])
+/// ```
 #[derive(Clone, Copy, Debug, PartialEq)]
 pub enum BulkValue<'a> {
-    /// A value, which the declared type of the column spells, or NULL.
+    /// A value that fits the declared type of the column, or NULL.
     Value(ValueRef<'a>),
     /// The default value of the column: BULK_INDICATOR_DEFAULT.
     Default,
@@ -19,7 +23,7 @@ pub enum BulkValue<'a> {
     Ignore,
 }
 
-/// A cell as it is spelled: its indicator, and the value where one follows.
+/// An encoded cell: its indicator, and the value if one follows.
 #[derive(Clone, Copy)]
 pub(crate) struct TypedCell<'a> {
     pub(crate) indicator: MariadbBulkIndicator,
@@ -27,7 +31,7 @@ pub(crate) struct TypedCell<'a> {
 }
 
 impl<'a> TypedCell<'a> {
-    /// The cell under the type, where the type spells it.
+    /// Encodes the cell under the type, if it fits.
     #[inline(always)]
     pub(crate) fn new(param_type: ParamType, value: BulkValue<'a>) -> Option<Self>
         ensures value { option_map typed_cell_bytes result ≡ spec.cell_spelled param_type (spec.cell_of value.entry) }
@@ -44,7 +48,7 @@ impl<'a> TypedCell<'a> {
         Some(TypedCell { indicator, value })
     }
 
-    /// How many bytes it takes, if that fits a number.
+    /// The length in bytes, if it fits in a `u64`.
     #[inline(always)]
     #[tactic(auto, unfolding(mysql_wire::specs::Writing::le_bytes))]
     fn len(&self) -> Option<u64>
@@ -69,14 +73,14 @@ impl Parts for TypedCell<'_> {
     }
 }
 
-/// Whether the type spells a cell.
+/// Whether a cell fits the type.
 fn spells_cell(param_type: ParamType, value: BulkValue<'_>) -> bool
     ensures { result ≡ spec.spells_cell param_type (spec.cell_of value.entry) }
 {
     TypedCell::new(param_type, value).is_some()
 }
 
-/// How many bytes a cell takes, if that fits a number.
+/// The length of a cell in bytes, if it fits in a `u64`.
 #[inline(always)]
 fn cell_len(param_type: ParamType, value: BulkValue<'_>) -> Option<u64>
     ensures { MatchOption result (2 ^ 64 ≤ length (spec.cell_bytes param_type (spec.cell_of value.entry))) (λ n. n ≡ length (spec.cell_bytes param_type (spec.cell_of value.entry))) }
@@ -87,7 +91,7 @@ fn cell_len(param_type: ParamType, value: BulkValue<'_>) -> Option<u64>
     }
 }
 
-/// Writes a cell, where there is capacity.
+/// Writes a cell, for which there is capacity.
 #[inline(always)]
 fn append_cell<O: Buffer>(param_type: ParamType, value: BulkValue<'_>, out: &mut O)
     requires { length (O.held out.old) + length (spec.cell_bytes param_type (spec.cell_of value)) ≤ O.capacity out.old }
@@ -99,7 +103,7 @@ fn append_cell<O: Buffer>(param_type: ParamType, value: BulkValue<'_>, out: &mut
     }
 }
 
-/// Whether the row has one cell for each type, which spells it.
+/// Whether the row has one cell for each type, which fits it.
 pub(crate) fn spells_values(types: &[ParamType], row: &[BulkValue<'_>]) -> bool
     ensures { result ≡ spec.spells_cells types.now (map spec.cell_of row.now) }
 {
@@ -114,7 +118,7 @@ pub(crate) fn spells_values(types: &[ParamType], row: &[BulkValue<'_>]) -> bool
     true
 }
 
-/// How many bytes a row has, which has a cell for each type, if that fits a number.
+/// The length of a row with a cell for each type in bytes, if it fits in a `u64`.
 pub(crate) fn values_len(types: &[ParamType], row: &[BulkValue<'_>]) -> Option<u64>
     requires { length types.now ≡ length row.now }
     ensures { MatchOption result (2 ^ 64 ≤ spec.cells_size types.now (map spec.cell_of row.now)) (λ n. n ≡ spec.cells_size types.now (map spec.cell_of row.now)) }
@@ -126,7 +130,7 @@ pub(crate) fn values_len(types: &[ParamType], row: &[BulkValue<'_>]) -> Option<u
     Some(size)
 }
 
-/// Writes a row, which has a cell for each type, where there is capacity.
+/// Writes a row with a cell for each type, for which there is capacity.
 // (the buffer is moved to a local one, whose place in memory no write to its bytes can change: so those of a number are one
 // store)
 pub(crate) fn append_values<O: Buffer>(out: &mut O, types: &[ParamType], row: &[BulkValue<'_>])

@@ -7,7 +7,7 @@ ghost use Rattle.mysql_bulk.specs.ParamValue.{cell};
 use crate::row_value::RowValue;
 use mysql_wire::Buffer;
 
-/// Writes values, each after its indicator, where there is capacity.
+/// Writes values, each after its indicator, for which there is capacity.
 // (the buffer is moved to a local one, whose place in memory no write to its bytes can change: so those of a number are one
 // store)
 #[inline(always)]

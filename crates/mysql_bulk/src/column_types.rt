@@ -11,9 +11,9 @@ use crate::row_value::RowValue;
 use mysql_values::{ParamType, ValueKind, ValueRef, string_type};
 use mysql_wire::{ColumnType, Flags, StmtExecuteParamFlags};
 
-/// Whether values of the type are spelled as they are where no type is declared for them.
-fn is_declarable(column_type: ColumnType) -> bool
-    ensures { result ≡ spec.is_declarable column_type }
+/// Whether values of the type have the same encoding as without a declared type.
+fn is_declarable_type(column_type: ColumnType) -> bool
+    ensures { result ≡ spec.is_declarable_type column_type }
 {
     if let ColumnType::MYSQL_TYPE_BIT = column_type {
         return false;
@@ -40,29 +40,29 @@ fn is_unsigned(kind: ParamType) -> bool
     kind.flags().contains(StmtExecuteParamFlags::UNSIGNED)
 }
 
-/// Whether the type may be declared for a column: values of it are spelled as they are where no type is declared for them, and
-/// of numbers it says that they are unsigned or nothing.
+/// Whether the type can be declared for a column: values of it have the same encoding as without a declared type, and only an
+/// integer type may be unsigned.
 #[inline]
-pub fn may_be_declared(kind: ParamType) -> bool
-    ensures { result ≡ spec.may_be_declared kind }
+pub fn is_declarable(kind: ParamType) -> bool
+    ensures { result ≡ spec.is_declarable kind }
 {
     let column_type = kind.column_type();
     let bits = kind.flags().bits();
-    is_declarable(column_type) && (bits == 0 || (bits == 128 && is_longlong(column_type)))
+    is_declarable_type(column_type) && (bits == 0 || (bits == 128 && is_longlong(column_type)))
 }
 
 /// The first place of a type that may not be declared.
 pub(crate) fn first_refused(types: &[ParamType]) -> Option<usize>
-    ensures { result ≡ position (λ kind. not (spec.may_be_declared kind)) types.now }
+    ensures { result ≡ position (λ kind. not (spec.is_declarable kind)) types.now }
 {
-    types.iter().position(|kind| !may_be_declared(*kind))
+    types.iter().position(|kind| !is_declarable(*kind))
 }
 
-/// Whether a value is spelled under the type as it is under its own.
+/// Whether a value has the same encoding under the type as under its own.
 // (the types of what most rows hold are matched themselves, since the compiler makes one more choice of their kinds)
 #[inline]
-pub fn spells(kind: ParamType, value: &ValueRef<'_>) -> bool
-    ensures { result ≡ spec.spells kind (ref_content value.now) }
+pub fn can_encode(kind: ParamType, value: &ValueRef<'_>) -> bool
+    ensures { result ≡ spec.can_encode kind (ref_content value.now) }
 {
     let column_type = kind.column_type();
     match value {
@@ -70,11 +70,11 @@ pub fn spells(kind: ParamType, value: &ValueRef<'_>) -> bool
         ValueRef::Bytes(_) => matches!(column_type, string_type!()),
         ValueRef::Int(n) => is_longlong(column_type) && !(is_unsigned(kind) && *n < 0),
         ValueRef::UInt(n) => is_longlong(column_type) && (is_unsigned(kind) || *n < 1 << 63),
-        value => ValueKind::of(column_type).suits(value),
+        value => ValueKind::of(column_type).matches_type(value),
     }
 }
 
-/// Whether the row has one value for each type, which spells it.
+/// Whether the row has one value for each type, which fits it.
 pub(crate) fn spell_row<V: RowValue>(types: &[ParamType], row: &[V]) -> bool
     ensures { result ≡ spec.spell_row types.now (map V.content row.now) }
 {
@@ -82,15 +82,15 @@ pub(crate) fn spell_row<V: RowValue>(types: &[ParamType], row: &[V]) -> bool
         return false;
     }
     for place in 0..row.len() {
-        if !spells(types[place], &row[place].as_value_ref()) {
+        if !can_encode(types[place], &row[place].as_value_ref()) {
             return false;
         }
     }
     true
 }
 
-/// The types of the columns after a further row, where they are due: those that were declared, or else those of its values
-/// with those of the rows before it.
+/// The types of the columns after another row, if they are to be sent: the declared ones, or otherwise those of its values and
+/// of the rows before it.
 #[inline(always)]
 pub(crate) fn join_types<V: RowValue>(
     types: &mut Vec<ParamType>,

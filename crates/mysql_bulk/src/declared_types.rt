@@ -1,4 +1,4 @@
-//! The types that a bulk request declares for its columns, while rows come one after another.
+//! The types of a bulk request's columns, updated row by row.
 
 ghost use Rattle.std.specs.Prelude.{◌≡◌, ◌+◌, ◌≤◌, ◌⊎◌, [], length, map, vec_capacity, true, if◌then◌else◌};
 ghost use Rattle.mysql_bulk.specs.DeclaredTypes.{type_with, types_with_row};

@@ -1,60 +1,64 @@
-//! Why rows are refused.
+//! Errors of bulk requests.
 
 use mysql_values::{ParamsError, Value};
 use thiserror::Error;
 
-/// Why a row or a request was refused.
+/// The error of a row or a request.
 #[derive(Clone, Debug, PartialEq, Drop, Error)]
 pub enum BulkExecuteRequestError {
     /// The row has not as many values as the rows before it, or as types were declared.
     #[error("Mixed statement arity")]
     MixedArity,
-    /// The declared type of a column does not spell the row's value. The row is handed back.
-    #[error("Value that its declared type does not spell")]
+    /// A value of the row doesn't fit the declared type of its column. The row is returned.
+    #[error("value does not fit the declared type of its column")]
     MixedTypes(Vec<Value>),
-    /// The row alone is past the limit of a request. The row is handed back.
+    /// The row alone exceeds the limit of a request. The row is returned.
     #[error("Got row bigger than max payload length")]
     RowTooLarge(Vec<Value>),
-    /// Memory for the row was refused. The row is handed back.
+    /// Allocating the row failed. The row is returned.
     #[error("MemoryRow")]
     MemoryRow(Vec<Value>),
     /// There is no row for a request.
     #[error("No parameters values given for the bulk operation")]
     NoParams,
-    /// Memory for a request was refused.
+    /// Allocating a request failed.
     #[error("Memory")]
     Memory,
 }
 
 /// A type that may not be declared for a column.
 #[derive(Clone, Copy, Debug, PartialEq, Eq, Error)]
-#[error("Type that may not be declared")]
+#[error("type cannot be declared for a column")]
 pub struct BulkColumnTypeError {
     /// The place of the first such type.
     pub place: usize,
 }
 
-/// Why a row that was borrowed was refused. The caller still has it.
+/// The error of a borrowed row, which the caller still has.
+///
+/// ```
+/// writer.add_row_values(&[BulkValue::Value(ValueRef::Int(id)), BulkValue::Default])
+/// ```
 #[derive(Clone, Copy, Debug, PartialEq, Eq, Error)]
-pub enum BulkRowRefusal {
+pub enum BulkRowError {
     /// The row has not as many values as the rows before it, or as types were declared.
     #[error("Mixed statement arity")]
     MixedArity,
-    /// The declared type of a column does not spell the row's value.
-    #[error("Value that its declared type does not spell")]
+    /// A value of the row doesn't fit the declared type of its column.
+    #[error("value does not fit the declared type of its column")]
     MixedTypes,
     /// The row alone is past the limit of a request.
     #[error("Got row bigger than max payload length")]
     TooLarge,
-    /// Memory for a copy of the row was refused.
+    /// Allocating a copy of the row failed.
     #[error("Memory")]
     Memory,
 }
 
-/// Why the builder refused parameters.
+/// The error of parameters.
 #[derive(Clone, Debug, PartialEq, Drop, Error)]
 pub enum BulkExecuteRequestBuilderError {
-    /// The row or the request was refused.
+    /// The error of the row or the request.
     #[error(transparent)]
     Request(BulkExecuteRequestError),
     /// The parameters give no row.

@@ -1,4 +1,4 @@
-//! What stands before the values of a bulk request.
+//! The fields before the values of a bulk request.
 #![tactic(auto, using(mysql_wire::proofs::Packets::packets), unfolding(crate::specs::Head::head))]
 
 ghost use Rattle.std.specs.Prelude.{true, ◌≡◌, [], is_ok, IfOk, IsTrue, OnOk, OnErr, map};
@@ -66,7 +66,7 @@ fn owned_types(
     }
 }
 
-/// Reads so many types in a block of two bytes each.
+/// Reads `count` types in a block of two bytes each.
 fn read_types<'s>(count: usize, buf: &mut ParseBuf<'_>) -> Result<Vec<ParamType>, FaultOf<'s>>
     ensures value { Answers true (items_of result) buf.new ((types_block true count).reads buf.old) }
 {
@@ -78,7 +78,7 @@ fn read_types<'s>(count: usize, buf: &mut ParseBuf<'_>) -> Result<Vec<ParamType>
     Ok(owned_types(buf.alloc(), types)?)
 }
 
-/// Reads the types of so many columns, where they are sent. For no column it takes no memory.
+/// Reads the types of `count` columns, where they are sent. For no column it takes no memory.
 fn read_types_sent<'s>(
     sent: bool,
     count: usize,
@@ -96,7 +96,7 @@ fn read_types_sent<'s>(
     read_types(count, buf)
 }
 
-/// Reads the head of a request of so many columns. After a refusal the buffer is as it was.
+/// Reads the head of a request of `count` columns. After an error the buffer is unchanged.
 pub(crate) fn read_head<'s>(count: usize, buf: &mut ParseBuf<'_>) -> Result<Head, FaultOf<'s>>
     ensures value { Answers (keeps_lists count buf.old) result buf.new ((head.form count).reads buf.old) }
     ensures start { OnOk result (IsTrue (is_ok (head_start.reads buf.old))) }
@@ -117,7 +117,7 @@ pub(crate) fn read_head<'s>(count: usize, buf: &mut ParseBuf<'_>) -> Result<Head
 }
 
 impl Head {
-    /// The columns that the values have: those that the types tell of, where they are sent, else those handed in.
+    /// The columns of the values: by the types of the request if it sends them, otherwise those that are passed.
     pub(crate) fn value_columns(
         &self,
         alloc: Global,

@@ -15,7 +15,7 @@ ghost use Rattle.mysql_values.specs.declared.value.Value.{Value};
 ghost use Rattle.mysql_values.specs.Value.{Content};
 ghost use Rattle.mysql_bulk.specs.declared.error.BulkExecuteRequestBuilderError.TheVariants as refused;
 ghost use Rattle.mysql_bulk.specs.declared.error.BulkExecuteRequestError.{BulkExecuteRequestError};
-ghost use Rattle.mysql_bulk.specs.declared.error.BulkRowRefusal.{BulkRowRefusal};
+ghost use Rattle.mysql_bulk.specs.declared.error.BulkRowError.{BulkRowError};
 ghost use Rattle.mysql_bulk.specs.Builder.{BuilderState, Adds, AddsCopy, BuildsRequest, IsConsistent, IsRequest, packing};
 ghost use Rattle.mysql_bulk.specs.CollectedRows.{Collects, EndsRefused};
 ghost use Rattle.mysql_bulk.specs.RunLoop.{WholeLoop, SentAllRows, RefusedRow, RefusedParams};
@@ -58,8 +58,8 @@ pub fn request_has_the_size_of_its_rows()
         length (request_bytes request) ≡ request_size (packing s (first_length rows)) s.types_due rows }
 {}
 
-/// A fewest cut of rows is checked a fewest one by the sizes of the rows, so that `cut_is_fewest` is true of the ends
-/// that `build_all` gives without a refusal on a new builder.
+/// A cut into the fewest requests is one by the sizes of the rows too, so `cut_is_fewest` returns true for the ends that
+/// `build_all` returns, without an error, on a new builder.
 pub fn fewest_cut_is_named_by_its_ends()
     ensures { (rule : BulkRule) (limit : ℕ) (rows : List (List Content)) (cut : List (List (List Content))) →
         IsFewest (rows_packing rule limit (first_length rows)) rows cut → NamesFewest (weights rule limit (first_length rows)) (map row_size rows) (ends_after 0 cut) }
@@ -83,39 +83,39 @@ pub fn loop_that_refuses_a_row<I: Iterator<Item = Vec<Value>>>()
         WholeLoop (NextRequest I.next_gives) s requests (Some (refused.Request e)) u → RefusedRow I.next_gives s requests e u }
 {}
 
-/// The same over an input of parameters, whose values by these names are the rows: a loop that ends by `None`.
+/// A loop over parameters that ends with `None` has sent all rows, each with its values by name.
 pub fn params_loop_that_ends_sent_all_rows<I: Iterator<Item = Params>>()
     ensures { (names : Names) (s u : RunState I) (requests : List BulkRequest) →
         WholeLoop (NextRequestOfParams I.next_gives names) s requests None u → SentAllRows (GivesRowOfParams I.next_gives names) s requests u }
 {}
 
-/// One that ends by the refusal of a row.
+/// A run that ends with the error of a row.
 pub fn params_loop_that_refuses_a_row<I: Iterator<Item = Params>>()
     ensures { (names : Names) (s u : RunState I) (requests : List BulkRequest) (e : BulkExecuteRequestError) →
         WholeLoop (NextRequestOfParams I.next_gives names) s requests (Some (refused.Request e)) u → RefusedRow (GivesRowOfParams I.next_gives names) s requests e u }
 {}
 
-/// One that ends by `Params`: that is the error of the first parameters of the input that give no row, and no row before
-/// them was refused.
+/// A run that ends with `Params`: that is the error of the first parameters of the input that give no row, and no row before
+/// them has an error.
 pub fn params_loop_that_refuses_params<I: Iterator<Item = Params>>()
     ensures { (names : Names) (s u : RunState I) (requests : List BulkRequest) (e : ParamsError) →
         WholeLoop (NextRequestOfParams I.next_gives names) s requests (Some (refused.Params e)) u → RefusedParams I.next_gives names s requests e u }
 {}
 
-/// A loop that offers rows to a builder, and builds a request where one does not fit, gives what `build_all` gives of these rows:
-/// with the request that is built after the last, no row is lost, and from a new builder they are the fewest. So it does where
-/// a row is refused.
+/// A loop that adds rows to a builder, and builds a request if one doesn't fit, gives what `build_all` gives for these rows:
+/// with the request that is built after the last one, no row is lost, and from a new builder the requests are the fewest. This
+/// also holds if a row is an error.
 pub fn collected_rows_are_sent_in_the_fewest_requests()
     ensures all { (s t u : BuilderState) (rows : List (List Content)) (requests : List BulkRequest) (last : BulkRequest) →
         IsConsistent s → Collects s rows requests t → BuildsRequest t last u → (ends : List ℕ) × RunGives s (s.waiting ++ rows) (requests ++ last ∷ []) ends None u }
     ensures refused { (s t : BuilderState) (rows later : List (List Content)) (requests : List BulkRequest) (row : Vec Value) (e : BulkExecuteRequestError) →
         IsConsistent s → Collects s rows requests t → Adds t row (Err e) t → (ends : List ℕ) × RunGives s (s.waiting ++ (rows ++ contents_of_row row ∷ later)) requests ends (Some (refused.Request e)) t }
-    ensures copy_refused { (s t : BuilderState) (rows later : List (List Content)) (requests : List BulkRequest) (row : List Content) (e : BulkRowRefusal) →
+    ensures copy_refused { (s t : BuilderState) (rows later : List (List Content)) (requests : List BulkRequest) (row : List Content) (e : BulkRowError) →
         IsConsistent s → Collects s rows requests t → AddsCopy t row (Err e) t → EndsRefused s rows requests row later e t }
 {}
 
-/// What is written of a row of values, DEFAULT and IGNORE, which its types spell, is read again under these types, whatever
-/// follows: each value after its indicator, a number of a narrow type as a signed one; DEFAULT and IGNORE as their indicators.
+/// A row of values, DEFAULT and IGNORE, which its types spell, is read back under these types, whatever bytes follow: each
+/// value after its indicator, a number of a narrow type as a signed one; DEFAULT and IGNORE as their indicators.
 pub fn value_rows_round_trip()
     ensures cell { (t : ParamType) (cell : Cell) (bytes rest : List ℕ) → CellFits cell → cell_spelled t cell ≡ Some bytes
         → (param_value t.column_type (is_unsigned_type t)).Spells (cell_read t cell) (bytes ++ rest) rest }
@@ -126,29 +126,30 @@ pub fn value_rows_round_trip()
 {}
 
 /// Rows of values, DEFAULT and IGNORE that are streamed through a writer under declared types of any width give what
-/// `build_all_values` gives of these rows: with the request that is let go after the last, no row is lost, and where types were due
-/// they are the fewest, by their sizes under these types. So it does where a row is refused, whatever comes after it.
+/// `build_all_values` gives for these rows: with the request that is finished after the last one, no row is lost, and if types
+/// were due the requests are the fewest, by their sizes under these types. This also holds if a row is an error, whatever
+/// follows it.
 pub fn streamed_values_are_sent_in_the_fewest_requests()
     ensures all { (w u v : WriterState) (before rows : List (List Cell)) (requests : List (List ℕ)) → HoldsCells w before → StreamsCells w rows requests u → u.count ≢ 0 → LetsGo u v
         → CellsRunGives w before rows (requests ++ u.bytes ∷ []) None v }
-    ensures refused { (w u v : WriterState) (before rows later : List (List Cell)) (requests : List (List ℕ)) (row : List Cell) (e : BulkRowRefusal) → HoldsCells w before → StreamsCells w rows requests u
+    ensures refused { (w u v : WriterState) (before rows later : List (List Cell)) (requests : List (List ℕ)) (row : List Cell) (e : BulkRowError) → HoldsCells w before → StreamsCells w rows requests u
         → AddsCells u row (Err e) v → CellsRunGives w before (rows ++ row ∷ later) requests (Some e) v }
     ensures new { (w : WriterState) → w.count ≡ 0 → w.size ≡ 0 → w.bytes ≡ [] → HoldsCells w [] }
 {}
 
-/// Rows that are streamed through a new writer, where each request is let go once a row does not fit with those that wait, are
-/// sent in the fewest requests: the last one is that of the rows that wait at the end. Where a row is refused, it is the right one,
-/// and the requests before it are full from the front.
+/// Rows that are streamed through a new writer, where each request is finished once a row doesn't fit with those that wait, are
+/// sent in the fewest requests: the last one is that of the rows that wait at the end. If a row is an error, it is the right
+/// one, and the requests before it are full from the front.
 pub fn streamed_rows_are_sent_in_the_fewest_requests()
     ensures all { (w u : WriterState) (rows : List (List Content)) (requests : List (List ℕ)) →
         Holds w [] → w.types_due ≡ true → Streams w rows requests u → rows ≢ [] → AreFewest w rows (requests ++ u.bytes ∷ []) }
-    ensures refused { (w u v : WriterState) (rows later : List (List Content)) (requests : List (List ℕ)) (row : List Content) (e : BulkRowRefusal) →
+    ensures refused { (w u v : WriterState) (rows later : List (List Content)) (requests : List (List ℕ)) (row : List Content) (e : BulkRowError) →
         Holds w [] → Streams w rows requests u → AddsAsBuilder u row (Err e) v → StreamEndsRefused w rows requests row later e u }
 {}
 
 // ---- what is written is read again
 
-/// What is written of a value is read again, whatever follows, where it agrees with its column's type.
+/// A value is read back, whatever bytes follow, where it agrees with its column's type.
 pub fn param_value_round_trips()
     ensures agrees { (column : BulkColumn) (value : Content) → Agrees column.0 (has column.1.0 UNSIGNED_FLAG) value → ParamValueAgrees column (with_indicator value) }
     ensures spelled { (column : BulkColumn) (value : ParamValue) (rest : List ℕ) → ParamValueAgrees column value →
@@ -157,8 +158,8 @@ pub fn param_value_round_trips()
         (param_value column.0 (has column.1.0 UNSIGNED_FLAG)).reads (param_value_bytes value ++ rest) ≡ Ok (value, rest) }
 {}
 
-/// What is written of the values of a row is read again, whatever follows, where there is one for each column and each
-/// agrees with its column's type.
+/// The values of a row are read back, whatever bytes follow, if there is one for each column and each agrees with its column's
+/// type.
 pub fn param_values_round_trips()
     ensures spelled { (columns : List BulkColumn) (values : List ParamValue) (rest : List ℕ) → AllZip ParamValueAgrees columns values →
         (values_of_columns columns).Spells values (values_bytes values ++ rest) rest }
@@ -166,7 +167,7 @@ pub fn param_values_round_trips()
         (values_of_columns columns).reads (values_bytes values ++ rest) ≡ Ok (values, rest) }
 {}
 
-/// What is written of a request of one row is read again, whatever follows.
+/// A request of one row is read back, whatever bytes follow.
 pub fn request_of_one_row_round_trips()
     ensures spelled { (columns : List BulkColumn) (request : BulkRequest) (rest : List ℕ) → RequestFits columns request →
         (bulk_request columns).Spells request (request_bytes request ++ rest) rest }
@@ -174,8 +175,8 @@ pub fn request_of_one_row_round_trips()
         (bulk_request columns).reads (request_bytes request ++ rest) ≡ Ok (request, rest) }
 {}
 
-/// What is written of a request of rows is read again as these rows, where each has as many values as there are
-/// columns, at least one, which agree with the types that the request tells of, or else with those handed in.
+/// A request of rows is read back as these rows, where each has as many values as there are columns, at least one, which agree
+/// with the types that the request tells of, or else with those handed in.
 pub fn request_rows_round_trips()
     ensures spelled { (columns : List BulkColumn) (request : BulkRequest) (rows : List (List Content)) → RowsFit columns request rows → (bulk_rows columns).Spells rows (request_bytes request) [] }
     ensures read { (columns : List BulkColumn) (request : BulkRequest) (rows : List (List Content)) → RowsFit columns request rows → (bulk_rows columns).reads (request_bytes request) ≡ Ok (rows, []) }
@@ -187,8 +188,8 @@ pub fn built_rows_round_trips()
         IsRequest s rows request → PartAgrees s columns rows → (bulk_rows columns).reads (request_bytes request) ≡ Ok (rows, []) }
 {}
 
-/// Where types were declared, a request is read as the rows that were handed in, whose numbers are signed or unsigned as the
-/// types say: under the types that it sends, or under the same types where it sends none.
+/// If types were declared, a request is read as the rows that it was built from, whose integers are signed or unsigned as the
+/// types say: under the types that it sends, or under the same types if it sends none.
 pub fn rows_under_declared_types_round_trips()
     ensures { (s : BuilderState) (types : List ParamType) (rows : List (List Content)) (request : BulkRequest) →
         IsRequest s rows request → IsDeclaredPart s types rows →

@@ -25,9 +25,9 @@ mod whole_run;
 
 pub use builder::ComStmtBulkExecuteRequestBuilder;
 pub use bulk_value::BulkValue;
-pub use column_types::{may_be_declared, spells};
+pub use column_types::{can_encode, is_declarable};
 pub use error::{
-    BulkColumnTypeError, BulkExecuteRequestBuilderError, BulkExecuteRequestError, BulkRowRefusal,
+    BulkColumnTypeError, BulkExecuteRequestBuilderError, BulkExecuteRequestError, BulkRowError,
 };
 pub use head::{ComStmtBulkExecuteHeader, InvalidComStmtBulkExecuteHeader};
 pub use mysql_values::ParamType as StmtBulkExecuteParamType;

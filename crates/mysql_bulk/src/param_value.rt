@@ -12,7 +12,7 @@ use mysql_wire::{
 use std::alloc::AllocError;
 use std::marker::Model;
 
-/// The indicator of a value that none was read for: `BULK_INDICATOR_NULL` for `NULL`, else `BULK_INDICATOR_NONE`.
+/// The indicator of a value that wasn't read with one: `BULK_INDICATOR_NULL` for `NULL`, otherwise `BULK_INDICATOR_NONE`.
 #[inline(always)]
 pub(crate) fn indicator_of(value: &Value) -> MariadbBulkIndicator
     ensures { result ≡ indicator_of (content_of value.now) }
@@ -53,7 +53,7 @@ impl StmtBulkExecuteParamValue {
     ghost use Rattle.mysql_bulk.specs.ParamValue.{with_indicator};
     ghost use Rattle.mysql_values.specs.Value.{content_of};
 
-    /// The value with its indicator: `BULK_INDICATOR_NULL` for `NULL`, else `BULK_INDICATOR_NONE`.
+    /// Creates the value with its indicator: `BULK_INDICATOR_NULL` for `NULL`, otherwise `BULK_INDICATOR_NONE`.
     #[inline]
     pub fn new(value: Value) -> Self
         ensures { result ≡ with_indicator (content_of value) }
@@ -117,8 +117,7 @@ impl PartialEq for StmtBulkExecuteParamValue {
     }
 }
 
-/// The indicator in a byte; after `BULK_INDICATOR_NONE` a value of the column's type, else none. A string of at least one
-/// byte alone takes memory.
+/// The indicator in a byte, and after `BULK_INDICATOR_NONE` a value of the column's type. Only a nonempty string takes memory.
 impl<'de> MyDeserialize<'de> for StmtBulkExecuteParamValue {
     const SIZE: Option<usize> = None;
 

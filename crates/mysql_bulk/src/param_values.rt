@@ -17,7 +17,7 @@ use std::alloc::{AllocError, Global};
 use std::convert::AsSlice;
 use std::marker::Model;
 
-/// Reads a value of each column. It takes memory once the first one is read. After a refusal the buffer is as it was.
+/// Reads a value of each column. It takes memory once the first one is read. After an error the buffer is unchanged.
 pub(crate) fn read_values<'s>(
     columns: &[(ColumnType, ColumnFlags)],
     buf: &mut ParseBuf<'_>,
@@ -95,7 +95,7 @@ impl AsSlice<StmtBulkExecuteParamValue> for StmtBulkExecuteParamValues {
     }
 }
 
-/// A value of each column, whose types and flags are handed in. It takes memory once the first value is read.
+/// A value of each column, whose types and flags are passed. It takes memory once the first value is read.
 impl<'de> MyDeserialize<'de> for StmtBulkExecuteParamValues {
     const SIZE: Option<usize> = None;
 

@@ -31,7 +31,7 @@ fn take_params<I: Iterator<Item = Params>>(
     Ok(None)
 }
 
-/// The same, where a row that was given back comes first.
+/// Fills the builder from the parameters, after a row that was returned as too large.
 fn fill_params<I: Iterator<Item = Params>>(
     builder: &mut ComStmtBulkExecuteRequestBuilder<'_>,
     carried: Option<Vec<Value>>,

@@ -11,7 +11,7 @@ use crate::param_value::StmtBulkExecuteParamValue;
 use mysql_values::Value;
 use mysql_wire::{ColumnFlags, ColumnType, FaultOf, ParseBuf};
 
-/// Reads a value of each column. After a refusal the buffer is as it was.
+/// Reads a value of each column. After an error the buffer is unchanged.
 fn read_row<'s>(
     columns: &[(ColumnType, ColumnFlags)],
     buf: &mut ParseBuf<'_>,
@@ -29,7 +29,7 @@ fn read_row<'s>(
     Ok(row)
 }
 
-/// Reads rows until the buffer is empty. After a refusal the buffer is as it was.
+/// Reads rows until the buffer is empty. After an error the buffer is unchanged.
 fn read_rows<'s>(
     columns: &[(ColumnType, ColumnFlags)],
     buf: &mut ParseBuf<'_>,
@@ -64,11 +64,10 @@ fn read_no_rows<'s>(rest: &ParseBuf<'_>) -> Result<Vec<Vec<Value>>, FaultOf<'s>>
 /// Reads a bulk request (`COM_STMT_BULK_EXECUTE`) as rows: its header, the statement's number and the flags, the types
 /// where they are sent, and then rows until the bytes end.
 ///
-/// `columns` are the types and flags of the columns, for a request that does not send types; where it does, those types
-/// stand in their place. A value that is the column's default, or is to be left as it is, is `NULL`. Bytes that are
-/// missing are `UnexpectedEof`, another header is `InvalidData`, and so are bytes after the head where there is no
-/// column. Without a column, and for bytes that begin no request, it takes no memory. After a refusal the buffer is as it
-/// was.
+/// `columns` are the types and flags of the columns, for a request that does not send types; if it does, its types replace
+/// them. A value that is the column's default, or is to be ignored, is `NULL`. Missing bytes are `UnexpectedEof`, another
+/// header is `InvalidData`, and so are bytes after the head if there is no column. Without a column, and for an invalid head,
+/// it takes no memory. After an error the buffer is unchanged.
 pub fn read_bulk_rows<'s>(
     columns: &[(ColumnType, ColumnFlags)],
     buf: &mut ParseBuf<'_>,

@@ -47,7 +47,7 @@ fn with_head(
     }
 }
 
-/// How many bytes a request is written as, or `usize::MAX` where that is less.
+/// The encoded length in bytes, or `usize::MAX` if it is greater.
 #[tactic(auto, using(crate::proofs::RequestBytes::request_lengths), unfolding(mysql_wire::specs::Writing::saturated))]
 fn written_len(types: &[ParamType], values: &[Value]) -> usize
     ensures { result ≡ saturated (7 + 2 * length types.now + row_size (contents_of values.now)) }
@@ -87,6 +87,15 @@ fn gather(
 }
 
 /// `COM_STMT_BULK_EXECUTE`: the values of some rows, with which a prepared statement is executed for each row.
+///
+/// ```
+/// let mut builder = builder.with_column_types(types)?;
+/// let mut sent = 0usize;
+/// for request in builder.build_iter(rows) {
+///     send(connection, &request?)?;
+///     sent = sent.saturating_add(1);
+/// }
+/// ```
 #[derive(Debug)]
 pub struct ComStmtBulkExecuteRequest {
     pub(crate) stmt_id: u32,
@@ -95,7 +104,7 @@ pub struct ComStmtBulkExecuteRequest {
     pub(crate) values: Vec<Value>,
     /// The indicators that were read with the values: none where the request was built.
     pub(crate) indicators: Vec<MariadbBulkIndicator>,
-    /// How many bytes the request is written as, or `usize::MAX` where that is less.
+    /// The encoded length of the request in bytes, or `usize::MAX` if it is greater.
     pub(crate) size: usize,
 }
 
@@ -140,8 +149,8 @@ impl Model for ComStmtBulkExecuteRequest {
 impl ComStmtBulkExecuteRequest {
     /// The request of some rows, with the types of their columns where the flags say that types are sent.
     ///
-    /// `NoParams` where there is no row, else `MixedArity` where two rows differ in length; else `Memory` where a growth
-    /// was refused. The rows are dropped in each case.
+    /// `NoParams` if there is no row, otherwise `MixedArity` if two rows differ in length, otherwise `Memory` if an allocation
+    /// fails. The rows are dropped in each case.
     pub fn new(
         alloc: Global,
         stmt_id: u32,
@@ -201,8 +210,8 @@ impl ComStmtBulkExecuteRequest {
         self.values.as_slice()
     }
 
-    /// The indicator that the value at this place stands after: the one that was read, or else the value's own,
-    /// `BULK_INDICATOR_NULL` for `NULL` and `BULK_INDICATOR_NONE` for others. `None` past the last value.
+    /// The indicator of the value at this place: the one that was read, or otherwise the value's own, `BULK_INDICATOR_NULL` for
+    /// `NULL` and `BULK_INDICATOR_NONE` for others. `None` past the last value.
     pub fn indicator(&self, place: usize) -> Option<MariadbBulkIndicator>
         ensures value { result ≡ option_map (λ (v : ParamValue). v.indicator) (slice_get self.now.values place) }
     {
@@ -259,8 +268,8 @@ impl PartialEq for ComStmtBulkExecuteRequest {
 
 /// The header, the statement's number, the flags, the types where they are sent, and one row of values.
 ///
-/// The types and flags of the columns are handed in; where the request sends types, those stand in their place.
-/// Further rows stay unread: see `read_bulk_rows`. Without a column, and for bytes that begin no request, it takes no memory.
+/// The types and flags of the columns are passed; if the request sends types, they replace these. Further rows stay unread: see
+/// `read_bulk_rows`. Without a column, and for an invalid head, it takes no memory.
 impl<'de> MyDeserialize<'de> for ComStmtBulkExecuteRequest {
     const SIZE: Option<usize> = None;
 

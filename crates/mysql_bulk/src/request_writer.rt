@@ -13,7 +13,7 @@ ghost use Rattle.mysql_bulk.specs.ValueRows.{HoldsCells, IsRequestOf, LetsGo};
 
 use crate::builder::{flags_of, size_with};
 use crate::column_types::{first_refused, spell_row};
-use crate::error::{BulkColumnTypeError, BulkRowRefusal};
+use crate::error::{BulkColumnTypeError, BulkRowError};
 use crate::head::ComStmtBulkExecuteHeader;
 use crate::size::request_len;
 use mysql_cuts::BulkRule;
@@ -31,15 +31,23 @@ mod values;
 use offered::{OfferedRow, PlainRow};
 pub use run::BulkValuesRun;
 
-/// Writes the rows of a bulk execution straight into the bytes of its requests, none of which is past the limit.
+/// Writes the rows of a bulk execution directly into the bytes of its requests, each within the packet limit.
 ///
-/// It answers what [`ComStmtBulkExecuteRequestBuilder`](crate::ComStmtBulkExecuteRequestBuilder) answers with the same
-/// settings and declared types, and its requests are those of that builder, byte for byte; but each byte of a value is copied
-/// once, and a row takes no memory beside that of the buffer. The types of the columns are declared when it is made, since
-/// they stand before the values in a request.
+/// Its results and its requests, byte for byte, are those of a
+/// [`ComStmtBulkExecuteRequestBuilder`](crate::ComStmtBulkExecuteRequestBuilder) with the same settings and declared types; but
+/// each byte of a value is copied once, and a row takes no memory besides the buffer. The types of the columns are declared
+/// when the writer is created, since they precede the values in a request.
 ///
-/// Rows are offered until one does not fit; then the request is taken from [`request`](Self::request), and after
-/// [`finish`](Self::finish) the row is offered again.
+/// Rows are added until one does not fit; then the request is taken from [`request`](Self::request), and after
+/// [`finish`](Self::finish) the row is added again.
+///
+/// ```
+/// match writer.add_row_refs(row) {
+///     Ok(true) => Ok(()),
+///     Ok(false) => Err(BulkRowError::TooLarge),
+///     Err(refusal) => Err(refusal),
+/// }
+/// ```
 #[derive(Debug, Drop)]
 pub struct BulkRequestWriter<'a> {
     stmt_id: u32,
@@ -75,7 +83,7 @@ impl<'a> Model for BulkRequestWriter<'a> {
     } };
 }
 
-/// Writes what stands before the values of a request, where there is capacity.
+/// Writes the fields before the values of a request, for which there is capacity.
 #[tactic(auto, using(mysql_wire::proofs::Packets::packets), unfolding(crate::specs::Head::head))]
 fn append_head(
     out: &mut Vec<u8>,
@@ -99,8 +107,8 @@ impl<'a> BulkRequestWriter<'a> {
     /// bytes as a packet may, less four. It takes no memory.
     ///
     /// The types of the columns are those that
-    /// [`with_column_types`](crate::ComStmtBulkExecuteRequestBuilder::with_column_types) takes. Where one may not be declared,
-    /// the error has its place.
+    /// [`with_column_types`](crate::ComStmtBulkExecuteRequestBuilder::with_column_types) accepts. If one can't be declared, the
+    /// error has its place.
     pub fn new(
         buffer: Vec<u8>,
         stmt_id: u32,
@@ -142,7 +150,7 @@ impl<'a> BulkRequestWriter<'a> {
         writer
     }
 
-    /// Sends at most so many rows in a request.
+    /// Sends at most `k` rows in a request.
     pub fn with_max_rows(self, k: usize) -> Self
         requires none_waits { self.count ≡ 0 }
         requires some { 1 ≤ k }
@@ -173,11 +181,11 @@ impl<'a> BulkRequestWriter<'a> {
 
     /// Offers a row, whose bytes are written where it fits.
     ///
-    /// Where the row fits with those that wait, it is written after them, and the answer is `Ok(true)`; where it does not fit
-    /// with those that wait it is `Ok(false)`, and the request is done with then. The refusals are those of
-    /// [`add_row_refs`](crate::ComStmtBulkExecuteRequestBuilder::add_row_refs): `Memory` where the buffer did not grow, and not
-    /// where it has the memory. Where no row is written, the writer stays as it was. The bytes of the row are counted first, and the buffer grows once at the
-    /// most.
+    /// If the row fits with those that wait, it is written after them, and the result is `Ok(true)`; if it doesn't, the result
+    /// is `Ok(false)`, and the request is complete. The errors are those of
+    /// [`add_row_refs`](crate::ComStmtBulkExecuteRequestBuilder::add_row_refs): `Memory` if the buffer couldn't grow, and not
+    /// if it has the capacity. If no row is written, the writer is unchanged. The bytes of the row are counted first, and the
+    /// buffer grows at most once.
     ///
     /// ```
     /// let taken = writer.add_row_refs(row)?;
@@ -188,22 +196,22 @@ impl<'a> BulkRequestWriter<'a> {
     /// ```
     // (inlined: a loop that offers rows of a known length is faster then)
     #[inline(always)]
-    pub fn add_row_refs(&mut self, row: &[ValueRef<'_>]) -> Result<bool, BulkRowRefusal>
+    pub fn add_row_refs(&mut self, row: &[ValueRef<'_>]) -> Result<bool, BulkRowError>
         ensures adds { AddsAsBuilder self.old (map ref_content row.now) result self.new }
         ensures waits { IfOk result (λ taken. taken ≡ false → self.new ≡ self.old) }
         ensures err { OnErr result (self.new ≡ self.old) }
         ensures capacity { self.old.capacity ≤ self.new.capacity }
-        ensures no_memory { HasRoom self.old (map ref_content row.now) → result ≢ Err BulkRowRefusal.Memory }
+        ensures no_memory { HasRoom self.old (map ref_content row.now) → result ≢ Err BulkRowError.Memory }
     {
         if row.len() != self.types.len() {
-            return Err(BulkRowRefusal::MixedArity);
+            return Err(BulkRowError::MixedArity);
         }
         if !spell_row(self.types, row) {
-            return Err(BulkRowRefusal::MixedTypes);
+            return Err(BulkRowError::MixedTypes);
         }
         let Some(size) = self.size_after(row) else {
             return if self.count == 0 {
-                Err(BulkRowRefusal::TooLarge)
+                Err(BulkRowError::TooLarge)
             } else {
                 Ok(false)
             };
@@ -212,13 +220,13 @@ impl<'a> BulkRequestWriter<'a> {
             return if self.write_first(&PlainRow { values: row }, size) {
                 Ok(true)
             } else {
-                Err(BulkRowRefusal::Memory)
+                Err(BulkRowError::Memory)
             };
         }
         if self.write_further(&PlainRow { values: row }, size) {
             Ok(true)
         } else {
-            Err(BulkRowRefusal::Memory)
+            Err(BulkRowError::Memory)
         }
     }
 
@@ -238,7 +246,7 @@ impl<'a> BulkRequestWriter<'a> {
         )
     }
 
-    /// Writes the first row of a request, after what stands before it. Where memory is refused, nothing is written.
+    /// Writes the first row of a request, after the fields before it. If the allocation fails, nothing is written.
     fn write_first<R: OfferedRow>(&mut self, row: &R, size: u64) -> bool
         requires { size ≡ self.old.size + length (R.bytes row.now) }
         ensures written { OnTrue result (self.new ≡ with_row self.old (self.old.bytes ++ head_bytes self.old) size self.new.capacity (R.bytes row.now)) }
@@ -264,7 +272,7 @@ impl<'a> BulkRequestWriter<'a> {
         true
     }
 
-    /// Writes a further row. Where memory is refused, nothing is written.
+    /// Writes another row. If the allocation fails, nothing is written.
     #[inline(always)]
     fn write_further<R: OfferedRow>(&mut self, row: &R, size: u64) -> bool
         requires { size ≡ self.old.size + length (R.bytes row.now) }
@@ -317,8 +325,8 @@ impl<'a> BulkRequestWriter<'a> {
         Some(request)
     }
 
-    /// Lets the request go: its rows wait no longer, and the next row that is written begins another one. Where no row was
-    /// written, nothing changes. The memory of the buffer stays.
+    /// Finishes the request: its rows wait no longer, and the next row that is written begins another one. Without rows,
+    /// nothing changes. The buffer keeps its memory.
     pub fn finish(&mut self)
         ensures finishes { FinishesAsBuilder self.old self.new }
         ensures lets_go { LetsGo self.old self.new }

@@ -8,17 +8,17 @@ use crate::row_value::RowValue;
 use mysql_values::{ParamType, Value};
 use std::alloc::{AllocError, Global};
 
-/// How many bytes a row has in a request: of each value its indicator, and its own. `None` where that is past
-/// `u64::MAX`, and so past the limit of every request. It takes no memory.
+/// The length of a row in a request in bytes: of each value its indicator, and its own. `None` if it exceeds `u64::MAX`, and so
+/// the limit of every request. It takes no memory.
 ///
-/// Such sizes are what `cut_is_fewest` checks a cut by.
+/// `cut_is_fewest` checks a cut by such lengths.
 pub fn bulk_row_size(row: &[Value]) -> Option<u64>
     ensures value { MatchOption result (2 ^ 64 ≤ row_size (contents_of row.now)) (λ n. n ≡ row_size (contents_of row.now)) }
 {
     row_len(row)
 }
 
-/// The same, whoever keeps the bytes of its values.
+/// The length of a row's values, owned or borrowed.
 #[inline(always)]
 pub(crate) fn row_len<V: RowValue>(row: &[V]) -> Option<u64>
     ensures value { MatchOption result (2 ^ 64 ≤ row_size (map V.content row.now)) (λ n. n ≡ row_size (map V.content row.now)) }
@@ -36,7 +36,7 @@ fn size_of_values<V: RowValue>(row: &[V]) -> Option<u64>
     Some(size)
 }
 
-/// Whether each row has so many values.
+/// Whether each row has `arity` values.
 pub(crate) fn equally_long(rows: &[Vec<Value>], arity: usize) -> bool
     ensures { IsTrue result ↔ EqualLengths arity (contents_of_rows rows.now) }
 {
@@ -68,7 +68,7 @@ pub(crate) fn find_capacity(
     Ok(())
 }
 
-/// Moves the values of a row to the end, where there is capacity.
+/// Appends the values of a row, for which there is capacity, by moving them.
 pub(crate) fn append_row(values: &mut Vec<Value>, row: Vec<Value>)
     requires { vec_len values.old + length row.items ≤ vec_capacity values.old }
     ensures { values.new.items ≡ values.old.items ++ row.items }
@@ -77,10 +77,10 @@ pub(crate) fn append_row(values: &mut Vec<Value>, row: Vec<Value>)
     values.append(&mut row).unwrap();
 }
 
-/// Puts copies of the values of a row at the end, where there is capacity, and answers its bytes in a request: no more than
+/// Appends copies of the values of a row, for which there is capacity, and returns its length in a request: no more than
 /// `most`.
 ///
-/// `None` where it has more, or where memory for bytes of one was refused: then nothing is put there.
+/// `None` if it is longer, or if an allocation fails: then nothing is appended.
 #[inline(always)]
 pub(crate) fn append_copies<V: RowValue>(
     alloc: Global,

@@ -13,7 +13,7 @@ use mysql_values::{ParamType, Value, ValueRef};
 use mysql_wire::{Buffer, Const, MariadbBulkIndicator, MySerialize, parts};
 use std::alloc::Global;
 
-/// The indicator of `NULL`, after which no value stands.
+/// The indicator of `NULL`, after which no value follows.
 #[inline(always)]
 fn sent_null() -> Const<MariadbBulkIndicator, u8>
     ensures { result.0 ≡ BULK_INDICATOR_NULL }
@@ -21,7 +21,7 @@ fn sent_null() -> Const<MariadbBulkIndicator, u8>
     Const::new(MariadbBulkIndicator::BULK_INDICATOR_NULL)
 }
 
-/// The indicator of a value that stands after it.
+/// The indicator of a value that follows it.
 #[inline(always)]
 fn sent_value() -> Const<MariadbBulkIndicator, u8>
     ensures { result.0 ≡ BULK_INDICATOR_NONE }
@@ -33,14 +33,14 @@ fn sent_value() -> Const<MariadbBulkIndicator, u8>
 pub(crate) trait RowValue {
     ghost use Rattle.mysql_values.specs.Value.{Content};
 
-    /// What it holds.
+    /// The content of the value.
     ghost content: { Self → Content };
 
     /// The value with its bytes where they are.
     fn as_value_ref(&self) -> ValueRef<'_>
         ensures value { ref_content result ≡ content self.now };
 
-    /// How many bytes its binary form takes.
+    /// The length of its binary form in bytes.
     fn value_len(&self) -> u64
         ensures value { result ≡ bin_size (content self.now) };
 
@@ -52,7 +52,7 @@ pub(crate) trait RowValue {
     fn is_unsigned_number(&self) -> bool
         ensures value { result ≡ is_uint (content self.now) };
 
-    /// Writes it after its indicator, where there is capacity.
+    /// Writes it after its indicator, if there is capacity.
     fn append_cell<O: Buffer>(&self, out: &mut O)
         requires { length (O.held out.old) + length (cell (content self.now)) ≤ O.capacity out.old }
         ensures items { O.held out.new ≡ O.held out.old ++ cell (content self.now) }
@@ -60,10 +60,10 @@ pub(crate) trait RowValue {
         ensures capacity { O.capacity out.old ≤ O.capacity out.new }
         ensures kept { O.kept out.new ≡ O.kept out.old };
 
-    /// Puts a copy at the end of values that have capacity for it, and answers its bytes in a request: no more than `most`.
+    /// Appends a copy to values that have capacity for it, and returns its length in a request: no more than `most`.
     ///
-    /// `None` where it has more, or where memory for its bytes was refused: then nothing is put there. Of bytes the copy is
-    /// made in one piece.
+    /// `None` if it is longer, or if the allocation of its bytes fails: then nothing is appended. Bytes are copied in one
+    /// piece.
     fn push_copy(&self, alloc: Global, values: &mut Vec<Value>, most: u64) -> Option<u64>
         requires { vec_len values.old + 1 ≤ vec_capacity values.old }
         ensures size { IfSome result (λ n. (n ≡ 1 + bin_size (content self.now)) × (n ≤ most)) }
@@ -132,7 +132,7 @@ impl RowValue for Value {
     }
 }
 
-/// The same, for a value of any kind.
+/// Appends a copy of a value of any kind, if it has at most `most` bytes.
 #[inline(never)]
 fn push_any(alloc: Global, values: &mut Vec<Value>, value: &Value, most: u64) -> Option<u64>
     requires { vec_len values.old + 1 ≤ vec_capacity values.old }

@@ -30,7 +30,7 @@ fn take_rows<I: Iterator<Item = Vec<Value>>>(
     Ok(None)
 }
 
-/// The same, where a row that was given back comes first.
+/// Fills the builder from the rows, after a row that was returned as too large.
 pub(crate) fn fill<I: Iterator<Item = Vec<Value>>>(
     builder: &mut ComStmtBulkExecuteRequestBuilder<'_>,
     carried: Option<Vec<Value>>,
@@ -50,7 +50,7 @@ pub(crate) fn fill<I: Iterator<Item = Vec<Value>>>(
     take_rows(builder, rows)
 }
 
-/// What a run answers once rows were taken: the request of those that wait, or none where none wait.
+/// The result of a run once rows were taken: the request of those that wait, or `None` if none wait.
 pub(crate) fn answer_waiting(
     builder: &mut ComStmtBulkExecuteRequestBuilder<'_>,
 ) -> Option<Result<ComStmtBulkExecuteRequest, BulkExecuteRequestBuilderError>>
@@ -64,8 +64,8 @@ pub(crate) fn answer_waiting(
 
 /// The requests of a run: each `next` takes rows until one does not fit, which it carries over to the next request.
 ///
-/// When the input ends, the waiting rows are built, and then the answer is `None`; the input is asked no more. After an
-/// `Err` the answer is `None` too. The rows that were accepted since the last request stay in the builder.
+/// When the input ends, the waiting rows are built, and then the result is `None`; the input isn't called again. After an `Err`
+/// the result is `None` too. The rows that were accepted since the last request stay in the builder.
 #[derive(Drop)]
 pub struct BulkRequests<'b, 'a, I, R = Vec<Value>> {
     builder: &'b mut ComStmtBulkExecuteRequestBuilder<'a>,

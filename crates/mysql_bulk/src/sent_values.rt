@@ -1,4 +1,4 @@
-//! Values as they stand in a request, each after its indicator.
+//! Values of a request, each after its indicator.
 
 ghost use Rattle.std.specs.Prelude.{◌≡◌, ◌+◌, ◌<◌, ◌≤◌, ◌++◌, length, List, ℕ, IfOk, Some, slice_get};
 ghost use Rattle.std.specs.Cmp.Lexicographic.{pointwise};
@@ -14,7 +14,7 @@ use mysql_wire::{Buffer, Const, MariadbBulkIndicator, MySerialize, Parts, Sink, 
 use std::alloc::{AllocError, Global};
 use std::marker::Model;
 
-/// How many bytes values take after their indicators, or `usize::MAX` where that is less.
+/// The length of values after their indicators in bytes, or `usize::MAX` if it is greater.
 #[tactic(auto, using(crate::proofs::RequestBytes::request_lengths), unfolding(mysql_wire::specs::Writing::saturated))]
 pub(crate) fn sent_len(values: &[Value]) -> usize
     ensures { result ≡ saturated (row_size (contents_of values.now)) }
@@ -102,7 +102,7 @@ impl<'a> PartialEq for SentValue<'a> {
     }
 }
 
-/// Whether each value stands after the same indicator and holds the same as the other at its place.
+/// Whether the values at each place have the same indicator and the same content.
 pub(crate) fn same_values(a: &SentValues<'_>, b: &SentValues<'_>) -> bool
     ensures { result ≡ pointwise ⟦<StmtBulkExecuteParamValue as PartialEq>⟧.eq (sent_values a.now.indicators.now (contents_of a.now.values.now)) (sent_values b.now.indicators.now (contents_of b.now.values.now)) }
 {

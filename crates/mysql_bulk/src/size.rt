@@ -5,7 +5,7 @@ ghost use Rattle.mysql_bulk.specs.Row.{MayBeRequest};
 
 use mysql_cuts::BulkRule;
 
-/// How many bytes a request has, of so many values a row and so many bytes of rows, if that fits a number.
+/// The length of a request with this number of values per row, whose rows have this many bytes, if it fits in a `u64`.
 pub(crate) fn request_len(arity: usize, types: bool, rows: u64) -> Option<u64>
     ensures { MatchOption result (2 ^ 64 ≤ 7 + (if types then 2 * arity else 0) + rows) (λ n. n ≡ 7 + (if types then 2 * arity else 0) + rows) }
 {
@@ -17,7 +17,7 @@ pub(crate) fn request_len(arity: usize, types: bool, rows: u64) -> Option<u64>
     head.checked_add(rows)
 }
 
-/// The bytes of so many rows with one more of so many bytes, if these may be one request.
+/// The bytes of a given number of rows with one more of a given number of bytes, if these may be one request.
 pub(crate) fn size_within(
     rule: BulkRule,
     limit: u64,

@@ -11,18 +11,18 @@ use crate::run::fill;
 use mysql_values::Value;
 use std::alloc::AllocError;
 
-/// What a whole run gave.
+/// The result of a whole run.
 #[derive(Debug, Drop)]
 pub struct BulkRun {
     /// The requests, in the order of the rows.
     pub requests: Vec<ComStmtBulkExecuteRequest>,
-    /// How many rows were sent up to and with each request, those that had waited before the run first.
+    /// The number of rows that were sent up to and with each request, counting those that had waited before the run.
     pub ends: Vec<usize>,
     /// Why the run ended before the rows did, if so. The rows not yet accepted are dropped then.
     pub refusal: Option<BulkExecuteRequestBuilderError>,
 }
 
-/// Builds the next request of a run, and says how many rows are sent with it. Capacity is found before anything changes.
+/// Builds the next request of a run, and records how many rows are sent with it. Capacity is reserved before anything changes.
 fn send(
     builder: &mut ComStmtBulkExecuteRequestBuilder<'_>,
     requests: &mut Vec<ComStmtBulkExecuteRequest>,
@@ -85,17 +85,17 @@ impl<'a> ComStmtBulkExecuteRequestBuilder<'a> {
     /// Runs over all the rows, as `build_iter` does to its end: the requests of the rows that wait and of these, where each
     /// ends among the rows, and why the run ended before the rows did, if so.
     ///
-    /// No row is lost: the rows that were sent, those that wait now, and those that were refused or not reached are all the
-    /// rows that waited or were handed in, in this order. Those that were sent and wait are of one length, the builder's
-    /// arity if it had one. A request is built where it is due, and nowhere else: no row is left, or the next one is as
-    /// long and does not fit with those that wait, by the limit or by the most rows. Each request fits. The arity, and
-    /// whether types are due, are those after the rows that were sent and wait.
+    /// No row is lost: the rows that were sent, those that wait now, and those that were rejected or not reached are all the
+    /// rows that waited or were passed, in this order. Those that were sent and wait have one length, the builder's arity if it
+    /// had one. A request is built exactly when it is due: no row is left, or the next one has the same length and doesn't fit
+    /// with those that wait, by the packet limit or by the maximum number of rows. Each request fits. The arity, and whether
+    /// types are due, are those after the rows that were sent and wait.
     ///
-    /// Where an allocation failed it ends with `MemoryRow`, which hands back a row that fits, or with `Memory`, where a
-    /// request is due, whose rows wait; what was given stands.
+    /// If an allocation fails it ends with `MemoryRow`, which returns a row that fits, or with `Memory`, if a request is due,
+    /// whose rows wait; what was returned before remains valid.
     ///
-    /// On a new builder it refuses exactly where two rows differ in length (`MixedArity`) or no cut of the rows into
-    /// requests fits the limit (`RowTooLarge`, with the first row that no fitting cut takes), and else no cut that fits
+    /// On a new builder it returns an error exactly if two rows differ in length (`MixedArity`) or no cut of the rows into
+    /// requests fits the limit (`RowTooLarge`, with the first row that no fitting cut contains), and otherwise no cut that fits
     /// has fewer requests.
     ///
     /// ```

@@ -16,7 +16,7 @@ use Rattle.mysql_repl.specs.BinlogDumpGtid.{gtid_dump}
 use Rattle.mysql_repl.specs.RegisterSlave.{register_slave}
 use Rattle.mysql_repl.specs.TableDump.{table_dump}
 use Rattle.mysql_commands.specs.After.{after, fixed, text, one_byte, optional_byte, one_number}
-use Rattle.mysql_commands.specs.AsSent.{command_as_sent}
+use Rattle.mysql_commands.specs.WithRawBytes.{command_as_sent}
 use Rattle.mysql_commands.specs.BulkExecute.{bulk_execute}
 use Rattle.mysql_commands.specs.FieldList.{field_list}
 use Rattle.mysql_commands.specs.Query.{query}

@@ -1,9 +1,10 @@
-pub mod AsSent
+pub mod WithRawBytes
 pub mod After
 pub mod AsRead
 pub mod BulkExecute
 pub mod FieldList
 pub mod QueryAttributes
+pub mod PartialQuery
 pub mod Query
 pub mod SentQuery
 pub mod SetOption

@@ -3,20 +3,20 @@ use Rattle.std.specs.Prelude.{ℕ, Bool, List, Option, refl}
 use Rattle.mysql_wire.specs.Codecs.{Codec, Fields, ◌>>=◌, give, field, packet, when, const_u8, string_eof}
 use Rattle.mysql_wire.specs.FlagMasks.{CLIENT_QUERY_ATTRIBUTES}
 use Rattle.mysql_wire.specs.Flags.{CapabilityFlags, has}
-use Rattle.mysql_commands.specs.AsSent.{as_sent}
+use Rattle.mysql_commands.specs.WithRawBytes.{as_sent}
 use Rattle.mysql_prepared.specs.Attributes.{Attribute}
 use Rattle.mysql_commands.specs.QueryAttributes.{query_attributes}
-use Rattle.mysql_commands.specs.declared.as_sent.AsSent.{AsSent}
+use Rattle.mysql_commands.specs.declared.with_raw_bytes.WithRawBytes.{WithRawBytes}
 use Rattle.mysql_commands.specs.declared.query.ComQueryRef.{ComQueryRef}
 use Rattle.mysql_commands.specs.declared.query.InvalidComQueryHeader.{InvalidComQueryHeader}
 
 abbrev pub text : ComQueryRef → List ℕ
 text p = p.text
 
-abbrev pub sent_attributes : ComQueryRef → Option (AsSent (List Attribute))
+abbrev pub sent_attributes : ComQueryRef → Option (WithRawBytes (List Attribute))
 sent_attributes p = p.attributes
 
-abbrev pub query_of : Option (AsSent (List Attribute)) → List ℕ → ComQueryRef
+abbrev pub query_of : Option (WithRawBytes (List Attribute)) → List ℕ → ComQueryRef
 query_of attributes text = record { attributes = attributes; text = text }
 
 -- attributes stand before the text

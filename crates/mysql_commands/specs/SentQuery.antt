@@ -14,9 +14,9 @@ use Rattle.mysql_prepared.specs.ReadAgain.{SentFits, attribute_read}
 use Rattle.mysql_prepared.specs.SentParam.{attribute_type, sent_attributes}
 use Rattle.mysql_prepared.specs.declared.com_query.ComQuery.{ComQuery}
 use Rattle.mysql_prepared.specs.declared.execute_param.QueryAttribute.{QueryAttribute}
-use Rattle.mysql_commands.specs.AsSent.{sent_of}
+use Rattle.mysql_commands.specs.WithRawBytes.{sent_of}
 use Rattle.mysql_commands.specs.Query.{query_of, sends_attributes}
-use Rattle.mysql_commands.specs.declared.as_sent.AsSent.{AsSent}
+use Rattle.mysql_commands.specs.declared.with_raw_bytes.WithRawBytes.{WithRawBytes}
 use Rattle.mysql_commands.specs.declared.query.ComQueryRef.{ComQueryRef}
 
 -- ---- as what it is read
@@ -26,7 +26,7 @@ abbrev pub attributes_bytes : List QueryAttribute → List ℕ
 attributes_bytes l = lenenc_bytes (length l) ++ le_bytes 1 1 ++ where_some l (some_bytes (sent_attributes l))
 
 -- each attribute with its name and its type, and its value as it is read under the type
-abbrev pub attributes_read : Option (List QueryAttribute) → Option (AsSent (List Attribute))
+abbrev pub attributes_read : Option (List QueryAttribute) → Option (WithRawBytes (List Attribute))
 attributes_read attributes = option_map (λ l. sent_of (map attribute_read l) (attributes_bytes l)) attributes
 
 -- the bytes of a query

@@ -11,7 +11,7 @@ use mysql_wire::{
     StmtBulkExecuteFlags, parts,
 };
 
-/// MariaDB's `COM_STMT_BULK_EXECUTE`, of which the statement's number tells how its rows lie.
+/// MariaDB's `COM_STMT_BULK_EXECUTE`. The layout of its rows depends on the statement.
 ///
 /// | Bytes | Field |
 /// |---|---|
@@ -49,7 +49,7 @@ impl<'a> ComStmtBulkExecuteRef<'a> {
         self.stmt_id
     }
 
-    /// Whether types are sent, and whether each row is answered.
+    /// Whether types are sent, and whether each row has its own result.
     #[inline]
     pub fn bulk_flags(&self) -> StmtBulkExecuteFlags
         ensures value { result ≡ spec.bulk_flags self.now }

@@ -1,6 +1,5 @@
 //! A command, by its first byte.
 
-use crate::as_sent::AsSent;
 use crate::bulk_execute::ComStmtBulkExecuteRef;
 use crate::bytes_ref::BytesRef;
 use crate::field_list::ComFieldListRef;
@@ -10,18 +9,24 @@ use crate::stmt_execute::ComStmtExecuteRef;
 use crate::stmt_fetch::ComStmtFetch;
 use crate::stmt_reset::ComStmtReset;
 use crate::unknown::UnknownCommand;
+use crate::with_raw_bytes::WithRawBytes;
 use mysql_auth::ComChangeUserRef;
 use mysql_prepared::{ComStmtClose, ComStmtSendLongDataRef};
 use mysql_repl::{ComBinlogDumpGtidRef, ComBinlogDumpRef, ComRegisterSlaveRef, ComTableDump};
 
-/// What a client asks of a server: a payload of the commands' phase, by its first byte.
+/// A client's command: a payload of the command phase, by its first byte.
 ///
-/// It is read under the capabilities that both sides have, and written as it was read, byte for byte. A command of one text is
-/// its byte and the text to the end, and one without a field its byte alone. The texts stay in the packet, and neither reading nor
+/// It is read under the capabilities of both sides, and written byte for byte as it was read. A command with one text is its
+/// byte and the text up to the end, and one without fields only its byte. The texts borrow from the packet; neither reading nor
 /// writing takes memory.
+///
+/// ```
+/// let command: Command<'_> = ParseBuf::new(alloc, payload).parse(agreed)?;
+/// Ok(matches!(&command, Command::Quit))
+/// ```
 #[derive(Clone, Debug, PartialEq, Eq, Drop)]
 pub enum Command<'a> {
-    /// `COM_QUIT`, `01`: the client ends the connection. Nothing is answered.
+    /// `COM_QUIT`, `01`: the client ends the connection. The server sends no answer.
     Quit,
     /// `COM_INIT_DB`, `02`, and the schema that becomes the default.
     InitDb(BytesRef<'a>),
@@ -29,13 +34,14 @@ pub enum Command<'a> {
     Query(ComQueryRef<'a>),
     /// `COM_FIELD_LIST`, `04`: the columns of a table.
     FieldList(ComFieldListRef<'a>),
-    /// `COM_CREATE_DB`, `05`, and the schema that is made.
+    /// `COM_CREATE_DB`, `05`, and the name of the schema to create.
     CreateDb(BytesRef<'a>),
     /// `COM_DROP_DB`, `06`, and the schema that is dropped.
     DropDb(BytesRef<'a>),
-    /// `COM_REFRESH`, `07`, and a byte with a bit for each of what is emptied or begun anew, as `REFRESH_LOG` 2 and `REFRESH_TABLES` 4.
+    /// `COM_REFRESH`, `07`, and a byte with a bit for each of the things to flush or reset, such as `REFRESH_LOG` 2 and
+    /// `REFRESH_TABLES` 4.
     Refresh(u8),
-    /// `COM_SHUTDOWN`, `08`, and a byte that says what is waited for, which may be left out: 0, `SHUTDOWN_DEFAULT`, or as servers name it.
+    /// `COM_SHUTDOWN`, `08`, and an optional byte that says what to wait for: 0, `SHUTDOWN_DEFAULT`, or another shutdown level.
     Shutdown(Option<u8>),
     /// `COM_STATISTICS`, `09`: a line about the server.
     Statistics,
@@ -48,7 +54,7 @@ pub enum Command<'a> {
     /// `COM_PING`, `0e`: whether the server is there.
     Ping,
     /// `COM_CHANGE_USER`, `11`. A client writes one as a [`ComChangeUser`](mysql_auth::ComChangeUser).
-    ChangeUser(AsSent<'a, ComChangeUserRef<'a>>),
+    ChangeUser(WithRawBytes<'a, ComChangeUserRef<'a>>),
     /// `COM_BINLOG_DUMP`, `12`.
     BinlogDump(ComBinlogDumpRef<'a>),
     /// `COM_TABLE_DUMP`, `13`.
@@ -59,9 +65,9 @@ pub enum Command<'a> {
     StmtPrepare(BytesRef<'a>),
     /// `COM_STMT_EXECUTE`, `17`.
     StmtExecute(ComStmtExecuteRef<'a>),
-    /// `COM_STMT_SEND_LONG_DATA`, `18`. Nothing is answered.
+    /// `COM_STMT_SEND_LONG_DATA`, `18`. The server sends no answer.
     StmtSendLongData(ComStmtSendLongDataRef<'a>),
-    /// `COM_STMT_CLOSE`, `19`. Nothing is answered.
+    /// `COM_STMT_CLOSE`, `19`. The server sends no answer.
     StmtClose(ComStmtClose),
     /// `COM_STMT_RESET`, `1a`.
     StmtReset(ComStmtReset),
@@ -70,7 +76,7 @@ pub enum Command<'a> {
     /// `COM_STMT_FETCH`, `1c`.
     StmtFetch(ComStmtFetch),
     /// `COM_BINLOG_DUMP_GTID`, `1e`. A replica writes one as a [`ComBinlogDumpGtid`](mysql_repl::ComBinlogDumpGtid).
-    BinlogDumpGtid(AsSent<'a, ComBinlogDumpGtidRef<'a>>),
+    BinlogDumpGtid(WithRawBytes<'a, ComBinlogDumpGtidRef<'a>>),
     /// `COM_RESET_CONNECTION`, `1f`: the session is as after its login.
     ResetConnection,
     /// MariaDB's `COM_STMT_BULK_EXECUTE`, `fa`.

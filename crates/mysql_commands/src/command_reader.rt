@@ -121,13 +121,13 @@ fn read_named<'s, 'a>(
     }
 }
 
-/// No byte at all is `UnexpectedEof`; else the command's record, or the fault of its reader.
+/// An empty payload is `UnexpectedEof`; otherwise the command's record, or the fault of its reader.
 impl<'de> MyDeserialize<'de> for Command<'de> {
     const SIZE: Option<usize> = None;
 
     type Size = AnyWidth;
 
-    /// What both sides can do.
+    /// The capabilities of both sides.
     type Ctx = CapabilityFlags;
 
     ghost form = { spec.command };

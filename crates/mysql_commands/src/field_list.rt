@@ -32,8 +32,12 @@ pub type ComFieldListHeader = ConstU8<InvalidComFieldListHeader, 0x04>;
 /// | to a zero | the table's name |
 /// | to the end | which columns, a pattern as LIKE has it |
 ///
-/// Without a zero it is `UnexpectedEof`, another first byte is `InvalidData`. The texts stay in the packet. Of a table's name that
-/// is written, what stands before a zero of its own counts.
+/// A missing zero is `UnexpectedEof`, another first byte is `InvalidData`. The texts borrow from the packet. A table's name is
+/// written up to its first zero.
+///
+/// ```
+/// Ok(ComFieldListRef::new(table, b"%").serialize(out)?)
+/// ```
 #[derive(Clone, Debug, PartialEq, Eq, Drop)]
 pub struct ComFieldListRef<'a> {
     table: BytesRef<'a>,

@@ -1,7 +1,6 @@
 //! Commands: what a client asks of a server once its login is done, by the first byte.
 #![tactic(auto)]
 
-mod as_sent;
 mod bulk_execute;
 mod bytes_ref;
 mod command;
@@ -9,6 +8,7 @@ mod command_reader;
 mod command_writer;
 mod field_list;
 pub mod laws;
+mod partial_query;
 mod query;
 mod query_attributes;
 mod set_option;
@@ -16,12 +16,13 @@ mod stmt_execute;
 mod stmt_fetch;
 mod stmt_reset;
 mod unknown;
+mod with_raw_bytes;
 
-pub use as_sent::AsSent;
 pub use bulk_execute::ComStmtBulkExecuteRef;
 pub use bytes_ref::BytesRef;
 pub use command::Command;
 pub use field_list::{ComFieldListHeader, ComFieldListRef, InvalidComFieldListHeader};
+pub use partial_query::read_query_attributes;
 pub use query::{ComQueryHeader, ComQueryRef, InvalidComQueryHeader};
 pub use query_attributes::{InvalidParameterSetCount, QueryAttributesRef};
 pub use set_option::{ComSetOption, ComSetOptionHeader, InvalidComSetOptionHeader, ServerOption};
@@ -29,3 +30,4 @@ pub use stmt_execute::ComStmtExecuteRef;
 pub use stmt_fetch::{ComStmtFetch, ComStmtFetchHeader, InvalidComStmtFetchHeader};
 pub use stmt_reset::{ComStmtReset, ComStmtResetHeader, InvalidComStmtResetHeader};
 pub use unknown::UnknownCommand;
+pub use with_raw_bytes::WithRawBytes;

@@ -2,12 +2,12 @@
 #![tactic(auto, using(mysql_wire::proofs::Packets::packets), unfolding(crate::specs::Query::query))]
 
 ghost use Rattle.std.specs.Prelude.{◌≡◌, None, option_map, refl};
-ghost use Rattle.mysql_commands.specs.AsSent.{value};
+ghost use Rattle.mysql_commands.specs.WithRawBytes.{value};
 ghost use Rattle.mysql_commands.specs.Query as spec;
 
-use crate::as_sent::AsSent;
 use crate::bytes_ref::BytesRef;
 use crate::query_attributes::QueryAttributesRef;
+use crate::with_raw_bytes::WithRawBytes;
 use mysql_wire::{
     AnyWidth, CapabilityFlags, ConstFault, ConstU8, FaultOf, Flags, MyDeserialize, ParseBuf, Parts,
     Sink, parts,
@@ -34,10 +34,15 @@ pub type ComQueryHeader = ConstU8<InvalidComQueryHeader, 0x03>;
 /// | as many as they take | the attributes, where both sides have CLIENT_QUERY_ATTRIBUTES: [`QueryAttributesRef`] |
 /// | to the end | the text |
 ///
-/// Another first byte is `InvalidData`; the attributes have faults of their own. It is written as it was read, byte for byte.
+/// Another first byte is `InvalidData`; the attributes have faults of their own. It is written byte for byte as it was read.
+///
+/// ```
+/// let query: ComQueryRef<'_> = ParseBuf::new(alloc, payload).parse(agreed)?;
+/// Ok(query.text())
+/// ```
 #[derive(Clone, Debug, PartialEq, Eq, Drop)]
 pub struct ComQueryRef<'a> {
-    attributes: Option<AsSent<'a, QueryAttributesRef<'a>>>,
+    attributes: Option<WithRawBytes<'a, QueryAttributesRef<'a>>>,
     text: BytesRef<'a>,
 }
 
@@ -60,7 +65,7 @@ impl<'a> ComQueryRef<'a> {
         self.text.as_bytes()
     }
 
-    /// The attributes, where they stand before the text.
+    /// The attributes, if they are sent before the text.
     #[inline]
     pub fn attributes(&self) -> Option<&QueryAttributesRef<'a>>
         ensures value { option_map (λ a. a.now) result ≡ option_map value (spec.sent_attributes self.now) }
@@ -77,7 +82,7 @@ impl<'de> MyDeserialize<'de> for ComQueryRef<'de> {
 
     type Size = AnyWidth;
 
-    /// What both sides can do.
+    /// The capabilities of both sides.
     type Ctx = CapabilityFlags;
 
     ghost form = { spec.query.form };

@@ -1,4 +1,4 @@
-//! The attributes of a query, where they lie.
+//! Borrowed attributes of a query.
 #![tactic(auto, using(mysql_wire::proofs::Packets::packets))]
 
 ghost use Rattle.std.specs.Prelude.{◌≡◌, ⊤, refl};
@@ -22,14 +22,15 @@ impl ConstFault for InvalidParameterSetCount {
     const MESSAGE: &'static str = "Invalid parameter_set_count of COM_QUERY";
 }
 
-/// The attributes of a query, as CLIENT_QUERY_ATTRIBUTES lets a client send them before its text, where they lie.
+/// The attributes of a query, which a client may send before its text under CLIENT_QUERY_ATTRIBUTES. They borrow from the
+/// packet.
 ///
 /// | Bytes | Field |
 /// |---|---|
 /// | 1 to 9 | how many there are, length-encoded |
 /// | 1 | how many sets of them there are, always 1 |
 ///
-/// Without attributes that is all. Else there follow
+/// Without attributes, nothing follows. Otherwise:
 ///
 /// | Bytes | Field |
 /// |---|---|
@@ -40,6 +41,14 @@ impl ConstFault for InvalidParameterSetCount {
 ///
 /// Missing bytes are `UnexpectedEof`. `InvalidData` are another count of sets, a byte 0 before the types, a type that is none and a value
 /// that is none of its type: what `parse_query_bind_params` (`sql/protocol_classic.cc`) calls malformed. It takes no memory. In a clause it is the list of the attributes.
+///
+/// ```
+/// let query: ComQueryRef<'_> = ParseBuf::new(alloc, payload).parse(agreed)?;
+/// Ok(match query.attributes() {
+///     Some(attributes) => attributes.view().left(),
+///     None => 0,
+/// })
+/// ```
 #[derive(Drop)]
 pub struct QueryAttributesRef<'a> {
     view: QueryAttributesView<'a>,

@@ -23,6 +23,11 @@ impl ConstFault for InvalidComSetOptionHeader {
 pub type ComSetOptionHeader = ConstU8<InvalidComSetOptionHeader, 0x1b>;
 
 /// `enum_mysql_set_option`: what a client chooses for its session.
+///
+/// ```
+/// let option = ServerOption::MultiStatementsOn;
+/// Ok(ComSetOption::new(option).serialize(out)?)
+/// ```
 #[derive(Clone, Copy, Debug, PartialEq, Eq, Hash)]
 pub enum ServerOption {
     /// A query may hold several statements.
@@ -40,7 +45,12 @@ pub enum ServerOption {
 /// | 1 | the byte `1b` |
 /// | 2 | the option's number, little-endian |
 ///
-/// Fewer than 3 bytes are refused as `UnexpectedEof`, another first byte as `InvalidData`. A number without an option is kept.
+/// Fewer than 3 bytes are `UnexpectedEof`, another first byte is `InvalidData`. An unknown number is kept.
+///
+/// ```
+/// let option = ServerOption::MultiStatementsOn;
+/// Ok(ComSetOption::new(option).serialize(out)?)
+/// ```
 #[derive(Clone, Copy, Debug, PartialEq, Eq)]
 pub struct ComSetOption {
     /// The option's number: that of a [`ServerOption`], or one that none has.

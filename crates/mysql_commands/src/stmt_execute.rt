@@ -8,7 +8,7 @@ use crate::bytes_ref::BytesRef;
 use mysql_prepared::ComStmtExecuteHead;
 use mysql_wire::{AnyWidth, FaultOf, MyDeserialize, ParseBuf, Parts, Sink, parts};
 
-/// `COM_STMT_EXECUTE`, of which the statement's number tells how its parameters lie.
+/// `COM_STMT_EXECUTE`. The layout of its parameters depends on the statement.
 ///
 /// | Bytes | Field |
 /// |---|---|
@@ -17,6 +17,11 @@ use mysql_wire::{AnyWidth, FaultOf, MyDeserialize, ParseBuf, Parts, Sink, parts}
 ///
 /// It has the faults of its head. Once the statement's parameters are known,
 /// [`ExecuteParamsView`](mysql_prepared::ExecuteParamsView) reads the bytes after the head.
+///
+/// ```
+/// let execution: ComStmtExecuteRef<'_> = ParseBuf::new(alloc, payload).parse(())?;
+/// Ok((execution.head().stmt_id(), execution.params()))
+/// ```
 #[derive(Clone, Debug, PartialEq, Eq, Drop)]
 pub struct ComStmtExecuteRef<'a> {
     head: ComStmtExecuteHead,

@@ -22,7 +22,7 @@ impl ConstFault for InvalidComStmtFetchHeader {
 /// The first byte of a request for rows: `1c`.
 pub type ComStmtFetchHeader = ConstU8<InvalidComStmtFetchHeader, 0x1c>;
 
-/// `COM_STMT_FETCH`: so many rows of the cursor that an execution opened.
+/// `COM_STMT_FETCH`: a given number of rows of the cursor that an execution opened.
 ///
 /// It takes 9 bytes, numbers little-endian:
 ///
@@ -32,18 +32,22 @@ pub type ComStmtFetchHeader = ConstU8<InvalidComStmtFetchHeader, 0x1c>;
 /// | 4 | the statement's number |
 /// | 4 | how many rows are asked for |
 ///
-/// Fewer than 9 bytes are refused as `UnexpectedEof`, another first byte as `InvalidData`. MariaDB takes the number `ffffffff` for the
-/// statement that was prepared last.
+/// Fewer than 9 bytes are `UnexpectedEof`, another first byte is `InvalidData`. For MariaDB, `ffffffff` is the statement that
+/// was prepared last.
+///
+/// ```
+/// Ok(ComStmtFetch::new(stmt_id, 100).serialize(out)?)
+/// ```
 #[derive(Clone, Copy, Debug, PartialEq, Eq)]
 pub struct ComStmtFetch {
     /// The number that the server gave the statement.
     pub stmt_id: u32,
-    /// How many rows are asked for, at the most.
+    /// The maximum number of rows to return.
     pub num_rows: u32,
 }
 
 impl ComStmtFetch {
-    /// The request for so many rows of the cursor of the statement of that number.
+    /// The request for a given number of rows of the cursor of the statement of that number.
     pub fn new(stmt_id: u32, num_rows: u32) -> Self
         ensures stmt_id { result.stmt_id ≡ stmt_id }
         ensures num_rows { result.num_rows ≡ num_rows }

@@ -31,8 +31,12 @@ pub type ComStmtResetHeader = ConstU8<InvalidComStmtResetHeader, 0x1a>;
 /// | 1 | the byte `1a` |
 /// | 4 | the statement's number |
 ///
-/// Fewer than 5 bytes are refused as `UnexpectedEof`, another first byte as `InvalidData`. MariaDB takes the number `ffffffff` for the
-/// statement that was prepared last.
+/// Fewer than 5 bytes are `UnexpectedEof`, another first byte is `InvalidData`. For MariaDB, `ffffffff` is the statement that
+/// was prepared last.
+///
+/// ```
+/// Ok(ComStmtReset::new(stmt_id).serialize(out)?)
+/// ```
 #[derive(Clone, Copy, Debug, PartialEq, Eq)]
 pub struct ComStmtReset {
     /// The number that the server gave the statement.

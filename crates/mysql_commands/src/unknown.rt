@@ -15,6 +15,10 @@ use mysql_wire::{AnyWidth, FaultOf, MyDeserialize, ParseBuf, Parts, RawInt, Sink
 /// | to the end | its content |
 ///
 /// No byte at all is `UnexpectedEof`.
+///
+/// ```
+/// Ok(UnknownCommand::new(code, content).serialize(out)?)
+/// ```
 #[derive(Clone, Debug, PartialEq, Eq, Drop)]
 pub struct UnknownCommand<'a> {
     code: u8,

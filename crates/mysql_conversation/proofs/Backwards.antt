@@ -19,24 +19,24 @@ use Rattle.mysql_conversation.specs.declared.state.Answer.{Answer}
 use Rattle.mysql_conversation.specs.declared.state.Answer.TheVariants as answer
 use Rattle.mysql_conversation.specs.declared.state.Request.{Request}
 use Rattle.mysql_conversation.specs.declared.state.Request.TheVariants.{Query, Execution, Cursor}
-use Rattle.mysql_conversation.specs.declared.kind.Format.TheVariants.{Text, Binary}
-use Rattle.mysql_conversation.specs.declared.kind.Kind.{Kind}
-use Rattle.mysql_conversation.specs.declared.kind.Kind.TheVariants as kind
+use Rattle.mysql_conversation.specs.declared.packet_kind.RowFormat.TheVariants.{Text, Binary}
+use Rattle.mysql_conversation.specs.declared.packet_kind.PacketKind.{PacketKind}
+use Rattle.mysql_conversation.specs.declared.packet_kind.PacketKind.TheVariants as kind
 use Rattle.mysql_conversation.specs.declared.state.Line.{Line}
 use Rattle.mysql_conversation.specs.declared.state.Line.TheVariants as line
 use Rattle.mysql_conversation.specs.declared.state.Reply.{Reply}
 use Rattle.mysql_conversation.specs.declared.state.Reply.TheVariants as reply
-use Rattle.mysql_conversation.specs.declared.kind.Side.{Side}
-use Rattle.mysql_conversation.specs.declared.kind.Side.TheVariants.{Client, Server}
+use Rattle.mysql_conversation.specs.declared.packet_kind.Side.{Side}
+use Rattle.mysql_conversation.specs.declared.packet_kind.Side.TheVariants.{Client, Server}
 use Rattle.mysql_conversation.specs.declared.state.State.{State}
 use Rattle.mysql_conversation.specs.declared.state.State.TheVariants as state
 use Rattle.mysql_conversation.proofs.Tails.{infile_answer, following, following_columns, round, authenticating, tail_of, sending, serving, many_more, many_none, more_results, last_result, answered_file, answered_columns, entered, following_last}
 
 -- ---- a step back
 
-back : (a : Agreed) (s : State) (side : Side) (p : List ℕ) (k k' : Kind) (m m' : State) (items rest : List Packet)
-    → ◌≡◌ {A = Option (Kind × State)} (Some (k, m)) (Some (k', m')) → (tail_of a m items rest → tail_of a s (packet side p k ∷ items) rest) → tail_of a m' items rest → tail_of a s (packet side p k' ∷ items) rest
-back a s side p k k' m m' items rest e f = subst (λ (x : Kind × State). tail_of a x.1 items rest → tail_of a s (packet side p x.0 ∷ items) rest) (some_is e) f
+back : (a : Agreed) (s : State) (side : Side) (p : List ℕ) (k k' : PacketKind) (m m' : State) (items rest : List Packet)
+    → ◌≡◌ {A = Option (PacketKind × State)} (Some (k, m)) (Some (k', m')) → (tail_of a m items rest → tail_of a s (packet side p k ∷ items) rest) → tail_of a m' items rest → tail_of a s (packet side p k' ∷ items) rest
+back a s side p k k' m m' items rest e f = subst (λ (x : PacketKind × State). tail_of a x.1 items rest → tail_of a s (packet side p x.0 ∷ items) rest) (some_is e) f
 
 back_ok : (a : Agreed) (f : Request) (more : Bool) (p : List ℕ) (items rest : List Packet) → first_is 0xff p ≡ false → IsOk a more p → tail_of a (ended f more) items rest → c.results a f (packet Server p kind.Ok ∷ items) rest
 back_ok a f true p items rest e h t = more_results a f _ items rest (inl (serving kind.Ok (IsOk a true) p items items refl e h)) t
@@ -49,7 +49,7 @@ count_columns a f zero follow p items rest e h t = let none : 0 < 0 = h.2 in abs
 count_columns a f (suc n) true p items rest e h t = answered_columns a f (suc n) _ t.0 rest (inl (items, serving (kind.ColumnCount (suc n) true) (IsCount a (suc n) true) p items items refl e h, t.1)) t.2
 count_columns a f (suc n) false p items rest e h t = answered_columns a f (suc n) _ items rest (inr (serving (kind.ColumnCount (suc n) false) (IsCount a (suc n) false) p items items refl e h)) (following_last a (deprecates_eof a) (after.Rows f) items rest t)
 
-back_reply : (a : Agreed) (f : Request) (p : List ℕ) (r : Option Reply) (k : Kind) (m : State) (items rest : List Packet)
+back_reply : (a : Agreed) (f : Request) (p : List ℕ) (r : Option Reply) (k : PacketKind) (m : State) (items rest : List Packet)
     → first_is 0xff p ≡ false → reply_of a p ≡ r → reply_step (deprecates_eof a) f r ≡ Some (k, m) → tail_of a m items rest → tail_of a (state.Reply f) (packet Server p k ∷ items) rest
 back_reply a f p None k m items rest e w h t = absurd cc
 back_reply a f p (Some (reply.Ok more)) k m items rest e w h t = back a (state.Reply f) Server p _ k _ m items rest h (back_ok a f more p items rest e (reply_means a p _ w)) t
@@ -57,7 +57,7 @@ back_reply a f p (Some reply.Infile) k m items rest e w h t = back a (state.Repl
     (λ t. answered_file a f _ t.2.0 rest (items, serving kind.LocalInfile IsInfileRequest p items items refl e (reply_means a p _ w), (t.0, t.1, t.2.1)) t.2.2) t
 back_reply a f p (Some (reply.Columns n follow)) k m items rest e w h t = back a (state.Reply f) Server p _ k _ m items rest h (count_columns a f n follow p items rest e (reply_means a p _ w)) t
 
-back_infile : (a : Agreed) (f : Request) (p : List ℕ) (k : Kind) (m : State) (items rest : List Packet)
+back_infile : (a : Agreed) (f : Request) (p : List ℕ) (k : PacketKind) (m : State) (items rest : List Packet)
     → infile_step f p ≡ Some (k, m) → tail_of a m items rest → tail_of a (state.Infile f) (packet Client p k ∷ items) rest
 back_infile a f [] k m items rest h t = back a (state.Infile f) Client [] _ k _ m items rest h
     (λ t. (_, many_none c.infile_content _, (items, sending kind.InfileEnd (λ p. p ≡ []) [] items items refl refl, t))) t
@@ -68,7 +68,7 @@ back_infile_ok : (a : Agreed) (f : Request) (more : Bool) (p : List ℕ) (items 
 back_infile_ok a f true p items rest e h t = inl (items, serving kind.Ok (IsOk a true) p items items refl e h, t)
 back_infile_ok a f false p items rest e h t = inr (serving kind.Ok (IsOk a false) p items rest t e h)
 
-back_infile_reply : (a : Agreed) (f : Request) (p : List ℕ) (r : Option Reply) (k : Kind) (m : State) (items rest : List Packet)
+back_infile_reply : (a : Agreed) (f : Request) (p : List ℕ) (r : Option Reply) (k : PacketKind) (m : State) (items rest : List Packet)
     → first_is 0xff p ≡ false → reply_of a p ≡ r → infile_reply_step f r ≡ Some (k, m) → tail_of a m items rest → tail_of a (state.InfileReply f) (packet Server p k ∷ items) rest
 back_infile_reply a f p None k m items rest e w h t = absurd cc
 back_infile_reply a f p (Some (reply.Ok more)) k m items rest e w h t = back a (state.InfileReply f) Server p _ k _ m items rest h (back_infile_ok a f more p items rest e (reply_means a p _ w)) t
@@ -84,7 +84,7 @@ back_cursor : (a : Agreed) (more : Bool) (status : StatusFlags) (p : List ℕ) (
 back_cursor a true status p items rest e o cur m t = inr (inl (items, serving kind.Eof _ p items items refl e (status, o, cur, m), t))
 back_cursor a false status p items rest e o cur m t = inr (inr (serving kind.Eof _ p items rest t e (status, o, cur, m)))
 
-back_columns : (a : Agreed) (r : Request) (status : StatusFlags) (p : List ℕ) (k : Kind) (m : State) (items rest : List Packet)
+back_columns : (a : Agreed) (r : Request) (status : StatusFlags) (p : List ℕ) (k : PacketKind) (m : State) (items rest : List Packet)
     → first_is 0xff p ≡ false → IsOldEnd a status p → columns_step status r ≡ Some (k, m) → tail_of a m items rest → following_columns a r false (packet Server p k ∷ items) rest
 back_columns a Query status p k m items rest e o h t = back a (state.DefinitionsEnd (after.Rows Query)) Server p _ k _ m items rest h
     (λ t. inl (items, serving kind.Eof _ p items items refl e (status, o), t)) t
@@ -95,7 +95,7 @@ back_columns a Cursor status p k m items rest e o h t = elim (chosen (opens_curs
   | inr g ↦ back a (state.DefinitionsEnd (after.Rows Cursor)) Server p _ k _ m items rest g.1 (λ t. inl (items, serving kind.Eof _ p items items refl e (status, o, g.0), t)) t
 ]
 
-back_definitions_end : (a : Agreed) (b : After) (p : List ℕ) (o : Option StatusFlags) (k : Kind) (m : State) (items rest : List Packet)
+back_definitions_end : (a : Agreed) (b : After) (p : List ℕ) (o : Option StatusFlags) (k : PacketKind) (m : State) (items rest : List Packet)
     → first_is 0xff p ≡ false → old_end_of a p ≡ o → definitions_end_step b o ≡ Some (k, m) → tail_of a m items rest → tail_of a (state.DefinitionsEnd b) (packet Server p k ∷ items) rest
 back_definitions_end a (after.Rows r) p None k m items rest e w h t = absurd cc
 back_definitions_end a (after.Columns n) p None k m items rest e w h t = absurd cc
@@ -113,7 +113,7 @@ back_end : (a : Agreed) (r : Request) (more : Bool) (p : List ℕ) (items rest :
 back_end a r true p items rest e h t = (_, many_none (c.row a (format_of r)) _, inl (items, serving (ending (deprecates_eof a)) (IsEnd a true) p items items refl e h, t))
 back_end a r false p items rest e h t = (_, many_none (c.row a (format_of r)) _, inr (serving (ending (deprecates_eof a)) (IsEnd a false) p items rest t e h))
 
-back_line : (a : Agreed) (r : Request) (p : List ℕ) (l : Option Line) (k : Kind) (m : State) (items rest : List Packet)
+back_line : (a : Agreed) (r : Request) (p : List ℕ) (l : Option Line) (k : PacketKind) (m : State) (items rest : List Packet)
     → first_is 0xff p ≡ false → line_of a (format_of r) p ≡ l → line_step (deprecates_eof a) r l ≡ Some (k, m) → tail_of a m items rest → tail_of a (state.Rows r) (packet Server p k ∷ items) rest
 back_line a r p None k m items rest e w h t = absurd cc
 back_line a r p (Some line.Row) k m items rest e w h t = back a (state.Rows r) Server p _ k _ m items rest h
@@ -124,7 +124,7 @@ any_end_of : (a : Agreed) (more : Bool) (p : List ℕ) (items rest : List Packet
 any_end_of a true p items rest t e h = inl (serving (ending (deprecates_eof a)) (IsEnd a true) p items rest t e h)
 any_end_of a false p items rest t e h = inr (serving (ending (deprecates_eof a)) (IsEnd a false) p items rest t e h)
 
-back_fetch : (a : Agreed) (p : List ℕ) (r : Option Line) (k : Kind) (m : State) (items rest : List Packet)
+back_fetch : (a : Agreed) (p : List ℕ) (r : Option Line) (k : PacketKind) (m : State) (items rest : List Packet)
     → first_is 0xff p ≡ false → line_of a Binary p ≡ r → last_step (deprecates_eof a) (kind.Row Binary) state.Fetch r ≡ Some (k, m) → tail_of a m items rest → tail_of a state.Fetch (packet Server p k ∷ items) rest
 back_fetch a p None k m items rest e w h t = absurd cc
 back_fetch a p (Some line.Row) k m items rest e w h t = back a state.Fetch Server p _ k _ m items rest h
@@ -132,7 +132,7 @@ back_fetch a p (Some line.Row) k m items rest e w h t = back a state.Fetch Serve
 back_fetch a p (Some (line.End more)) k m items rest e w h t = back a state.Fetch Server p _ k _ m items rest h
     (λ t. (_, many_none (c.row a Binary) _, any_end_of a more p items rest t e (line_means a Binary p _ w))) t
 
-back_last_ok : (a : Agreed) (s n : State) (p : List ℕ) (r : Option Reply) (k : Kind) (m : State) (items rest : List Packet) → first_is 0xff p ≡ false → reply_of a p ≡ r → last_ok n r ≡ Some (k, m)
+back_last_ok : (a : Agreed) (s n : State) (p : List ℕ) (r : Option Reply) (k : PacketKind) (m : State) (items rest : List Packet) → first_is 0xff p ≡ false → reply_of a p ≡ r → last_ok n r ≡ Some (k, m)
     → (IsOk a false p → tail_of a n items rest → tail_of a s (packet Server p kind.Ok ∷ items) rest) → tail_of a m items rest → tail_of a s (packet Server p k ∷ items) rest
 back_last_ok a s n p (Some (reply.Ok false)) k m items rest e v h f t = back a s Server p _ k _ m items rest h (f (reply_means a p _ v)) t
 back_last_ok a s n p (Some (reply.Ok true)) k m items rest e v h f t = absurd cc
@@ -144,19 +144,19 @@ ok_acknowledged : (a : Agreed) (may_end : Bool) (p : List ℕ) (items rest : Lis
 ok_acknowledged a true p items rest e o t = inl (serving kind.Ok (IsOk a false) p items rest t e o)
 ok_acknowledged a false p items rest e o t = serving kind.Ok (IsOk a false) p items rest t e o
 
-back_last_end : (a : Agreed) (may_end more : Bool) (p : List ℕ) (k : Kind) (m : State) (items rest : List Packet)
+back_last_end : (a : Agreed) (may_end more : Bool) (p : List ℕ) (k : PacketKind) (m : State) (items rest : List Packet)
     → first_is 0xff p ≡ false → IsEnd a more p → last_end (deprecates_eof a) may_end more ≡ Some (k, m) → tail_of a m items rest → tail_of a (state.Acknowledgement may_end) (packet Server p k ∷ items) rest
 back_last_end a true false p k m items rest e w h t = back a (state.Acknowledgement true) Server p _ k _ m items rest h (λ t. inr (serving (ending (deprecates_eof a)) (IsEnd a false) p items rest t e w)) t
 back_last_end a may_end true p k m items rest e w h t = absurd cc
 back_last_end a false false p k m items rest e w h t = absurd cc
 
-back_acknowledgement : (a : Agreed) (may_end : Bool) (p : List ℕ) (l : Option Line) (k : Kind) (m : State) (items rest : List Packet)
+back_acknowledgement : (a : Agreed) (may_end : Bool) (p : List ℕ) (l : Option Line) (k : PacketKind) (m : State) (items rest : List Packet)
     → first_is 0xff p ≡ false → line_of a Text p ≡ l → acknowledgement_step (deprecates_eof a) may_end l (reply_of a p) ≡ Some (k, m) → tail_of a m items rest → tail_of a (state.Acknowledgement may_end) (packet Server p k ∷ items) rest
 back_acknowledgement a may_end p (Some (line.End more)) k m items rest e w h t = back_last_end a may_end more p k m items rest e (line_means a Text p _ w) h t
 back_acknowledgement a may_end p (Some line.Row) k m items rest e w h t = back_last_ok a (state.Acknowledgement may_end) state.Rest p (reply_of a p) k m items rest e refl h (λ o t. ok_acknowledged a may_end p items rest e o t) t
 back_acknowledgement a may_end p None k m items rest e w h t = absurd cc
 
-back_fields : (a : Agreed) (p : List ℕ) (r : Option Line) (k : Kind) (m : State) (items rest : List Packet)
+back_fields : (a : Agreed) (p : List ℕ) (r : Option Line) (k : PacketKind) (m : State) (items rest : List Packet)
     → first_is 0xff p ≡ false → line_of a Text p ≡ r → last_step (deprecates_eof a) kind.FieldListColumn state.Fields r ≡ Some (k, m) → tail_of a m items rest → tail_of a state.Fields (packet Server p k ∷ items) rest
 back_fields a p None k m items rest e w h t = absurd cc
 back_fields a p (Some line.Row) k m items rest e w h t = back a state.Fields Server p _ k _ m items rest h
@@ -164,7 +164,7 @@ back_fields a p (Some line.Row) k m items rest e w h t = back a state.Fields Ser
 back_fields a p (Some (line.End more)) k m items rest e w h t = back a state.Fields Server p _ k _ m items rest h
     (λ t. (_, many_none (c.field a) _, any_end_of a more p items rest t e (line_means a Text p _ w))) t
 
-back_events : (a : Agreed) (p : List ℕ) (b : Bool) (o : Option StatusFlags) (k : Kind) (m : State) (items rest : List Packet)
+back_events : (a : Agreed) (p : List ℕ) (b : Bool) (o : Option StatusFlags) (k : PacketKind) (m : State) (items rest : List Packet)
     → first_is 0xff p ≡ false → first_is 0 p ≡ b → old_end_of a p ≡ o → event_step b o ≡ Some (k, m) → tail_of a m items rest → tail_of a state.Events (packet Server p k ∷ items) rest
 back_events a p true o k m items rest e f w h t = back a state.Events Server p _ k _ m items rest h
     (λ t. (t.0, many_more (c.event or c.ack) _ items t.0 (inl (serving kind.BinlogEvent _ p items items refl e f)) t.1, t.2)) t
@@ -187,7 +187,7 @@ pub unanswered : (a : Agreed) (b : Bool) (items rest : List Packet) → c.authen
 unanswered a true items rest h = (items, inl refl, h)
 unanswered a false items rest h = h
 
-back_ok_status : (a : Agreed) (login b : Bool) (p : List ℕ) (status : Option StatusFlags) (k : Kind) (m : State) (items rest : List Packet)
+back_ok_status : (a : Agreed) (login b : Bool) (p : List ℕ) (status : Option StatusFlags) (k : PacketKind) (m : State) (items rest : List Packet)
     → first_is 0xff p ≡ false → first_is 0 p ≡ true → ok_status a p ≡ status → logged_in status ≡ Some (k, m) → tail_of a m items rest → tail_of a (state.Authentication login b) (packet Server p k ∷ items) rest
 back_ok_status a login b p None k m items rest e z w h t = absurd cc
 back_ok_status a login b p (Some status) k m items rest e z w h t = elim (chosen (has_more status) _ _ _ h) [
@@ -195,7 +195,7 @@ back_ok_status a login b p (Some status) k m items rest e z w h t = elim (chosen
   | inr n ↦ back a (state.Authentication login b) Server p _ k _ m items rest n.1 (λ t. unanswered a b _ rest (authenticated a p status items rest t e z w n.0)) t
 ]
 
-pub back_authentication : (a : Agreed) (login b : Bool) (p : List ℕ) (k : Kind) (m : State) (items rest : List Packet)
+pub back_authentication : (a : Agreed) (login b : Bool) (p : List ℕ) (k : PacketKind) (m : State) (items rest : List Packet)
     → first_is 0xff p ≡ false → authentication_step a login p (ok_status a p) ≡ Some (k, m) → tail_of a m items rest → tail_of a (state.Authentication login b) (packet Server p k ∷ items) rest
 back_authentication a login b p k m items rest e h t = elim (chosen (first_is 0 p) _ _ _ h) [
   | inl z ↦ back_ok_status a login b p (ok_status a p) k m items rest e z.0 refl z.1 t
@@ -203,13 +203,13 @@ back_authentication a login b p k m items rest e h t = elim (chosen (first_is 0 
 ]
 
 -- what the client answers, one step back
-pub back_answer : (a : Agreed) (login b : Bool) (p : List ℕ) (k : Kind) (m : State) (items rest : List Packet)
+pub back_answer : (a : Agreed) (login b : Bool) (p : List ℕ) (k : PacketKind) (m : State) (items rest : List Packet)
     → answer_step login b ≡ Some (k, m) → tail_of a m items rest → tail_of a (state.Authentication login b) (packet Client p k ∷ items) rest
 back_answer a login true p k m items rest h t = back a (state.Authentication login true) Client p _ k _ m items rest h (λ t. (items, inr (sending kind.AuthData _ p items items refl tt), t)) t
 back_answer a login false p k m items rest h t = absurd cc
 
 -- an acknowledgement of an event, one step back
-pub back_ack : (a : Agreed) (p : List ℕ) (k : Kind) (m : State) (items rest : List Packet)
+pub back_ack : (a : Agreed) (p : List ℕ) (k : PacketKind) (m : State) (items rest : List Packet)
     → ack_step p ≡ Some (k, m) → tail_of a m items rest → tail_of a state.Events (packet Client p k ∷ items) rest
 back_ack a p k m items rest h t = elim (chosen (first_is 0xef p) _ _ _ h) [
   | inl e ↦ back a state.Events Client p _ k _ m items rest e.1
@@ -257,7 +257,7 @@ by_following a s p false items rest e w f t =
     let params = num_params (packet_of s) in
     (columns, (params, inr (items, serving (kind.PrepareOk columns params false) (IsPrepared a columns params false) p items items refl e (s, spelled.0, spelled.1, refl, refl, f), left_out a (deprecates_eof a) columns params items rest t)))
 
-back_prepared : (a : Agreed) (p : List ℕ) (r : Option StmtPacketWithMetadata) (k : Kind) (m : State) (items rest : List Packet)
+back_prepared : (a : Agreed) (p : List ℕ) (r : Option StmtPacketWithMetadata) (k : PacketKind) (m : State) (items rest : List Packet)
     → first_is 0xff p ≡ false → statement_at a p ≡ r → prepared_step (deprecates_eof a) r ≡ Some (k, m) → tail_of a m items rest → tail_of a state.Prepared (packet Server p k ∷ items) rest
 back_prepared a p None k m items rest e w h t = absurd cc
 back_prepared a p (Some s) k m items rest e w h t = back a state.Prepared Server p _ k _ m items rest h (by_following a s p (definitions_follow s) items rest e w refl) t
@@ -267,7 +267,7 @@ pub one_clone : (side : Side) (p : List ℕ) (items rest : List Packet) → many
 one_clone side p items rest t = many_more c.clone _ items rest (packet side p kind.Clone, refl, refl) t
 
 -- a packet of the server that is no error, one step back
-pub back_serve : (a : Agreed) (s : State) (p : List ℕ) (k : Kind) (m : State) (items rest : List Packet)
+pub back_serve : (a : Agreed) (s : State) (p : List ℕ) (k : PacketKind) (m : State) (items rest : List Packet)
     → first_is 0xff p ≡ false → serve a s p ≡ Some (k, m) → tail_of a m items rest → tail_of a s (packet Server p k ∷ items) rest
 back_serve a state.Rest p k m items rest e h t = absurd cc
 back_serve a (state.Authentication login b) p k m items rest e h t = back_authentication a login b p k m items rest e h t
@@ -283,14 +283,14 @@ back_serve a (state.Acknowledgement may_end) p k m items rest e h t = back_ackno
 back_serve a state.Text p k m items rest e h t = back a state.Text Server p _ k _ m items rest h (λ t. serving kind.Statistics _ p items rest t e tt) t
 back_serve a state.Fields p k m items rest e h t = back_fields a p (line_of a Text p) k m items rest e refl h t
 back_serve a state.Events p k m items rest e h t = back_events a p (first_is 0 p) (old_end_of a p) k m items rest e refl refl h t
-back_serve a state.Refusal p k m items rest e h t = absurd cc
+back_serve a state.SessionError p k m items rest e h t = absurd cc
 back_serve a state.CloneReply p k m items rest e h t = back_last_ok a state.CloneReply state.Clone p (reply_of a p) k m items rest e refl h
     (λ o t. inl (items, serving kind.Ok (IsOk a false) p items items refl e o, t)) t
 back_serve a state.Clone p k m items rest e h t = back a state.Clone Server p _ k _ m items rest h (λ t. one_clone Server p items rest t) t
 back_serve a state.Quit p k m items rest e h t = absurd cc
 back_serve a state.Over p k m items rest e h t = absurd cc
 
--- where an answer begins, all of it comes, but for a command that may end the connection
+-- where an answer begins, all of it comes, except for a command that may end the connection
 answer_comes : (a : Agreed) (r : Answer) (items rest : List Packet) → may_shut r ≡ false → tail_of a (answers r) items rest → answered a (Some r) items rest
 answer_comes a (answer.Results r) items rest n t = t
 answer_comes a answer.Prepared items rest n t = t
@@ -303,7 +303,7 @@ answer_comes a answer.Events items rest n t = t
 answer_comes a answer.Nothing items rest n t = t
 answer_comes a answer.Quit items rest n t = absurd cc
 answer_comes a answer.Clone items rest n t = absurd cc
-answer_comes a answer.Refusal items rest n t = t
+answer_comes a answer.SessionError items rest n t = t
 
 one_exchange : (a : Agreed) (code : ℕ) (cursor : Bool) (items rest : List Packet) → c.exchange_of a code cursor items rest → c.exchange a items rest
 one_exchange a code true items rest h = (code, inl h)
@@ -321,6 +321,6 @@ pub back_command : (a : Agreed) (p : List ℕ) (r : Answer) (items rest : List P
 back_command a p r items rest n e t = exchange_by a p r items rest e (answer_comes a r items rest n t)
 
 -- the same of the content of a file
-pub back_content : (a : Agreed) (r : Request) (p : List ℕ) (k : Kind) (m : State) (items rest : List Packet)
+pub back_content : (a : Agreed) (r : Request) (p : List ℕ) (k : PacketKind) (m : State) (items rest : List Packet)
     → infile_step r p ≡ Some (k, m) → tail_of a m items rest → tail_of a (state.Infile r) (packet Client p k ∷ items) rest
 back_content a r p k m items rest h t = back_infile a r p k m items rest h t

@@ -14,8 +14,8 @@ use Rattle.mysql_replies.specs.declared.column_count.ColumnCount.{ColumnCount}
 use Rattle.mysql_conversation.specs.Agreements.{Agreed, deprecates_eof}
 use Rattle.mysql_conversation.specs.Payloads.{first_is, ok_form, terminator_form, old_end_form, looks_like_end, SpelledWith, IsOk, EndsWith, IsEnd, IsOldEnd, IsInfileRequest, IsCount, IsRow}
 use Rattle.mysql_conversation.specs.Machine.{status_in, ok_status, old_end_status, terminator_status, end_status, ok_of, count_in, count_at, columns_of, reply_of, end_of, row_of, line_of, old_end_of, statement_in, statement_at}
-use Rattle.mysql_conversation.specs.declared.kind.Format.{Format}
-use Rattle.mysql_conversation.specs.declared.kind.Format.TheVariants.{Text, Binary}
+use Rattle.mysql_conversation.specs.declared.packet_kind.RowFormat.{RowFormat}
+use Rattle.mysql_conversation.specs.declared.packet_kind.RowFormat.TheVariants.{Text, Binary}
 use Rattle.mysql_conversation.specs.declared.state.Line.{Line}
 use Rattle.mysql_conversation.specs.declared.state.Line.TheVariants as line
 use Rattle.mysql_conversation.specs.declared.state.Reply.{Reply}
@@ -148,30 +148,30 @@ end_is_no_zero p h = elim (chosen (first_is 0xfe p) _ _ _ h) [
   | inr e ↦ absurd cc
 ]
 
-pub line_row : (a : Agreed) (format : Format) (p : List ℕ) → IsRow a format p → line_of a format p ≡ Some line.Row
+pub line_row : (a : Agreed) (format : RowFormat) (p : List ℕ) → IsRow a format p → line_of a format p ≡ Some line.Row
 line_row a Text p h = rw h refl
 line_row a Binary p h = rw (zero_is_no_end (deprecates_eof a) p h, h) refl
 
-pub line_end : (a : Agreed) (format : Format) (more : Bool) (p : List ℕ) → IsEnd a more p → line_of a format p ≡ Some (line.End more)
+pub line_end : (a : Agreed) (format : RowFormat) (more : Bool) (p : List ℕ) → IsEnd a more p → line_of a format p ≡ Some (line.End more)
 line_end a format more p h = rw (h.0, end_status_of a (deprecates_eof a) h.1 p h.2) (ap (λ m. Some (line.End m)) h.3)
 
-abbrev pub LineMeans : Agreed → Format → Line → List ℕ → Type 0
+abbrev pub LineMeans : Agreed → RowFormat → Line → List ℕ → Type 0
 LineMeans a format line.Row p = IsRow a format p
 LineMeans a format (line.End more) p = IsEnd a more p
 
-end_means : (a : Agreed) (format : Format) (p : List ℕ) (s : Option StatusFlags) (r : Line)
+end_means : (a : Agreed) (format : RowFormat) (p : List ℕ) (s : Option StatusFlags) (r : Line)
     → looks_like_end (deprecates_eof a) p ≡ true → end_status a (deprecates_eof a) p ≡ s → end_of s ≡ Some r → LineMeans a format r p
 end_means a format p None r f e h = absurd cc
 end_means a format p (Some status) r f e h = subst (λ r. LineMeans a format r p) (some_is h) (f, status, end_status_is a (deprecates_eof a) status p e, refl)
 
-row_means : (a : Agreed) (format : Format) (p : List ℕ) (r : Line) → looks_like_end (deprecates_eof a) p ≡ false → row_of format p ≡ Some r → LineMeans a format r p
+row_means : (a : Agreed) (format : RowFormat) (p : List ℕ) (r : Line) → looks_like_end (deprecates_eof a) p ≡ false → row_of format p ≡ Some r → LineMeans a format r p
 row_means a Text p r f h = subst (λ r. LineMeans a Text r p) (some_is h) f
 row_means a Binary p r f h = elim (chosen (first_is 0 p) _ _ _ h) [
   | inl z ↦ subst (λ r. LineMeans a Binary r p) (some_is z.1) z.0
   | inr z ↦ absurd cc
 ]
 
-pub line_means : (a : Agreed) (format : Format) (p : List ℕ) (r : Line) → line_of a format p ≡ Some r → LineMeans a format r p
+pub line_means : (a : Agreed) (format : RowFormat) (p : List ℕ) (r : Line) → line_of a format p ≡ Some r → LineMeans a format r p
 line_means a format p r h = elim (chosen (looks_like_end (deprecates_eof a) p) _ _ _ h) [
   | inl e ↦ end_means a format p (end_status a (deprecates_eof a) p) r e.0 refl e.1
   | inr e ↦ row_means a format p r e.0 e.1

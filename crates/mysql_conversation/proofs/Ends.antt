@@ -26,9 +26,9 @@ use Rattle.mysql_conversation.specs.declared.state.After.{After}
 use Rattle.mysql_conversation.specs.declared.state.After.TheVariants as after
 use Rattle.mysql_conversation.specs.declared.state.Request.{Request}
 use Rattle.mysql_conversation.specs.declared.state.Request.TheVariants.{Query, Execution, Cursor}
-use Rattle.mysql_conversation.specs.declared.kind.Format.TheVariants.{Binary}
-use Rattle.mysql_conversation.specs.declared.kind.Kind.TheVariants as kind
-use Rattle.mysql_conversation.specs.declared.kind.Side.TheVariants.{Client, Server}
+use Rattle.mysql_conversation.specs.declared.packet_kind.RowFormat.TheVariants.{Binary}
+use Rattle.mysql_conversation.specs.declared.packet_kind.PacketKind.TheVariants as kind
+use Rattle.mysql_conversation.specs.declared.packet_kind.Side.TheVariants.{Client, Server}
 use Rattle.mysql_conversation.specs.declared.state.State.{State}
 use Rattle.mysql_conversation.specs.declared.state.State.TheVariants as state
 
@@ -217,7 +217,7 @@ to_come a (state.Acknowledgement false) h = (packet Server ok_bytes kind.Ok, [],
 to_come a state.Text h = (packet Server [] kind.Statistics, [], refl, serving kind.Statistics _ [] [] [] refl refl tt)
 to_come a state.Fields h = let e = end_then a [] in (e.0, [], e.1, (_, many_none (c.field a) _, inr e.2))
 to_come a state.Events h = let e = old_end_comes a after.Rest in (e.0, e.1, e.2, (_, many_none (c.event or c.ack) _, e.3))
-to_come a state.Refusal h = (packet Server (0xff ∷ []) kind.Error, [], refl, (packet Server (0xff ∷ []) kind.Error, (refl, refl, (refl, short_report a)), refl))
+to_come a state.SessionError h = (packet Server (0xff ∷ []) kind.Error, [], refl, (packet Server (0xff ∷ []) kind.Error, (refl, refl, (refl, short_report a)), refl))
 to_come a state.CloneReply h = (packet Server (0xff ∷ []) kind.Error, [], refl, inr (packet Server (0xff ∷ []) kind.Error, (refl, refl, (refl, short_report a)), refl))
 to_come a state.Clone h = absurd cc
 to_come a state.Quit h = absurd cc

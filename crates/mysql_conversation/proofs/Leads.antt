@@ -8,24 +8,24 @@ use Rattle.mysql_conversation.specs.Payloads.{has_more, opens_cursor, first_is, 
 use Rattle.mysql_conversation.specs.Agreements.{Agreed, deprecates_eof}
 use Rattle.mysql_conversation.specs.Conversation as c
 use Rattle.mysql_conversation.specs.Conversation.{Packet, sent, served, code_of, answering, answered, ending, format_of, authentication_kind, commands, inside}
-use Rattle.mysql_conversation.specs.Machine.{entrance, step, client_step, serve, rests, Run, StepsTo, answers, reply_step, infile_step, infile_reply_step, line_step, last_step, prepared_by, prepared_step, column_end, param_end, command_step, begun, error_step, last_ok, acknowledgement_step, definitions_end_step, event_step, old_end_of, enter, defined, counted, less, define, ended, reply_of}
+use Rattle.mysql_conversation.specs.Machine.{is_login, entrance, step, client_step, serve, rests, Run, StepsTo, answers, reply_step, infile_step, infile_reply_step, line_step, last_step, prepared_by, prepared_step, column_end, param_end, command_step, begun, error_step, last_ok, acknowledgement_step, definitions_end_step, event_step, old_end_of, enter, defined, counted, less, define, ended, reply_of}
 use Rattle.mysql_conversation.proofs.Classes.{ok_status_of, reply_ok, reply_infile, reply_count, line_row, line_end, old_end_of_is, statement_at_of, zero_is_no_end, end_is_no_zero}
-use Rattle.mysql_conversation.proofs.States.{step_listens, is_login, stays_no_login, error_rests, error_ends, failed_no_report, failed_clone}
+use Rattle.mysql_conversation.proofs.States.{step_listens, stays_no_login, error_rests, error_ends, failed_no_report, failed_clone}
 use Rattle.mysql_conversation.specs.declared.state.After.{After}
 use Rattle.mysql_conversation.specs.declared.state.After.TheVariants as after
 use Rattle.mysql_conversation.specs.declared.state.Answer.{Answer}
 use Rattle.mysql_conversation.specs.declared.state.Answer.TheVariants as answer
 use Rattle.mysql_conversation.specs.declared.state.Request.{Request}
 use Rattle.mysql_conversation.specs.declared.state.Request.TheVariants.{Query, Execution, Cursor}
-use Rattle.mysql_conversation.specs.declared.kind.Format.TheVariants.{Text, Binary}
-use Rattle.mysql_conversation.specs.declared.kind.Kind.{Kind}
-use Rattle.mysql_conversation.specs.declared.kind.Kind.TheVariants as kind
+use Rattle.mysql_conversation.specs.declared.packet_kind.RowFormat.TheVariants.{Text, Binary}
+use Rattle.mysql_conversation.specs.declared.packet_kind.PacketKind.{PacketKind}
+use Rattle.mysql_conversation.specs.declared.packet_kind.PacketKind.TheVariants as kind
 use Rattle.mysql_conversation.specs.declared.state.Reply.{Reply}
 use Rattle.mysql_conversation.specs.declared.state.Reply.TheVariants as reply
-use Rattle.mysql_conversation.specs.declared.kind.Opening.{Opening}
-use Rattle.mysql_conversation.specs.declared.kind.Opening.TheVariants as opened_at
-use Rattle.mysql_conversation.specs.declared.kind.Side.{Side}
-use Rattle.mysql_conversation.specs.declared.kind.Side.TheVariants.{Client, Server}
+use Rattle.mysql_conversation.specs.declared.packet_kind.InitialPhase.{InitialPhase}
+use Rattle.mysql_conversation.specs.declared.packet_kind.InitialPhase.TheVariants as opened_at
+use Rattle.mysql_conversation.specs.declared.packet_kind.Side.{Side}
+use Rattle.mysql_conversation.specs.declared.packet_kind.Side.TheVariants.{Client, Server}
 use Rattle.mysql_conversation.specs.declared.state.State.{State}
 use Rattle.mysql_conversation.specs.declared.state.State.TheVariants as state
 
@@ -33,17 +33,17 @@ use Rattle.mysql_conversation.specs.declared.state.State.TheVariants as state
 abbrev pub Leads : Agreed → State → (List Packet → List Packet → Type 0) → State → Type 0
 Leads a s f m = (items rest : List Packet) (t : State) → f items rest → Run a m rest t → Run a s items t
 
-server_step : (a : Agreed) (s : State) (p : List ℕ) (k : Kind) (m : State) → first_is 0xff p ≡ false → serve a s p ≡ Some (k, m) → step a s Server p ≡ Some (k, m)
+server_step : (a : Agreed) (s : State) (p : List ℕ) (k : PacketKind) (m : State) → first_is 0xff p ≡ false → serve a s p ≡ Some (k, m) → step a s Server p ≡ Some (k, m)
 server_step a s p k m f e = rw f e
 
-pub lead_served : (a : Agreed) (s : State) (kind : Kind) (P : List ℕ → Type 0) (m : State)
+pub lead_served : (a : Agreed) (s : State) (kind : PacketKind) (P : List ℕ → Type 0) (m : State)
     → ((p : List ℕ) → P p → serve a s p ≡ Some (kind, m)) → Leads a s (served kind P) m
 lead_served a s kind P m e items rest t h r =
     let x = h.0 in
     let found : step a s x.from x.payload ≡ Some (x.kind, m) = rw (h.1.0, h.1.1) (server_step a s x.payload kind m h.1.2 (e x.payload h.1.3)) in
     subst (λ xs. Run a s xs t) (sym h.2) (m, found, r)
 
-pub lead_sent : (a : Agreed) (s : State) (kind : Kind) (P : List ℕ → Type 0) (m : State)
+pub lead_sent : (a : Agreed) (s : State) (kind : PacketKind) (P : List ℕ → Type 0) (m : State)
     → ((p : List ℕ) → P p → client_step s p ≡ Some (kind, m)) → Leads a s (sent kind P) m
 lead_sent a s kind P m e items rest t h r =
     let x = h.0 in
@@ -101,7 +101,7 @@ lead_loaded a r =
 lead_definition : (a : Agreed) (n : ℕ) (b : After) → Leads a (state.Definitions n b) c.definition (less (deprecates_eof a) n b)
 lead_definition a n b = lead_served a (state.Definitions n b) kind.Column _ (less (deprecates_eof a) n b) (λ p h. refl)
 
--- so many definitions, and one
+-- a given number of definitions, and one
 lead_all : (a : Agreed) (n : ℕ) (b : After) → Leads a (state.Definitions n b) (times (suc n) c.definition) (defined (deprecates_eof a) b)
 lead_all a zero b items rest t h r = lead_definition a zero b items h.0 t h.1 (subst (λ xs. Run a (defined (deprecates_eof a) b) xs t) (sym h.2) r)
 lead_all a (suc n) b items rest t h r = lead_definition a (suc n) b items h.0 t h.1 (lead_all a n b h.0 rest t h.2 r)
@@ -253,8 +253,8 @@ lead_events a =
 
 -- ---- authentication
 
-asked_step : (a : Agreed) (login b : Bool) (p : List ℕ) (k : Kind) → k ≡ authentication_kind a p → first_is 0xff p ≡ false → first_is 0 p ≡ false → step a (state.Authentication login b) Server p ≡ Some (k, state.Authentication login true)
-asked_step a login b p k e f z = rw (f, z) (ap (λ (k : Kind). Some (k, state.Authentication login true)) (sym e))
+asked_step : (a : Agreed) (login b : Bool) (p : List ℕ) (k : PacketKind) → k ≡ authentication_kind a p → first_is 0xff p ≡ false → first_is 0 p ≡ false → step a (state.Authentication login b) Server p ≡ Some (k, state.Authentication login true)
+asked_step a login b p k e f z = rw (f, z) (ap (λ (k : PacketKind). Some (k, state.Authentication login true)) (sym e))
 
 lead_asked : (a : Agreed) (login b : Bool) → Leads a (state.Authentication login b) (c.asked a) (state.Authentication login true)
 lead_asked a login b items rest t h r =
@@ -283,14 +283,14 @@ lead_authentication a login b items rest t h r = lead_rounds a login b h.1.0 ite
 -- ---- errors
 
 -- what a packet is that is an error
-error_at : (a : Agreed) (s : State) (x : Packet) (k : Kind) (m : State) → error_step s ≡ Some (k, m) → x.from ≡ Server → x.kind ≡ k → IsError a x.payload → step a s x.from x.payload ≡ Some (x.kind, m)
-error_at a s x k m o f e i = rw (f, i.0, i.1) (failed_no_report s ∙ o ∙ ap (λ (k : Kind). Some (k, m)) (sym e))
+error_at : (a : Agreed) (s : State) (x : Packet) (k : PacketKind) (m : State) → error_step s ≡ Some (k, m) → x.from ≡ Server → x.kind ≡ k → IsError a x.payload → step a s x.from x.payload ≡ Some (x.kind, m)
+error_at a s x k m o f e i = rw (f, i.0, i.1) (failed_no_report s ∙ o ∙ ap (λ (k : PacketKind). Some (k, m)) (sym e))
 
 lead_error : (a : Agreed) (s : State) → error_step s ≡ Some (kind.Error, state.Rest) → Leads a s (c.error a) state.Rest
 lead_error a s o items rest t h r = subst (λ xs. Run a s xs t) (sym h.2) (state.Rest, error_at a s h.0 kind.Error state.Rest o h.1.0 h.1.1 h.1.2, r)
 
-lead_unasked : (a : Agreed) (s : State) → error_step s ≡ Some (kind.UnaskedError, state.Over) → Leads a s (c.unasked_error a) state.Over
-lead_unasked a s o items rest t h r = subst (λ xs. Run a s xs t) (sym h.2) (state.Over, error_at a s h.0 kind.UnaskedError state.Over o h.1.0 h.1.1 h.1.2, r)
+lead_unasked : (a : Agreed) (s : State) → error_step s ≡ Some (kind.UnsolicitedError, state.Over) → Leads a s (c.unsolicited_error a) state.Over
+lead_unasked a s o items rest t h r = subst (λ xs. Run a s xs t) (sym h.2) (state.Over, error_at a s h.0 kind.UnsolicitedError state.Over o h.1.0 h.1.1 h.1.2, r)
 
 -- ---- exchanges
 
@@ -318,7 +318,7 @@ lead_answer a answer.Events = lead_events a
 lead_answer a answer.Nothing = lead_nothing a state.Rest
 lead_answer a answer.Quit = lead_never a state.Quit state.Rest
 lead_answer a answer.Clone = lead_error a state.CloneReply refl
-lead_answer a answer.Refusal = lead_error a state.Refusal refl
+lead_answer a answer.SessionError = lead_error a state.SessionError refl
 
 lead_answered : (a : Agreed) (code : ℕ) (cursor : Bool) (r : Option Answer) → answering code cursor ≡ r → Leads a state.Rest (c.command code cursor followed_by answered a r) state.Rest
 lead_answered a code cursor None e = λ items rest t h r. absurd h.2
@@ -374,7 +374,7 @@ clone_step a Server p = elim (cases_Bool (first_is 0xff p)) [
 lead_clone : (a : Agreed) → Leads a state.Clone c.clone state.Clone
 lead_clone a items rest t h r =
     let x = h.0 in
-    let found : step a state.Clone x.from x.payload ≡ Some (x.kind, state.Clone) = clone_step a x.from x.payload ∙ ap (λ (k : Kind). Some (k, state.Clone)) (sym h.1) in
+    let found : step a state.Clone x.from x.payload ≡ Some (x.kind, state.Clone) = clone_step a x.from x.payload ∙ ap (λ (k : PacketKind). Some (k, state.Clone)) (sym h.1) in
     subst (λ xs. Run a state.Clone xs t) (sym h.2) (state.Clone, found, r)
 
 lead_cloned : (a : Agreed) → Leads a state.Rest (c.cloned a) state.Clone
@@ -387,14 +387,14 @@ lead_cloned a = lead_then a _ _ _ state.CloneReply _ (lead_commanding a answer.C
 then_out : (a : Agreed) (s : State) (f : List Packet → List Packet → Type 0) (m : State) (items mid : List Packet) → Leads a s f m → f items mid → RunsOut a m mid → RunsOut a s items
 then_out a s f m items mid l h o = (o.0, l items mid o.0 h o.1, o.2)
 
-quit_out : (a : Agreed) (items : List Packet) → (nothing or c.unasked_error a) items [] → RunsOut a state.Quit items
+quit_out : (a : Agreed) (items : List Packet) → (nothing or c.unsolicited_error a) items [] → RunsOut a state.Quit items
 quit_out a items (inl h) = leads_out a state.Quit nothing state.Quit items (lead_nothing a state.Quit) refl h
-quit_out a items (inr h) = leads_out a state.Quit (c.unasked_error a) state.Over items (lead_unasked a state.Quit refl) refl h
+quit_out a items (inr h) = leads_out a state.Quit (c.unsolicited_error a) state.Over items (lead_unasked a state.Quit refl) refl h
 
 last_out : (a : Agreed) (items : List Packet) → c.last a items [] → RunsOut a state.Rest items
 last_out a items (inl h) = leads_out a state.Rest nothing state.Rest items (lead_nothing a state.Rest) refl h
 last_out a items (inr (inl h)) = then_out a state.Rest (c.commanding answer.Quit) state.Quit items h.0 (lead_commanding a answer.Quit) h.1 (quit_out a h.0 h.2)
-last_out a items (inr (inr (inl h))) = leads_out a state.Rest (c.unasked_error a) state.Over items (lead_unasked a state.Rest refl) refl h
+last_out a items (inr (inr (inl h))) = leads_out a state.Rest (c.unsolicited_error a) state.Over items (lead_unasked a state.Rest refl) refl h
 last_out a items (inr (inr (inr h))) = leads_out a state.Rest (c.cloned a) state.Clone items (lead_cloned a) refl h
 
 commanded_out : (a : Agreed) (items : List Packet) → c.commanded a items [] → RunsOut a state.Rest items
@@ -409,7 +409,7 @@ refused_out a items h =
     (e.0, subst (λ xs. Run a (entrance opened_at.Login) xs e.0) (sym b.3) (join (StepsTo a) (entrance opened_at.Login) b.1 b.0 b.2 e.0 b.4 last), e.2)
 
 -- each conversation is answered by its kinds, and leaves the machine where no exchange runs
-pub conversation_runs : (a : Agreed) (o : Opening) (items : List Packet) → c.conversation a o items → RunsOut a (entrance o) items
+pub conversation_runs : (a : Agreed) (o : InitialPhase) (items : List Packet) → c.conversation a o items → RunsOut a (entrance o) items
 conversation_runs a opened_at.Login items (inl h) = then_out a (entrance opened_at.Login) (c.authentication a) state.Rest items h.0 (lead_authentication a true false) h.1 (commanded_out a h.0 h.2)
 conversation_runs a opened_at.Login items (inr h) = refused_out a items h
 conversation_runs a opened_at.Commands items h = commanded_out a items h

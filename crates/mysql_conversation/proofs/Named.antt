@@ -8,17 +8,17 @@ use Rattle.mysql_conversation.proofs.States.{by_cond, failed_clone, failed_no_re
 use Rattle.mysql_conversation.specs.Agreements.{Agreed, deprecates_eof, asks_factors, reports_progress}
 use Rattle.mysql_conversation.specs.Payloads.{first_is, is_report, begins_with_ff, is_one_byte, asks_cursor, opens_cursor, has_more}
 use Rattle.mysql_conversation.specs.Conversation.{code_of, answering, ending, format_of}
-use Rattle.mysql_conversation.specs.Machine.{step, take_step, client_step, serve, is_due, error_step, failed, begun, command_step, infile_step, logged_in, authentication_step, reply_step, infile_reply_step, columns_step, definitions_end_step, event_step, line_step, last_step, prepared_step, last_ok, last_end, acknowledgement_step, reply_of, line_of, old_end_of, statement_at, ok_status}
-use Rattle.mysql_conversation.specs.KindName.{name_of, index, is_in}
-use Rattle.mysql_conversation.specs.Expected.{sent_names, end_name, row_name, asked_names, served_names, error_names, reported, names, expects}
+use Rattle.mysql_conversation.specs.Machine.{step, take_step, client_step, serve, reports, error_step, failed, begun, command_step, infile_step, logged_in, authentication_step, reply_step, infile_reply_step, columns_step, definitions_end_step, event_step, line_step, last_step, prepared_step, last_ok, last_end, acknowledgement_step, reply_of, line_of, old_end_of, statement_at, ok_status}
+use Rattle.mysql_conversation.specs.PacketKindTag.{name_of, index, is_in}
+use Rattle.mysql_conversation.specs.Expected.{sent_names, end_name, row_name, asked_names, served_names, error_names, reported, names, may_receive}
 use Rattle.mysql_conversation.proofs.Classes.{chosen, some_is}
-use Rattle.mysql_conversation.specs.declared.kind.Format.TheVariants.{Text, Binary}
-use Rattle.mysql_conversation.specs.declared.kind.Kind.{Kind}
-use Rattle.mysql_conversation.specs.declared.kind.Kind.TheVariants as kind
-use Rattle.mysql_conversation.specs.declared.kind.Side.{Side}
-use Rattle.mysql_conversation.specs.declared.kind.Side.TheVariants.{Client, Server}
-use Rattle.mysql_conversation.specs.declared.kind_name.KindName.{KindName}
-use Rattle.mysql_conversation.specs.declared.kind_name.KindName.TheVariants as name
+use Rattle.mysql_conversation.specs.declared.packet_kind.RowFormat.TheVariants.{Text, Binary}
+use Rattle.mysql_conversation.specs.declared.packet_kind.PacketKind.{PacketKind}
+use Rattle.mysql_conversation.specs.declared.packet_kind.PacketKind.TheVariants as kind
+use Rattle.mysql_conversation.specs.declared.packet_kind.Side.{Side}
+use Rattle.mysql_conversation.specs.declared.packet_kind.Side.TheVariants.{Client, Server}
+use Rattle.mysql_conversation.specs.declared.packet_kind_tag.PacketKindTag.{PacketKindTag}
+use Rattle.mysql_conversation.specs.declared.packet_kind_tag.PacketKindTag.TheVariants as name
 use Rattle.mysql_conversation.specs.declared.state.After.{After}
 use Rattle.mysql_conversation.specs.declared.state.After.TheVariants as after
 use Rattle.mysql_conversation.specs.declared.state.Answer.{Answer}
@@ -33,7 +33,7 @@ use Rattle.mysql_conversation.specs.declared.state.State.TheVariants as state
 
 -- ---- lists of names
 
-pub reported_is : (n : KindName) (b : Bool) (xs : List KindName) → is_in n (reported b xs) ≡ ((b && index n == 13) || is_in n xs)
+pub reported_is : (n : PacketKindTag) (b : Bool) (xs : List PacketKindTag) → is_in n (reported b xs) ≡ ((b && index n == 13) || is_in n xs)
 reported_is n true xs = refl
 reported_is n false xs = refl
 
@@ -41,21 +41,21 @@ or_both : (x y z : Bool) → (x || (y || z)) ≡ ((x || y) || z)
 or_both true y z = refl
 or_both false y z = refl
 
-pub both_in : (n : KindName) (xs ys : List KindName) → is_in n (xs ++ ys) ≡ (is_in n xs || is_in n ys)
+pub both_in : (n : PacketKindTag) (xs ys : List PacketKindTag) → is_in n (xs ++ ys) ≡ (is_in n xs || is_in n ys)
 both_in n [] ys = refl
 both_in n (x ∷ xs) ys = ap (λ b. index n == index x || b) (both_in n xs ys) ∙ or_both (index n == index x) (is_in n xs) (is_in n ys)
 
 -- ---- a name is known by its number
 
-all_names : List KindName
-all_names = name.Handshake ∷ name.SslRequest ∷ name.Login ∷ name.AuthSwitch ∷ name.OldAuthSwitch ∷ name.AuthMoreData ∷ name.AuthNextFactor ∷ name.AuthPluginData ∷ name.AuthData ∷ name.Command ∷ name.Ok ∷ name.Error ∷ name.UnaskedError ∷ name.ProgressReport ∷ name.LocalInfile ∷ name.InfileContent ∷ name.InfileEnd ∷ name.ColumnCount ∷ name.Column ∷ name.FieldListColumn ∷ name.Eof ∷ name.OkTerminator ∷ name.TextRow ∷ name.BinaryRow ∷ name.PrepareOk ∷ name.Statistics ∷ name.BinlogEvent ∷ name.SemiSyncAck ∷ name.Clone ∷ []
+all_names : List PacketKindTag
+all_names = name.Handshake ∷ name.SslRequest ∷ name.Login ∷ name.AuthSwitch ∷ name.OldAuthSwitch ∷ name.AuthMoreData ∷ name.AuthNextFactor ∷ name.AuthPluginData ∷ name.AuthData ∷ name.Command ∷ name.Ok ∷ name.Error ∷ name.UnsolicitedError ∷ name.ProgressReport ∷ name.LocalInfile ∷ name.InfileContent ∷ name.InfileEnd ∷ name.ColumnCount ∷ name.Column ∷ name.FieldListColumn ∷ name.Eof ∷ name.OkTerminator ∷ name.TextRow ∷ name.BinaryRow ∷ name.PrepareOk ∷ name.Statistics ∷ name.BinlogEvent ∷ name.SemiSyncAck ∷ name.Clone ∷ []
 
-at : List KindName → ℕ → Option KindName
+at : List PacketKindTag → ℕ → Option PacketKindTag
 at [] n = None
 at (x ∷ xs) zero = Some x
 at (x ∷ xs) (suc n) = at xs n
 
-known : (n : KindName) → at all_names (index n) ≡ Some n
+known : (n : PacketKindTag) → at all_names (index n) ≡ Some n
 unfolding all_names at
 known name.Handshake = refl
 known name.SslRequest = refl
@@ -69,7 +69,7 @@ known name.AuthData = refl
 known name.Command = refl
 known name.Ok = refl
 known name.Error = refl
-known name.UnaskedError = refl
+known name.UnsolicitedError = refl
 known name.ProgressReport = refl
 known name.LocalInfile = refl
 known name.InfileContent = refl
@@ -87,20 +87,20 @@ known name.BinlogEvent = refl
 known name.SemiSyncAck = refl
 known name.Clone = refl
 
-pub same : (n x : KindName) → index n ≡ index x → n ≡ x
+pub same : (n x : PacketKindTag) → index n ≡ index x → n ≡ x
 same n x e = some_is (sym (known n) ∙ ap (at all_names) e ∙ known x)
 
 -- what holds for each name of a list
-module _ (P : KindName → Type 0) where
-  abbrev pub All : List KindName → Type 0
+module _ (P : PacketKindTag → Type 0) where
+  abbrev pub All : List PacketKindTag → Type 0
   All [] = Unit {0}
   All (x ∷ xs) = P x × All xs
 
-  pub all_both : (xs ys : List KindName) → All xs → All ys → All (xs ++ ys)
+  pub all_both : (xs ys : List PacketKindTag) → All xs → All ys → All (xs ++ ys)
   all_both [] ys f g = g
   all_both (x ∷ xs) ys f g = (f.0, all_both xs ys f.1 g)
 
-  pub pick : (n : KindName) (xs : List KindName) → All xs → is_in n xs ≡ true → P n
+  pub pick : (n : PacketKindTag) (xs : List PacketKindTag) → All xs → is_in n xs ≡ true → P n
   pick n [] h e = absurd cc
   pick n (x ∷ xs) h e = elim (or_cases (index n == index x) (is_in n xs) e) [
     | inl i ↦ subst P (sym (same n x (eqb-true (index n) (index x) i))) h.0
@@ -109,42 +109,42 @@ module _ (P : KindName → Type 0) where
 
 -- ---- each packet that comes is named
 
-abbrev Named : List KindName → Option (Kind × State) → Type 0
+abbrev Named : List PacketKindTag → Option (PacketKind × State) → Type 0
 Named xs None = Unit {0}
 Named xs (Some x) = is_in (name_of x.0) xs ≡ true
 
-named_cond : (xs : List KindName) (b : Bool) (x y : Option (Kind × State)) → Named xs x → Named xs y → Named xs (cond b x y)
+named_cond : (xs : List PacketKindTag) (b : Bool) (x y : Option (PacketKind × State)) → Named xs x → Named xs y → Named xs (cond b x y)
 named_cond xs true x y f g = f
 named_cond xs false x y f g = g
 
-named_more : (n : KindName) (xs : List KindName) (o : Option (Kind × State)) → Named xs o → Named (n ∷ xs) o
+named_more : (n : PacketKindTag) (xs : List PacketKindTag) (o : Option (PacketKind × State)) → Named xs o → Named (n ∷ xs) o
 named_more n xs None h = tt
 named_more n xs (Some x) h = or_right (index (name_of x.0) == index n) (is_in (name_of x.0) xs) h
 
-named_after : (xs ys : List KindName) (o : Option (Kind × State)) → Named ys o → Named (xs ++ ys) o
+named_after : (xs ys : List PacketKindTag) (o : Option (PacketKind × State)) → Named ys o → Named (xs ++ ys) o
 named_after [] ys o h = h
 named_after (x ∷ xs) ys o h = named_more x (xs ++ ys) o (named_after xs ys o h)
 
-named_reported : (b : Bool) (xs : List KindName) (o : Option (Kind × State)) → Named xs o → Named (reported b xs) o
+named_reported : (b : Bool) (xs : List PacketKindTag) (o : Option (PacketKind × State)) → Named xs o → Named (reported b xs) o
 named_reported true xs o h = named_more name.ProgressReport xs o h
 named_reported false xs o h = h
 
-end_named : (x : KindName) (d : Bool) → is_in (name_of (ending d)) (x ∷ end_name d ∷ []) ≡ true
+end_named : (x : PacketKindTag) (d : Bool) → is_in (name_of (ending d)) (x ∷ end_name d ∷ []) ≡ true
 end_named x true = or_right (index name.OkTerminator == index x) true refl
 end_named x false = or_right (index name.Eof == index x) true refl
 
-row_named : (r : Request) (xs : List KindName) → is_in (name_of (kind.Row (format_of r))) (row_name r ∷ xs) ≡ true
+row_named : (r : Request) (xs : List PacketKindTag) → is_in (name_of (kind.Row (format_of r))) (row_name r ∷ xs) ≡ true
 row_named Query xs = refl
 row_named Execution xs = refl
 row_named Cursor xs = refl
 
-module _ (P : Kind → Type 0) where
-  by_no_cond : (b : Bool) (x y : Kind) → P y → P (cond (b && false) x y)
+module _ (P : PacketKind → Type 0) where
+  by_no_cond : (b : Bool) (x y : PacketKind) → P y → P (cond (b && false) x y)
   by_no_cond true x y f = f
   by_no_cond false x y f = f
 
 -- what a server says before it is done, where next factors are agreed on or not
-kind_by : Bool → List ℕ → Kind
+kind_by : Bool → List ℕ → PacketKind
 kind_by factors p =
     cond (first_is 0xfe p) (cond (is_one_byte p) kind.OldAuthSwitch kind.AuthSwitch)
     (cond (first_is 1 p) kind.AuthMoreData (cond (first_is 2 p && factors) kind.AuthNextFactor kind.AuthPluginData))
@@ -156,7 +156,7 @@ asked_named true p = by_cond (λ k. is_in (name_of k) (name.Ok ∷ asked_names t
 asked_named false p = by_cond (λ k. is_in (name_of k) (name.Ok ∷ asked_names false) ≡ true) (first_is 0xfe p) _ _ (by_cond (λ k. is_in (name_of k) (name.Ok ∷ asked_names false) ≡ true) (is_one_byte p) _ _ refl refl)
     (by_cond (λ k. is_in (name_of k) (name.Ok ∷ asked_names false) ≡ true) (first_is 1 p) _ _ refl (by_no_cond (λ k. is_in (name_of k) (name.Ok ∷ asked_names false) ≡ true) (first_is 2 p) _ _ refl))
 
-named_status : (xs : List KindName) (status : Option StatusFlags) → Named (name.Ok ∷ xs) (logged_in status)
+named_status : (xs : List PacketKindTag) (status : Option StatusFlags) → Named (name.Ok ∷ xs) (logged_in status)
 named_status xs None = tt
 named_status xs (Some status) = named_cond (name.Ok ∷ xs) (has_more status) _ _ tt refl
 
@@ -201,7 +201,7 @@ named_line d r None = tt
 named_line d r (Some line.Row) = row_named r (end_name d ∷ [])
 named_line d r (Some (line.End more)) = end_named (row_name r) d
 
-named_last : (d : Bool) (n : KindName) (k : Kind) (s : State) (l : Option Line) → is_in (name_of k) (n ∷ end_name d ∷ []) ≡ true → Named (n ∷ end_name d ∷ []) (last_step d k s l)
+named_last : (d : Bool) (n : PacketKindTag) (k : PacketKind) (s : State) (l : Option Line) → is_in (name_of k) (n ∷ end_name d ∷ []) ≡ true → Named (n ∷ end_name d ∷ []) (last_step d k s l)
 named_last d n k s None h = tt
 named_last d n k s (Some line.Row) h = h
 named_last d n k s (Some (line.End more)) h = end_named n d
@@ -210,7 +210,7 @@ named_prepared : (d : Bool) (s : Option StmtPacketWithMetadata) → Named (name.
 named_prepared d None = tt
 named_prepared d (Some s) = refl
 
-named_last_ok : (m : State) (xs : List KindName) (r : Option Reply) → Named (name.Ok ∷ xs) (last_ok m r)
+named_last_ok : (m : State) (xs : List PacketKindTag) (r : Option Reply) → Named (name.Ok ∷ xs) (last_ok m r)
 named_last_ok m xs (Some (reply.Ok more)) = named_cond (name.Ok ∷ xs) more _ _ tt refl
 named_last_ok m xs (Some reply.Infile) = tt
 named_last_ok m xs (Some (reply.Columns n follow)) = tt
@@ -244,7 +244,7 @@ named_serve a (state.Acknowledgement may_end) p = named_acknowledgement a may_en
 named_serve a state.Text p = refl
 named_serve a state.Fields p = named_last (deprecates_eof a) name.FieldListColumn kind.FieldListColumn state.Fields (line_of a Text p) refl
 named_serve a state.Events p = named_event (first_is 0 p) (old_end_of a p)
-named_serve a state.Refusal p = tt
+named_serve a state.SessionError p = tt
 named_serve a state.CloneReply p = named_last_ok state.Clone [] (reply_of a p)
 named_serve a state.Clone p = refl
 named_serve a state.Quit p = tt
@@ -277,13 +277,13 @@ named_client (state.Acknowledgement may_end) p = tt
 named_client state.Text p = tt
 named_client state.Fields p = tt
 named_client state.Events p = named_cond (name.SemiSyncAck ∷ []) (first_is 0xef p) _ _ refl tt
-named_client state.Refusal p = tt
+named_client state.SessionError p = tt
 named_client state.CloneReply p = tt
 named_client state.Clone p = refl
 named_client state.Quit p = tt
 named_client state.Over p = tt
 
-error_named : (s : State) (xs : List KindName) → Named (error_names s ++ xs) (error_step s)
+error_named : (s : State) (xs : List PacketKindTag) → Named (error_names s ++ xs) (error_step s)
 error_named state.Rest xs = refl
 error_named (state.Authentication true b) xs = refl
 error_named (state.Authentication false b) xs = refl
@@ -292,36 +292,36 @@ error_named state.Over xs = tt
 error_named state.Clone xs = refl
 error_named _ xs = refl
 
-failed_named : (r : Bool) (s : State) (xs : List KindName) → Named (error_names s ++ xs) (failed r s)
+failed_named : (r : Bool) (s : State) (xs : List PacketKindTag) → Named (error_names s ++ xs) (failed r s)
 failed_named r state.Clone xs = subst (λ o. Named (error_names state.Clone ++ xs) o) (sym (failed_clone r)) refl
 failed_named true _ xs = tt
 failed_named false s xs = subst (λ o. Named (error_names s ++ xs) o) (sym (failed_no_report s)) (error_named s xs)
 
--- a report comes where reports are agreed on, and where the server is to speak
-report_named : (a : Agreed) (s : State) (p : List ℕ) → (is_report a p && is_due s) ≡ true → (reports_progress a && is_due s) ≡ true
+-- a report comes where reports are agreed on, and where one may come
+report_named : (a : Agreed) (s : State) (p : List ℕ) → (is_report a p && reports s) ≡ true → (reports_progress a && reports s) ≡ true
 unfolding is_report
 report_named a s p h =
-    let b = and_parts (is_report a p) (is_due s) h in
-    rw ((and_parts (reports_progress a) (begins_with_ff 3 p) b.0).0, b.1) refl
+    let b = and_parts (is_report a p) (reports s) h in
+    ap (λ x. x && reports s) (and_parts (reports_progress a) (begins_with_ff 3 p) b.0).0 ∙ b.1
 
-named_report : (b : Bool) (xs ys : List KindName) → b ≡ true → is_in name.ProgressReport (xs ++ reported b ys) ≡ true
+named_report : (b : Bool) (xs ys : List PacketKindTag) → b ≡ true → is_in name.ProgressReport (xs ++ reported b ys) ≡ true
 named_report true [] ys h = refl
 named_report true (x ∷ xs) ys h = or_right (index name.ProgressReport == index x) _ (named_report true xs ys refl)
 named_report false xs ys h = absurd cc
 
 named_served : (a : Agreed) (s : State) (p : List ℕ) → Named (names a s Server) (step a s Server p)
 named_served a s p =
-    let b = reports_progress a && is_due s in
+    let b = reports_progress a && reports s in
     let ys = reported b (served_names a s) in
     named_cond (error_names s ++ ys) (first_is 0xff p) _ _ (failed_named (is_report a p) s ys)
     (named_after (error_names s) ys (serve a s p) (named_reported b (served_names a s) (serve a s p) (named_serve a s p)))
 
-named_take : (a : Agreed) (s : State) (side : Side) (p : List ℕ) (k : Kind) (m : State) → take_step a s side p ≡ Some (k, m) → Named (names a s side) (Some (k, m))
+named_take : (a : Agreed) (s : State) (side : Side) (p : List ℕ) (k : PacketKind) (m : State) → take_step a s side p ≡ Some (k, m) → Named (names a s side) (Some (k, m))
 named_take a s Client p k m e = subst (λ o. Named (sent_names s) o) e (named_client s p)
-named_take a s Server p k m e = elim (chosen (is_report a p && is_due s) _ _ _ e) [
-  | inl h ↦ subst (λ o. Named (names a s Server) o) h.1 (named_report (reports_progress a && is_due s) (error_names s) (served_names a s) (report_named a s p h.0))
+named_take a s Server p k m e = elim (chosen (is_report a p && reports s) _ _ _ e) [
+  | inl h ↦ subst (λ o. Named (names a s Server) o) h.1 (named_report (reports_progress a && reports s) (error_names s) (served_names a s) (report_named a s p h.0))
   | inr h ↦ subst (λ o. Named (names a s Server) o) h.1 (named_served a s p)
 ]
 
-pub what_comes_is_named : (a : Agreed) (s : State) (side : Side) (p : List ℕ) (k : Kind) (m : State) → take_step a s side p ≡ Some (k, m) → expects a s side (name_of k) ≡ true
+pub what_comes_is_named : (a : Agreed) (s : State) (side : Side) (p : List ℕ) (k : PacketKind) (m : State) → take_step a s side p ≡ Some (k, m) → may_receive a s side (name_of k) ≡ true
 what_comes_is_named a s side p k m e = named_take a s side p k m e

@@ -6,8 +6,8 @@ use Rattle.std.proofs.lemmas.Bool.{and_parts}
 use Rattle.mysql_conversation.specs.Conversation.{Packet, commands, asks}
 use Rattle.mysql_conversation.specs.Pipelined.{Numbered, is_client, is_command, counted, AreNumbered, ArePassed, Early, IsPipelined}
 use Rattle.mysql_conversation.specs.Order.{from_client, from_server, FollowCommands, IsInterleaved}
-use Rattle.mysql_conversation.specs.declared.kind.Opening.{Opening}
-use Rattle.mysql_conversation.specs.declared.kind.Side.TheVariants.{Server}
+use Rattle.mysql_conversation.specs.declared.packet_kind.InitialPhase.{InitialPhase}
+use Rattle.mysql_conversation.specs.declared.packet_kind.Side.TheVariants.{Server}
 
 client_of : (x : Packet) → is_command x ≡ true → is_client x.from ≡ true
 client_of x h = (and_parts (is_client x.from) (commands x.kind) h).0
@@ -83,6 +83,6 @@ early_follow n b (x ∷ items) others (inr h) g =
       early_follow (counted n x.packet) false items (h.0 ++ h.1) h.5 (subst (λ m. FollowCommands m (h.0 ++ h.1)) (sym (command_counts n x.packet h.2)) q.1),
     )
 
-pub pipelined_is_interleaved : (d : Agreed) (o : Opening) (items : List Numbered) → IsPipelined d o items → IsInterleaved d o items
+pub pipelined_is_interleaved : (d : Agreed) (o : InitialPhase) (items : List Numbered) → IsPipelined d o items → IsInterleaved d o items
 pipelined_is_interleaved d o items h =
     (h.0, h.1, early_client false items h.0 h.3, early_server false items h.0 h.3, early_follow 0 false items h.0 h.3 (numbered_follow 0 h.0 h.2))

@@ -4,15 +4,15 @@ use Rattle.std.proofs.Common.{◌≡◌, ℕ, ◌+◌, List, [], ◌∷◌, ◌+
 use Rattle.std.specs.Prelude.{◌&&◌, ◌||◌}
 use Rattle.std.proofs.lemmas.Bool.{and_parts, cases_Bool}
 use Rattle.mysql_conversation.specs.Conversation.{commands}
-use Rattle.mysql_conversation.specs.Machine.{take_step, rests, is_idle, is_shut, listens, is_due}
+use Rattle.mysql_conversation.specs.Machine.{take_step, rests, is_rest, is_shut, listens, is_due}
 use Rattle.mysql_conversation.specs.Pipelined.{Numbered, is_client, is_command}
 use Rattle.mysql_conversation.specs.Standing.{Standing, standing, command_of, kind_of, begin, wait, waits, is_quit, quits, settle, push, early, aside, in_turn, served, pipe_step, Steps, PipeRun}
 use Rattle.mysql_conversation.proofs.Classes.{some_is, chosen}
 use Rattle.mysql_conversation.proofs.States.{Turn, turn, due_runs, idle_is, running_idle, running_shut, shut_idle}
 use Rattle.mysql_conversation.proofs.Turns.{command_step, rest_step_is, kind_is_command, begin_listens, begin_shut, running_kind, no_aside}
-use Rattle.mysql_conversation.specs.declared.kind.Kind.{Kind}
-use Rattle.mysql_conversation.specs.declared.kind.Side.{Side}
-use Rattle.mysql_conversation.specs.declared.kind.Side.TheVariants.{Client, Server}
+use Rattle.mysql_conversation.specs.declared.packet_kind.PacketKind.{PacketKind}
+use Rattle.mysql_conversation.specs.declared.packet_kind.Side.{Side}
+use Rattle.mysql_conversation.specs.declared.packet_kind.Side.TheVariants.{Client, Server}
 use Rattle.mysql_conversation.specs.declared.state.State.{State}
 use Rattle.mysql_conversation.specs.declared.state.State.TheVariants as state
 use Rattle.mysql_conversation.specs.declared.state.Answer.{Answer}
@@ -21,9 +21,9 @@ use Rattle.mysql_conversation.specs.declared.state.Command.{Command}
 use Rattle.mysql_conversation.specs.declared.pipeline.Waiting.{Waiting}
 
 abbrev pub Outcome : Type 0
-Outcome = Kind × ℕ × Standing
+Outcome = PacketKind × ℕ × Standing
 
-abbrev pub outcome : Kind → ℕ → Standing → Option Outcome
+abbrev pub outcome : PacketKind → ℕ → Standing → Option Outcome
 outcome k n w = Some (k, n, w)
 
 -- no exchange runs, and no command waits
@@ -68,11 +68,19 @@ after w c = cond (is_due w.state) (push w c) (standing (begin c) (w.last + 1) (w
 settle_at_rest : (m : State) (i l : ℕ) (n : Waiting) (q : List Waiting) → m ≡ state.Rest → settle m i l (n ∷ q) ≡ settle (begin n.command) n.number l q
 settle_at_rest m i l n q e = ap (λ m. settle m i l (n ∷ q)) e
 
-pub settle_stays : (m : State) (i l : ℕ) (q : List Waiting) → is_idle m ≡ false → settle m i l q ≡ standing m i l q
+pub settle_stays : (m : State) (i l : ℕ) (q : List Waiting) → is_rest m ≡ false → settle m i l q ≡ standing m i l q
 settle_stays m i l [] h = refl
 settle_stays m i l (n ∷ q) h = rw h refl
 
 -- a command that comes after those that wait, where it may come
+-- a packet of the server after which the state is the same, and is no end
+pub served_stays : (a : Agreed) (w : Standing) (p : List ℕ) (k : PacketKind) → take_step a w.state Server p ≡ Some (k, w.state) → listens w.state ≡ false → is_shut w.state ≡ false → is_rest w.state ≡ false
+    → pipe_step a w Server p ≡ Some (k, w.number, w)
+served_stays a w p k h l s i =
+    ap (served w) h
+    ∙ ap (λ b. cond (b && waits w.waiting) None (Some (k, w.number, settle w.state w.number w.last w.waiting))) (ap (λ b. b || is_shut w.state) l ∙ s)
+    ∙ ap (λ v. Some (k, w.number, v)) (settle_stays w.state w.number w.last w.waiting i)
+
 settle_more_at : (m : State) (i l : ℕ) (q : List Waiting) (c : Command) → Turn m → listens m ≡ false → is_shut (settle m i l q).state ≡ false → settle m i (l + 1) (q ++ wait c (l + 1) ∷ []) ≡ after (settle m i l q) c
 settle_more_at m i l [] c (inl e) h u = rw e refl
 settle_more_at m i l [] c (inr (inl a)) h u = absurd cc
@@ -91,7 +99,7 @@ settle_more m i l q c h u = settle_more_at m i l q c (turn m) h u
 
 pub settle_last : (m : State) (i l : ℕ) (q : List Waiting) → (settle m i l q).last ≡ l
 settle_last m i l [] = refl
-settle_last m i l (n ∷ q) = elim (cases_Bool (is_idle m)) [
+settle_last m i l (n ∷ q) = elim (cases_Bool (is_rest m)) [
   | inl e ↦ rw e (settle_last (begin n.command) n.number l q)
   | inr e ↦ rw e refl
 ]
@@ -110,7 +118,7 @@ quits_last (k ∷ m ∷ q) n = quits_last (m ∷ q) n
 -- who settles is asked no more and no less
 pub settle_listens : (m : State) (i l : ℕ) (q : List Waiting) → listens (settle m i l q).state ≡ listens m
 settle_listens m i l [] = refl
-settle_listens m i l (n ∷ q) = elim (cases_Bool (is_idle m)) [
+settle_listens m i l (n ∷ q) = elim (cases_Bool (is_rest m)) [
   | inl e ↦ rw e (settle_listens (begin n.command) n.number l q ∙ begin_listens n.command ∙ sym (ap listens (idle_is m e)))
   | inr e ↦ rw e refl
 ]
@@ -120,22 +128,22 @@ pub settle_shut : (m : State) (i l : ℕ) (q : List Waiting) → is_shut m ≡ t
 settle_shut m i l q h = ap (λ (w : Standing). is_shut w.state) (settle_stays m i l q (shut_idle m h)) ∙ h
 
 -- where a command may come next, none waits
-pub settle_idle : (m : State) (i l : ℕ) (q : List Waiting) → is_idle (settle m i l q).state ≡ true → (settle m i l q).waiting ≡ []
+pub settle_idle : (m : State) (i l : ℕ) (q : List Waiting) → is_rest (settle m i l q).state ≡ true → (settle m i l q).waiting ≡ []
 settle_idle m i l [] h = refl
-settle_idle m i l (n ∷ q) h = elim (cases_Bool (is_idle m)) [
+settle_idle m i l (n ∷ q) h = elim (cases_Bool (is_rest m)) [
   | inl e ↦ (let r = settle_at_rest m i l n q (idle_is m e) in
-      ap (λ (w : Standing). w.waiting) r ∙ settle_idle (begin n.command) n.number l q (ap (λ (w : Standing). is_idle w.state) (sym r) ∙ h))
-  | inr e ↦ (let no : is_idle m ≡ true = ap (λ (w : Standing). is_idle w.state) (sym (settle_stays m i l (n ∷ q) e)) ∙ h in absurd cc)
+      ap (λ (w : Standing). w.waiting) r ∙ settle_idle (begin n.command) n.number l q (ap (λ (w : Standing). is_rest w.state) (sym r) ∙ h))
+  | inr e ↦ (let no : is_rest m ≡ true = ap (λ (w : Standing). is_rest w.state) (sym (settle_stays m i l (n ∷ q) e)) ∙ h in absurd cc)
 ]
 
 -- COM_QUIT that waits goes on to wait, or no command comes any more
 pub settle_quits : (m : State) (i l : ℕ) (q : List Waiting) → quits q ≡ true → (quits (settle m i l q).waiting ≡ true) ⊎ (is_shut (settle m i l q).state ≡ true)
 settle_quits m i l [] h = absurd cc
-settle_quits m i l (n ∷ []) h = elim (cases_Bool (is_idle m)) [
+settle_quits m i l (n ∷ []) h = elim (cases_Bool (is_rest m)) [
   | inl e ↦ inr (ap (λ (w : Standing). is_shut w.state) (settle_at_rest m i l n [] (idle_is m e)) ∙ begin_shut n.command ∙ h)
   | inr e ↦ inl (ap (λ (w : Standing). quits w.waiting) (settle_stays m i l (n ∷ []) e) ∙ h)
 ]
-settle_quits m i l (n ∷ k ∷ q) h = elim (cases_Bool (is_idle m)) [
+settle_quits m i l (n ∷ k ∷ q) h = elim (cases_Bool (is_rest m)) [
   | inl e ↦ (let z = settle_at_rest m i l n (k ∷ q) (idle_is m e) in
       elim (settle_quits (begin n.command) n.number l (k ∷ q) h) [
         | inl a ↦ inl (ap (λ (w : Standing). quits w.waiting) z ∙ a)
@@ -173,7 +181,7 @@ Quiet w = (is_shut w.state ≡ false) × (quits w.waiting ≡ false) × OnlyLast
 
 pub settle_quiet : (m : State) (i l : ℕ) (q : List Waiting) → is_shut m ≡ false → quits q ≡ false → OnlyLast q → Quiet (settle m i l q)
 settle_quiet m i l [] s h o = (s, refl, tt)
-settle_quiet m i l (n ∷ q) s h o = elim (cases_Bool (is_idle m)) [
+settle_quiet m i l (n ∷ q) s h o = elim (cases_Bool (is_rest m)) [
   | inl e ↦ subst (λ w. Quiet w) (sym (settle_at_rest m i l n q (idle_is m e)))
       (settle_quiet (begin n.command) n.number l q (begin_shut n.command ∙ head_quits n q o h) (tail_quits n q h) o.1)
   | inr e ↦ subst (λ w. Quiet w) (sym (settle_stays m i l (n ∷ q) e)) (s, h, o)
@@ -206,14 +214,14 @@ settle_sound m i l (n ∷ q) s o =
 
 -- ---- steps and what they say
 
-pub served_back : (d : Agreed) (w : Standing) (p : List ℕ) (k : Kind) (n : ℕ) (v : Standing) (r : Option (Kind × State))
+pub served_back : (d : Agreed) (w : Standing) (p : List ℕ) (k : PacketKind) (n : ℕ) (v : Standing) (r : Option (PacketKind × State))
     → take_step d w.state Server p ≡ r → served w r ≡ outcome k n v
     → (m : State) × (take_step d w.state Server p ≡ Some (k, m)) × ((stops m && waits w.waiting) ≡ false) × (w.number ≡ n) × (settle m w.number w.last w.waiting ≡ v)
 served_back d w p k n v None e h = absurd cc
 served_back d w p k n v (Some x) e h = elim (chosen (stops x.1 && waits w.waiting) _ _ _ h) [
   | inl a ↦ absurd cc
   | inr a ↦ (let o = some_is a.1 in
-      (x.1, e ∙ ap (λ (k : Kind). Some (k, x.1)) (ap (λ (o : Outcome). o.0) o), a.0, ap (λ (o : Outcome). o.1) o, ap (λ (o : Outcome). o.2) o))
+      (x.1, e ∙ ap (λ (k : PacketKind). Some (k, x.1)) (ap (λ (o : Outcome). o.0) o), a.0, ap (λ (o : Outcome). o.1) o, ap (λ (o : Outcome). o.2) o))
 ]
 
 pub server_back : (d : Agreed) (w : Standing) (x : Numbered) (v : Standing) → x.packet.from ≡ Server → Steps d w x v
@@ -250,10 +258,10 @@ taken_at_rest d w x c s h n =
     b ∙ ap (λ k. outcome k (w.last + 1) v) h.2 ∙ ap (λ n. outcome x.packet.kind n v) (sym n)
 
 -- what a command says of the step that took it
-abbrev pub Began : Standing → List ℕ → Kind → ℕ → Standing → Type 0
+abbrev pub Began : Standing → List ℕ → PacketKind → ℕ → Standing → Type 0
 Began w p k n v = (c : Command) × (command_of p ≡ Some c) × (kind_of c ≡ k) × (w.last + 1 ≡ n) × (after w c ≡ v)
 
-began_early : (w : Standing) (p : List ℕ) (k : Kind) (n : ℕ) (v : Standing) (r : Option Command) → is_due w.state ≡ true → command_of p ≡ r → early w r ≡ outcome k n v → (quits w.waiting ≡ false) × Began w p k n v
+began_early : (w : Standing) (p : List ℕ) (k : PacketKind) (n : ℕ) (v : Standing) (r : Option Command) → is_due w.state ≡ true → command_of p ≡ r → early w r ≡ outcome k n v → (quits w.waiting ≡ false) × Began w p k n v
 began_early w p k n v None sp e h = absurd cc
 began_early w p k n v (Some c) sp e h = elim (chosen (quits w.waiting) _ _ _ h) [
   | inl g ↦ absurd cc
@@ -262,21 +270,21 @@ began_early w p k n v (Some c) sp e h = elim (chosen (quits w.waiting) _ _ _ h) 
       (g.0, (c, e, ap (λ (o : Outcome). o.0) o, ap (λ (o : Outcome). o.1) o, a ∙ ap (λ (o : Outcome). o.2) o)))
 ]
 
-began_at_rest : (i l : ℕ) (q : List Waiting) (p : List ℕ) (k : Kind) (n : ℕ) (v : Standing) (r : Option Command) → command_of p ≡ r → in_turn (standing state.Rest i l q) (command_step r) ≡ outcome k n v → Began (standing state.Rest i l q) p k n v
+began_at_rest : (i l : ℕ) (q : List Waiting) (p : List ℕ) (k : PacketKind) (n : ℕ) (v : Standing) (r : Option Command) → command_of p ≡ r → in_turn (standing state.Rest i l q) (command_step r) ≡ outcome k n v → Began (standing state.Rest i l q) p k n v
 began_at_rest i l q p k n v None e h = absurd cc
 began_at_rest i l q p k n v (Some c) e h =
     let o = some_is h in
     (c, e, ap (λ (o : Outcome). o.0) o, ap (λ (o : Outcome). o.1) o, ap (λ (o : Outcome). o.2) o)
 
 -- what a packet of a file says
-pub loaded_back : (d : Agreed) (w : Standing) (p : List ℕ) (k : Kind) (n : ℕ) (v : Standing) (r : Option (Kind × State))
-    → is_idle w.state ≡ false → take_step d w.state Client p ≡ r → in_turn w r ≡ outcome k n v
+pub loaded_back : (d : Agreed) (w : Standing) (p : List ℕ) (k : PacketKind) (n : ℕ) (v : Standing) (r : Option (PacketKind × State))
+    → is_rest w.state ≡ false → take_step d w.state Client p ≡ r → in_turn w r ≡ outcome k n v
     → (m : State) × (take_step d w.state Client p ≡ Some (k, m)) × (w.number ≡ n) × (standing m w.number w.last w.waiting ≡ v)
 loaded_back d w p k n v None rs e h = absurd cc
 loaded_back d w p k n v (Some x) rs e h =
     let g : outcome x.0 w.number (standing x.1 w.number w.last w.waiting) ≡ outcome k n v = subst (λ b. cond b (outcome x.0 (w.last + 1) (standing x.1 (w.last + 1) (w.last + 1) w.waiting)) (outcome x.0 w.number (standing x.1 w.number w.last w.waiting)) ≡ outcome k n v) rs h in
     let o = some_is g in
-    (x.1, e ∙ ap (λ (k : Kind). Some (k, x.1)) (ap (λ (o : Outcome). o.0) o), ap (λ (o : Outcome). o.1) o, ap (λ (o : Outcome). o.2) o)
+    (x.1, e ∙ ap (λ (k : PacketKind). Some (k, x.1)) (ap (λ (o : Outcome). o.0) o), ap (λ (o : Outcome). o.1) o, ap (λ (o : Outcome). o.2) o)
 
 -- the client is_due in its turn, and no command comes early
 pub client_turn : (d : Agreed) (w : Standing) (p : List ℕ) (o : Option Outcome) → is_due w.state ≡ false → pipe_step d w Client p ≡ o → in_turn w (take_step d w.state Client p) ≡ o
@@ -285,14 +293,14 @@ client_turn d w p o sp h = subst (λ b. cond b (aside w (take_step d w.state Cli
 pub client_due : (d : Agreed) (w : Standing) (p : List ℕ) (o : Option Outcome) → is_due w.state ≡ true → pipe_step d w Client p ≡ o → aside w (take_step d w.state Client p) (command_of p) ≡ o
 client_due d w p o sp h = subst (λ b. cond b (aside w (take_step d w.state Client p) (command_of p)) (in_turn w (take_step d w.state Client p)) ≡ o) sp h
 
-pub client_rest : (d : Agreed) (w : Standing) (p : List ℕ) (k : Kind) (n : ℕ) (v : Standing) → w.state ≡ state.Rest → pipe_step d w Client p ≡ outcome k n v → Began w p k n v
+pub client_rest : (d : Agreed) (w : Standing) (p : List ℕ) (k : PacketKind) (n : ℕ) (v : Standing) → w.state ≡ state.Rest → pipe_step d w Client p ≡ outcome k n v → Began w p k n v
 client_rest d w p k n v e h =
     subst (λ s. Began (standing s w.number w.last w.waiting) p k n v) (sym e)
     (began_at_rest w.number w.last w.waiting p k n v (command_of p) refl
     (sym (ap (λ r. in_turn (standing state.Rest w.number w.last w.waiting) r) (rest_step_is d p)) ∙ subst (λ s. pipe_step d (standing s w.number w.last w.waiting) Client p ≡ outcome k n v) e h))
 
 -- a command that comes while the server is to speak
-pub command_due : (d : Agreed) (w : Standing) (p : List ℕ) (k : Kind) (n : ℕ) (v : Standing) (r : Option (Kind × State))
+pub command_due : (d : Agreed) (w : Standing) (p : List ℕ) (k : PacketKind) (n : ℕ) (v : Standing) (r : Option (PacketKind × State))
     → is_due w.state ≡ true → take_step d w.state Client p ≡ r → commands k ≡ true → aside w r (command_of p) ≡ outcome k n v → (quits w.waiting ≡ false) × Began w p k n v
 command_due d w p k n v None sp e c h = began_early w p k n v (command_of p) sp refl h
 command_due d w p k n v (Some x) sp e c h = elim (chosen (waits w.waiting) _ _ _ h) [
@@ -302,10 +310,10 @@ command_due d w p k n v (Some x) sp e c h = elim (chosen (waits w.waiting) _ _ _
 ]
 
 -- and a packet of the client that is none
-abbrev Aside : Agreed → Standing → List ℕ → Kind → ℕ → Standing → Type 0
+abbrev Aside : Agreed → Standing → List ℕ → PacketKind → ℕ → Standing → Type 0
 Aside d w p k n v = (m : State) × (take_step d w.state Client p ≡ Some (k, m)) × (waits w.waiting ≡ false) × (w.number ≡ n) × (standing m w.number w.last w.waiting ≡ v)
 
-pub aside_due : (d : Agreed) (w : Standing) (p : List ℕ) (k : Kind) (n : ℕ) (v : Standing) (r : Option (Kind × State))
+pub aside_due : (d : Agreed) (w : Standing) (p : List ℕ) (k : PacketKind) (n : ℕ) (v : Standing) (r : Option (PacketKind × State))
     → is_due w.state ≡ true → take_step d w.state Client p ≡ r → commands k ≡ false → aside w r (command_of p) ≡ outcome k n v → Aside d w p k n v
 aside_due d w p k n v None sp e c h =
     let b = (began_early w p k n v (command_of p) sp refl h).1 in
@@ -313,22 +321,22 @@ aside_due d w p k n v None sp e c h =
 aside_due d w p k n v (Some x) sp e c h = elim (chosen (waits w.waiting) _ _ _ h) [
   | inl a ↦ absurd cc
   | inr a ↦ (let o = some_is a.1 in
-      (x.1, e ∙ ap (λ (k : Kind). Some (k, x.1)) (ap (λ (o : Outcome). o.0) o), a.0, ap (λ (o : Outcome). o.1) o, ap (λ (o : Outcome). o.2) o))
+      (x.1, e ∙ ap (λ (k : PacketKind). Some (k, x.1)) (ap (λ (o : Outcome). o.0) o), a.0, ap (λ (o : Outcome). o.1) o, ap (λ (o : Outcome). o.2) o))
 ]
 
 -- a command is taken where one may come
-abbrev pub Taken : Standing → List ℕ → Kind → ℕ → Standing → Type 0
-Taken w p k n v = Began w p k n v × (listens w.state ≡ false) × (is_shut w.state ≡ false) × ((is_idle w.state ≡ true) ⊎ (quits w.waiting ≡ false))
+abbrev pub Taken : Standing → List ℕ → PacketKind → ℕ → Standing → Type 0
+Taken w p k n v = Began w p k n v × (listens w.state ≡ false) × (is_shut w.state ≡ false) × ((is_rest w.state ≡ true) ⊎ (quits w.waiting ≡ false))
 
 -- what the client says where no command comes any more is none
-pub shut_kind : (d : Agreed) (s : State) (p : List ℕ) (k : Kind) (m : State) → is_shut s ≡ true → take_step d s Client p ≡ Some (k, m) → commands k ≡ false
-shut_kind d state.Clone p k m h e = ap (λ (x : Kind × State). commands x.0) (some_is (sym e))
+pub shut_kind : (d : Agreed) (s : State) (p : List ℕ) (k : PacketKind) (m : State) → is_shut s ≡ true → take_step d s Client p ≡ Some (k, m) → commands k ≡ false
+shut_kind d state.Clone p k m h e = ap (λ (x : PacketKind × State). commands x.0) (some_is (sym e))
 shut_kind d state.Quit p k m h e = absurd cc
 shut_kind d state.Over p k m h e = absurd cc
 shut_kind d _ p k m h e = absurd cc
 
-command_back_at : (d : Agreed) (w : Standing) (p : List ℕ) (k : Kind) (n : ℕ) (v : Standing) → Turn w.state → commands k ≡ true → pipe_step d w Client p ≡ outcome k n v → Taken w p k n v
-command_back_at d w p k n v (inl e) c h = (client_rest d w p k n v e h, ap listens e, ap is_shut e, inl (ap is_idle e))
+command_back_at : (d : Agreed) (w : Standing) (p : List ℕ) (k : PacketKind) (n : ℕ) (v : Standing) → Turn w.state → commands k ≡ true → pipe_step d w Client p ≡ outcome k n v → Taken w p k n v
+command_back_at d w p k n v (inl e) c h = (client_rest d w p k n v e h, ap listens e, ap is_shut e, inl (ap is_rest e))
 command_back_at d w p k n v (inr (inl a)) c h =
     let b = loaded_back d w p k n v (take_step d w.state Client p) (running_idle w.state a.1) refl (client_turn d w p (outcome k n v) a.2 h) in
     let no : commands k ≡ false = running_kind d w.state p k b.0 a.1 b.1 in absurd cc
@@ -351,7 +359,7 @@ command_back d w x v h e =
 
 -- ---- what waits, after each step
 
-step_sound_client : (d : Agreed) (w : Standing) (p : List ℕ) (k : Kind) (n : ℕ) (v : Standing) → Turn w.state → Sound w → pipe_step d w Client p ≡ outcome k n v → Sound v
+step_sound_client : (d : Agreed) (w : Standing) (p : List ℕ) (k : PacketKind) (n : ℕ) (v : Standing) → Turn w.state → Sound w → pipe_step d w Client p ≡ outcome k n v → Sound v
 step_sound_client d w p k n v (inl e) s h =
     let b = client_rest d w p k n v e h in
     let none : w.waiting ≡ [] = s.0 (ap is_due e) in

@@ -5,16 +5,16 @@ use Rattle.std.specs.Prelude.{◌&&◌, not}
 use Rattle.std.proofs.lemmas.Bool.{and_parts, cases_Bool, not-true}
 use Rattle.mysql_conversation.specs.Conversation.{Packet}
 use Rattle.mysql_conversation.specs.Conversation.{asks, commands, inside}
-use Rattle.mysql_conversation.specs.Machine.{take_step, Takes, rests, is_idle, is_shut, listens, is_due}
+use Rattle.mysql_conversation.specs.Machine.{take_step, Takes, rests, is_rest, is_shut, listens, is_due}
 use Rattle.mysql_conversation.specs.Taken.{packet}
 use Rattle.mysql_conversation.specs.Pipelined.{Numbered, packets, is_client, is_command, counted, AreNumbered, passes, ArePassed, Early}
 use Rattle.mysql_conversation.specs.Standing.{Standing, standing, kind_of, begin, wait, waits, quits, settle, push, pipe_step, Steps, PipeRun}
 use Rattle.mysql_conversation.proofs.States.{Turn, turn, due_of, due_runs, running_idle, shut_idle, take_listens, inside_command}
 use Rattle.mysql_conversation.proofs.Turns.{kind_is_command, begin_listens, running_kind, command_kind, rest_plain}
-use Rattle.mysql_conversation.specs.declared.kind.Kind.{Kind}
-use Rattle.mysql_conversation.specs.declared.kind.Kind.TheVariants as kind
-use Rattle.mysql_conversation.specs.declared.kind.Side.{Side}
-use Rattle.mysql_conversation.specs.declared.kind.Side.TheVariants.{Client, Server}
+use Rattle.mysql_conversation.specs.declared.packet_kind.PacketKind.{PacketKind}
+use Rattle.mysql_conversation.specs.declared.packet_kind.PacketKind.TheVariants as kind
+use Rattle.mysql_conversation.specs.declared.packet_kind.Side.{Side}
+use Rattle.mysql_conversation.specs.declared.packet_kind.Side.TheVariants.{Client, Server}
 use Rattle.mysql_conversation.specs.declared.state.State.{State}
 use Rattle.mysql_conversation.specs.declared.state.State.TheVariants as state
 use Rattle.mysql_conversation.specs.declared.pipeline.Waiting.{Waiting}
@@ -23,11 +23,11 @@ use Rattle.mysql_conversation.proofs.PipeSteps.{outcome, Over, not_both, side_is
 
 -- ---- whether the client is asked
 
-command_asks : (k : Kind) → commands k ≡ true → asks k ≡ false
+command_asks : (k : PacketKind) → commands k ≡ true → asks k ≡ false
 command_asks (kind.Command code) h = refl
 command_asks _ h = absurd cc
 
-after_listens : (w : Standing) (c : Command) (k : Kind) (v : Standing) → listens w.state ≡ false → kind_of c ≡ k → after w c ≡ v → listens v.state ≡ asks k
+after_listens : (w : Standing) (c : Command) (k : PacketKind) (v : Standing) → listens w.state ≡ false → kind_of c ≡ k → after w c ≡ v → listens v.state ≡ asks k
 after_listens w c k v l e h = elim (cases_Bool (is_due w.state)) [
   | inl sp ↦ (let a : push w c ≡ v = sym (after_early w c sp) ∙ h in ap (λ (w : Standing). listens w.state) (sym a) ∙ l ∙ sym (command_asks k (ap commands (sym e) ∙ kind_is_command c)))
   | inr sp ↦ (let a : standing (begin c) (w.last + 1) (w.last + 1) w.waiting ≡ v = after_rest w c sp ∙ h in ap (λ (w : Standing). listens w.state) (sym a) ∙ begin_listens c ∙ sym (command_asks k (ap commands (sym e) ∙ kind_is_command c)))
@@ -40,12 +40,12 @@ after_listens w c k v l e h = elim (cases_Bool (is_due w.state)) [
     after_rest w c h = rw h refl
 
 -- a packet in its turn, which begins no exchange
-turn_listens : (d : Agreed) (w : Standing) (p : List ℕ) (k : Kind) (n : ℕ) (v : Standing) → is_idle w.state ≡ false → is_due w.state ≡ false → pipe_step d w Client p ≡ outcome k n v → listens v.state ≡ asks k
+turn_listens : (d : Agreed) (w : Standing) (p : List ℕ) (k : PacketKind) (n : ℕ) (v : Standing) → is_rest w.state ≡ false → is_due w.state ≡ false → pipe_step d w Client p ≡ outcome k n v → listens v.state ≡ asks k
 turn_listens d w p k n v i u h =
     let b = loaded_back d w p k n v (take_step d w.state Client p) i refl (client_turn d w p (outcome k n v) u h) in
     ap (λ (w : Standing). listens w.state) (sym b.3) ∙ (take_listens d w.state Client p k b.0 b.1).0
 
-client_listens : (d : Agreed) (w : Standing) (p : List ℕ) (k : Kind) (n : ℕ) (v : Standing) → Turn w.state → pipe_step d w Client p ≡ outcome k n v → listens v.state ≡ asks k
+client_listens : (d : Agreed) (w : Standing) (p : List ℕ) (k : PacketKind) (n : ℕ) (v : Standing) → Turn w.state → pipe_step d w Client p ≡ outcome k n v → listens v.state ≡ asks k
 client_listens d w p k n v (inl e) h =
     let b = client_rest d w p k n v e h in after_listens w b.0 k v (ap listens e) b.2 b.4
 client_listens d w p k n v (inr (inl a)) h = turn_listens d w p k n v (running_idle w.state a.1) a.2 h
@@ -67,7 +67,7 @@ steps_listens d w x v h = elim (side_is x.packet.from) [
 -- ---- a command that comes sooner
 
 -- COM_QUIT doesn't wait before a packet after which a command comes
-none_quits : (m : State) (i l : ℕ) (q : List Waiting) → is_shut (settle m i l q).state ≡ false → (is_idle (settle m i l q).state ≡ true) ⊎ (quits (settle m i l q).waiting ≡ false) → quits q ≡ false
+none_quits : (m : State) (i l : ℕ) (q : List Waiting) → is_shut (settle m i l q).state ≡ false → (is_rest (settle m i l q).state ≡ true) ⊎ (quits (settle m i l q).waiting ≡ false) → quits q ≡ false
 none_quits m i l q s h = elim (cases_Bool (quits q)) [
   | inr e ↦ e
   | inl e ↦ (let now : quits (settle m i l q).waiting ≡ false = elim h [ inl r ↦ ap quits (settle_idle m i l q r) | inr r ↦ r ] in
@@ -90,7 +90,7 @@ swap d w y x u v lw f ps cmd a b =
     let c = cb.1.0.0 in
     let nl : listens m ≡ false = sym (settle_listens m w.number w.last w.waiting) ∙ ap (λ (w : Standing). listens w.state) z ∙ cb.1.1 in
     let su : is_shut (settle m w.number w.last w.waiting).state ≡ false = ap (λ (w : Standing). is_shut w.state) z ∙ cb.1.2 in
-    let nq : quits w.waiting ≡ false = none_quits m w.number w.last w.waiting su (subst (λ (w : Standing). (is_idle w.state ≡ true) ⊎ (quits w.waiting ≡ false)) (sym z) cb.1.3) in
+    let nq : quits w.waiting ≡ false = none_quits m w.number w.last w.waiting su (subst (λ (w : Standing). (is_rest w.state ≡ true) ⊎ (quits w.waiting ≡ false)) (sym z) cb.1.3) in
     let i : not (rests w.state) ≡ true = sym (take_listens d w.state Server y.packet.payload y.packet.kind m s.1).1 ∙ (and_parts (not (asks y.packet.kind)) (inside y.packet.kind) ps).1 in
     let sp : is_due w.state ≡ true = due_of w.state (not-true (rests w.state) i) lw in
     let lasts : w.last ≡ u.last = sym (settle_last m w.number w.last w.waiting) ∙ ap (λ (w : Standing). w.last) z in
@@ -102,7 +102,7 @@ swap d w y x u v lw f ps cmd a b =
       server_next d (push w c) y m v f s.1 (ap (λ b. b && waits (push w c).waiting) (no_stop m nl (none_shut m w.number w.last w.waiting su))) s.3 same,
     )
 
-passed_asks : (k : Kind) → passes k ≡ true → asks k ≡ false
+passed_asks : (k : PacketKind) → passes k ≡ true → asks k ≡ false
 passed_asks k h = not-true (asks k) (and_parts (not (asks k)) (inside k) h).0
 
 sooner : (d : Agreed) (w : Standing) (x : Numbered) (front back : List Numbered) (t : Standing) → listens w.state ≡ false → is_command x.packet ≡ true → ArePassed front
@@ -154,7 +154,7 @@ server_then d w c y v sp nc h = elim (side_is y.packet.from) [
   | inr f ↦ f
 ]
 
-passed : (d : Agreed) (s : State) (p : List ℕ) (k : Kind) (m : State) → rests s ≡ false → listens m ≡ false → take_step d s Server p ≡ Some (k, m) → passes k ≡ true
+passed : (d : Agreed) (s : State) (p : List ℕ) (k : PacketKind) (m : State) → rests s ≡ false → listens m ≡ false → take_step d s Server p ≡ Some (k, m) → passes k ≡ true
 passed d s p k m n l h =
     let t = take_listens d s Server p k m h in
     let a : asks k ≡ false = sym t.0 ∙ l in
@@ -239,13 +239,13 @@ abbrev Plainly : Agreed → State → ℕ → Packet → ℕ → Standing → Ty
 Plainly d s n x j v = (m : State) × (take_step d s x.from x.payload ≡ Some (x.kind, m)) × (j ≡ counted n x) × (alone m (counted n x) ≡ v)
 
 -- a packet in its turn, which begins no exchange
-plain_turn : (d : Agreed) (s : State) (n : ℕ) (p : List ℕ) (k : Kind) (j : ℕ) (v : Standing) → is_idle s ≡ false → is_due s ≡ false → ((m : State) → take_step d s Client p ≡ Some (k, m) → commands k ≡ false) → pipe_step d (alone s n) Client p ≡ outcome k j v → Plainly d s n (packet Client p k) j v
+plain_turn : (d : Agreed) (s : State) (n : ℕ) (p : List ℕ) (k : PacketKind) (j : ℕ) (v : Standing) → is_rest s ≡ false → is_due s ≡ false → ((m : State) → take_step d s Client p ≡ Some (k, m) → commands k ≡ false) → pipe_step d (alone s n) Client p ≡ outcome k j v → Plainly d s n (packet Client p k) j v
 plain_turn d s n p k j v i u g h =
     let b = loaded_back d (alone s n) p k j v (take_step d s Client p) i refl (client_turn d (alone s n) p (outcome k j v) u h) in
     let ck : commands k ≡ false = g b.0 b.1 in
     (b.0, b.1, rw ck (sym b.2), rw ck b.3)
 
-plain_client : (d : Agreed) (s : State) (n : ℕ) (p : List ℕ) (k : Kind) (j : ℕ) (v : Standing) → Turn s → pipe_step d (alone s n) Client p ≡ outcome k j v → (is_due s ≡ true → commands k ≡ false) → Plainly d s n (packet Client p k) j v
+plain_client : (d : Agreed) (s : State) (n : ℕ) (p : List ℕ) (k : PacketKind) (j : ℕ) (v : Standing) → Turn s → pipe_step d (alone s n) Client p ≡ outcome k j v → (is_due s ≡ true → commands k ≡ false) → Plainly d s n (packet Client p k) j v
 plain_client d s n p k j v (inl e) h t =
     let b = client_rest d (alone s n) p k j v e h in
     let st : take_step d s Client p ≡ Some (k, begin b.0) = rest_plain d s p b.0 k e b.1 b.2 in
@@ -259,7 +259,7 @@ plain_client d s n p k j v (inr (inr (inl a))) h t =
     (b.0, b.1, rw ck (sym b.3), rw ck b.4)
 plain_client d s n p k j v (inr (inr (inr a))) h t = plain_turn d s n p k j v (shut_idle s a.0) a.3 (λ m g. shut_kind d s p k m a.0 g) h
 
-plain_at : (d : Agreed) (s : State) (n : ℕ) (side : Side) (p : List ℕ) (k : Kind) (j : ℕ) (v : Standing) → pipe_step d (alone s n) side p ≡ outcome k j v → (is_due s ≡ true → commands k ≡ false) → Plainly d s n (packet side p k) j v
+plain_at : (d : Agreed) (s : State) (n : ℕ) (side : Side) (p : List ℕ) (k : PacketKind) (j : ℕ) (v : Standing) → pipe_step d (alone s n) side p ≡ outcome k j v → (is_due s ≡ true → commands k ≡ false) → Plainly d s n (packet side p k) j v
 plain_at d s n Client p k j v h t = plain_client d s n p k j v (turn s) h t
 plain_at d s n Server p k j v h t =
     let b = served_back d (alone s n) p k j v (take_step d s Server p) refl h in
@@ -272,10 +272,10 @@ in_turn_plain d s n (x ∷ xs) t h =
     let r = in_turn_plain d b.0 (counted n x.packet) xs t (subst (λ w. InTurn d w xs t) (sym b.3) h.3) in
     ((b.0, b.1, r.0), (b.2, r.1))
 
-next_client : (d : Agreed) (s : State) (n : ℕ) (p : List ℕ) (k : Kind) (m : State) → Turn s → take_step d s Client p ≡ Some (k, m) → pipe_step d (alone s n) Client p ≡ outcome k (counted n (packet Client p k)) (alone m (counted n (packet Client p k)))
+next_client : (d : Agreed) (s : State) (n : ℕ) (p : List ℕ) (k : PacketKind) (m : State) → Turn s → take_step d s Client p ≡ Some (k, m) → pipe_step d (alone s n) Client p ≡ outcome k (counted n (packet Client p k)) (alone m (counted n (packet Client p k)))
 next_client d s n p k m (inl e) h =
     let c : commands k ≡ true = command_kind d s p k m e h in
-    rw (ap is_due e, h, ap is_idle e, c) refl
+    rw (ap is_due e, h, ap is_rest e, c) refl
 next_client d s n p k m (inr (inl a)) h =
     let c : commands k ≡ false = running_kind d s p k m a.1 h in
     rw (a.2, h, running_idle s a.1, c) refl
@@ -290,7 +290,7 @@ nothing_waits : (b : Bool) → (b && false) ≡ false
 nothing_waits true = refl
 nothing_waits false = refl
 
-plain_next : (d : Agreed) (s : State) (n : ℕ) (side : Side) (p : List ℕ) (k : Kind) (m : State) → take_step d s side p ≡ Some (k, m) → pipe_step d (alone s n) side p ≡ outcome k (counted n (packet side p k)) (alone m (counted n (packet side p k)))
+plain_next : (d : Agreed) (s : State) (n : ℕ) (side : Side) (p : List ℕ) (k : PacketKind) (m : State) → take_step d s side p ≡ Some (k, m) → pipe_step d (alone s n) side p ≡ outcome k (counted n (packet side p k)) (alone m (counted n (packet side p k)))
 plain_next d s n Client p k m h = next_client d s n p k m (turn s) h
 plain_next d s n Server p k m h = rw (h, nothing_waits (stops m)) refl
 

@@ -2,17 +2,17 @@
 use Rattle.std.proofs.Common.{◌≡◌, ℕ, ◌+◌, ◌<◌, ◌≤◌, ◌-◌, ◌^◌, List, ◌⊎◌, inl, inr, length, Option, Some, None, refl, sym, ap, subst, ◌∙◌, true, false, arith}
 use Rattle.std.specs.Prelude.{◌↔◌, Result, Ok, Err, IfErr}
 use Rattle.mysql_conversation.specs.Agreements.{Agreed}
-use Rattle.mysql_conversation.specs.Machine.{take_step, is_due, is_idle}
+use Rattle.mysql_conversation.specs.Machine.{take_step, is_due, is_rest}
 use Rattle.mysql_conversation.specs.Standing.{IsFullOf, quits, command_of}
 use Rattle.mysql_conversation.specs.Piped.{IsFull, IsIdle, CountsNoMore}
 use Rattle.mysql_conversation.proofs.States.{idle_is}
 use Rattle.mysql_conversation.proofs.Turns.{no_aside, rest_step_is, command_step}
-use Rattle.mysql_conversation.specs.declared.kind.Kind.{Kind}
-use Rattle.mysql_conversation.specs.declared.kind.Side.{Side}
-use Rattle.mysql_conversation.specs.declared.kind.Side.TheVariants.{Client, Server}
+use Rattle.mysql_conversation.specs.declared.packet_kind.PacketKind.{PacketKind}
+use Rattle.mysql_conversation.specs.declared.packet_kind.Side.{Side}
+use Rattle.mysql_conversation.specs.declared.packet_kind.Side.TheVariants.{Client, Server}
 use Rattle.mysql_conversation.specs.declared.pipeline.Pipeline.{Pipeline}
-use Rattle.mysql_conversation.specs.declared.pipeline.Refusal.{Refusal}
-use Rattle.mysql_conversation.specs.declared.pipeline.Refusal.TheVariants as refusal
+use Rattle.mysql_conversation.specs.declared.pipeline.SessionError.{SessionError}
+use Rattle.mysql_conversation.specs.declared.pipeline.SessionError.TheVariants as refusal
 use Rattle.mysql_conversation.specs.declared.pipeline.Waiting.{Waiting}
 use Rattle.mysql_conversation.specs.declared.state.Command.{Command}
 use Rattle.mysql_conversation.specs.declared.state.State.{State}
@@ -23,7 +23,7 @@ pub neither : {P Q : Type 0} → (P → ⊥) → (Q → ⊥) → P ↔ Q
 neither f g = ((λ p. absurd (f p)), (λ q. absurd (g q)))
 
 -- no error of these is this one
-pub only : {A : Type 0} {P : Refusal → Type 0} (r : Result A Refusal) (why : Refusal) → IfErr r P → ((e : Refusal) → P e → e ≡ why → ⊥) → r ≡ Err why → ⊥
+pub only : {A : Type 0} {P : SessionError → Type 0} (r : Result A SessionError) (why : SessionError) → IfErr r P → ((e : SessionError) → P e → e ≡ why → ⊥) → r ≡ Err why → ⊥
 only (Ok x) why h f e = absurd cc
 only (Err w) why h f e = f w h (cc e)
 
@@ -53,17 +53,17 @@ full_early c p m (k, inr (inl h, n)) = (k.1, k.2, h.1, inr n)
 full_early c p m (k, inr (inr h, n)) = let no : is_due c.state ≡ false = ap is_due (idle_is c.state h) in absurd cc
 
 -- what the client says while the server is to speak, and is no command, is not full
-pub aside_has_place : (c : Pipeline) (p : List ℕ) (k : Kind) (m : State) → is_due c.state ≡ true → take_step c.agreed c.state Client p ≡ Some (k, m) → IsFull c Client p → ⊥
+pub aside_has_place : (c : Pipeline) (p : List ℕ) (k : PacketKind) (m : State) → is_due c.state ≡ true → take_step c.agreed c.state Client p ≡ Some (k, m) → IsFull c Client p → ⊥
 aside_has_place c p k m d e h =
     let none = no_aside c.agreed c.state p h.0.1 d h.0.2 in absurd (cc (none, e))
 
 -- ---- a command in its turn
 
-some_command : (r : Option Command) (k : Kind) (m : State) → command_step r ≡ Some (k, m) → (command : Command) × (r ≡ Some command)
+some_command : (r : Option Command) (k : PacketKind) (m : State) → command_step r ≡ Some (k, m) → (command : Command) × (r ≡ Some command)
 some_command None k m h = absurd cc
 some_command (Some c) k m h = (c, refl)
 
-pub idle_full : (c : Pipeline) (p : List ℕ) (k : Kind) (m : State) → IsIdle c → take_step c.agreed c.state Client p ≡ Some (k, m) → CountsNoMore c → IsFull c Client p
+pub idle_full : (c : Pipeline) (p : List ℕ) (k : PacketKind) (m : State) → IsIdle c → take_step c.agreed c.state Client p ≡ Some (k, m) → CountsNoMore c → IsFull c Client p
 idle_full c p k m i e n =
     let step = subst (λ s. take_step c.agreed s Client p ≡ Some (k, m)) (idle_is c.state i) e in
     let f = some_command (command_of p) k m (sym (rest_step_is c.agreed p) ∙ step) in
@@ -79,7 +79,7 @@ refused_has_place c p d e (k, inr (inl h, n)) = let no : true ≡ false = sym h.
 refused_has_place c p d e (k, inr (inr h, n)) = idle_step c.agreed p k.1 k.2 (subst (λ s. take_step c.agreed s Client p ≡ None) (idle_is c.state h) e)
 
 -- what is no command's turn
-pub running_has_place : (c : Pipeline) (p : List ℕ) → is_due c.state ≡ false → is_idle c.state ≡ false → IsFull c Client p → ⊥
+pub running_has_place : (c : Pipeline) (p : List ℕ) → is_due c.state ≡ false → is_rest c.state ≡ false → IsFull c Client p → ⊥
 running_has_place c p d i (k, inl h) = let no : true ≡ false = sym h.0.0 ∙ d in absurd cc
 running_has_place c p d i (k, inr (inl h, n)) = let no : true ≡ false = sym h.0 ∙ d in absurd cc
 running_has_place c p d i (k, inr (inr h, n)) = let no : true ≡ false = sym h ∙ i in absurd cc
@@ -94,5 +94,5 @@ counted_has_place c p d b (k, inr (w, n)) = omega arith
 pub server_is_never_full : (c : Pipeline) (p : List ℕ) (side : Side) → side ≡ Server → IsFull c side p → ⊥
 server_is_never_full c p side e h = let no : Client ≡ Server = sym h.0.0 ∙ e in absurd cc
 
-pub unexpected_full : (e : Refusal) → e ≡ refusal.Unexpected → e ≡ refusal.Full → ⊥
+pub unexpected_full : (e : SessionError) → e ≡ refusal.UnexpectedPacket → e ≡ refusal.Full → ⊥
 unexpected_full e h g = absurd cc

@@ -10,13 +10,13 @@ use Rattle.mysql_conversation.specs.Payloads.{first_is}
 use Rattle.mysql_conversation.proofs.Classes.{chosen, some_is}
 use Rattle.mysql_conversation.proofs.Places.{neither}
 use Rattle.mysql_conversation.proofs.Sessions.{login_at_is, login_at_of}
-use Rattle.mysql_conversation.specs.declared.kind.Kind.{Kind}
-use Rattle.mysql_conversation.specs.declared.kind.Kind.TheVariants as kind
-use Rattle.mysql_conversation.specs.declared.kind.Side.{Side}
-use Rattle.mysql_conversation.specs.declared.kind.Side.TheVariants.{Client, Server}
+use Rattle.mysql_conversation.specs.declared.packet_kind.PacketKind.{PacketKind}
+use Rattle.mysql_conversation.specs.declared.packet_kind.PacketKind.TheVariants as kind
+use Rattle.mysql_conversation.specs.declared.packet_kind.Side.{Side}
+use Rattle.mysql_conversation.specs.declared.packet_kind.Side.TheVariants.{Client, Server}
 use Rattle.mysql_conversation.specs.declared.pipeline.Pipeline.{Pipeline}
-use Rattle.mysql_conversation.specs.declared.pipeline.Refusal.{Refusal}
-use Rattle.mysql_conversation.specs.declared.pipeline.Refusal.TheVariants as refusal
+use Rattle.mysql_conversation.specs.declared.pipeline.SessionError.{SessionError}
+use Rattle.mysql_conversation.specs.declared.pipeline.SessionError.TheVariants as refusal
 use Rattle.mysql_conversation.specs.declared.session.Phase.{Phase}
 use Rattle.mysql_conversation.specs.declared.session.Phase.TheVariants as phase
 use Rattle.mysql_conversation.specs.declared.session.Session.{Session}
@@ -52,16 +52,16 @@ pub ok_always : {A E Q : Type 0} (r : Result A E) → Q → IfOk r (λ x. Q)
 ok_always (Ok x) q = q
 ok_always (Err e) q = tt
 
-pub unexpected_encrypted : (e : Refusal) → e ≡ refusal.Unexpected → e ≡ refusal.Encrypted → ⊥
+pub unexpected_encrypted : (e : SessionError) → e ≡ refusal.UnexpectedPacket → e ≡ refusal.Encrypted → ⊥
 unexpected_encrypted e h g = absurd cc
 
-pub unexpected_compressed : (e : Refusal) → e ≡ refusal.Unexpected → e ≡ refusal.Compressed → ⊥
+pub unexpected_compressed : (e : SessionError) → e ≡ refusal.UnexpectedPacket → e ≡ refusal.Compressed → ⊥
 unexpected_compressed e h g = absurd cc
 
-pub compressed_encrypted : (e : Refusal) → e ≡ refusal.Compressed → e ≡ refusal.Encrypted → ⊥
+pub compressed_encrypted : (e : SessionError) → e ≡ refusal.Compressed → e ≡ refusal.Encrypted → ⊥
 compressed_encrypted e h g = absurd cc
 
-pub compressed_full : (e : Refusal) → e ≡ refusal.Compressed → e ≡ refusal.Full → ⊥
+pub compressed_full : (e : SessionError) → e ≡ refusal.Compressed → e ≡ refusal.Full → ⊥
 compressed_full e h g = absurd cc
 
 -- ---- what a phase says
@@ -119,24 +119,24 @@ same_limit s t (Err e) n h g = ap limit g
 
 -- ---- a packet of the server
 
-late_plain : (b : Bool) (j k : Kind) (next : Phase) → refused_by b j ≡ Some (k, next) → is_encrypted next ≡ false
-late_plain true j k next h = ap is_encrypted (sym (ap (λ (x : Kind × Phase). x.1) (some_is h)))
+late_plain : (b : Bool) (j k : PacketKind) (next : Phase) → refused_by b j ≡ Some (k, next) → is_encrypted next ≡ false
+late_plain true j k next h = ap is_encrypted (sym (ap (λ (x : PacketKind × Phase). x.1) (some_is h)))
 late_plain false j k next h = absurd cc
 
-greeting_plain : (o : Option Agreed) (k : Kind) (next : Phase) → greeted_by o ≡ Some (k, next) → is_encrypted next ≡ false
+greeting_plain : (o : Option Agreed) (k : PacketKind) (next : Phase) → greeted_by o ≡ Some (k, next) → is_encrypted next ≡ false
 greeting_plain None k next h = absurd cc
-greeting_plain (Some server) k next h = ap is_encrypted (sym (ap (λ (x : Kind × Phase). x.1) (some_is h)))
+greeting_plain (Some server) k next h = ap is_encrypted (sym (ap (λ (x : PacketKind × Phase). x.1) (some_is h)))
 
 -- after it nothing is in TLS that was not
-pub served_plain : (ph next : Phase) (p : List ℕ) (k : Kind) → served_before ph p ≡ Some (k, next) → is_encrypted next ≡ false
+pub served_plain : (ph next : Phase) (p : List ℕ) (k : PacketKind) → served_before ph p ≡ Some (k, next) → is_encrypted next ≡ false
 served_plain phase.Greeting next p k h = elim (chosen (first_is 0xff p) _ _ _ h) [
-  | inl g ↦ ap is_encrypted (sym (ap (λ (x : Kind × Phase). x.1) (some_is g.1)))
+  | inl g ↦ ap is_encrypted (sym (ap (λ (x : PacketKind × Phase). x.1) (some_is g.1)))
   | inr g ↦ greeting_plain (greeting_at p) k next g.1
 ]
 served_plain phase.Refused next p k h = absurd cc
-served_plain (phase.Login server) next p k h = late_plain (first_is 0xff p) kind.UnaskedError k next h
-served_plain (phase.Encrypted server) next p k h = late_plain (is_clear_error p) kind.UnaskedError k next h
-served_plain (phase.InTls server) next p k h = late_plain (first_is 0xff p) kind.UnaskedError k next h
+served_plain (phase.Login server) next p k h = late_plain (first_is 0xff p) kind.UnsolicitedError k next h
+served_plain (phase.Encrypted server) next p k h = late_plain (is_clear_error p) kind.UnsolicitedError k next h
+served_plain (phase.InTls server) next p k h = late_plain (first_is 0xff p) kind.UnsolicitedError k next h
 served_plain phase.NoLogin next p k h = late_plain (first_is 0xff p) kind.Error k next h
 served_plain (phase.Commands q) next p k h = absurd cc
 
@@ -164,7 +164,7 @@ no_tls_at : (p : List ℕ) (o : Option SslRequest) (r : SslRequest) → o ≡ So
 no_tls_at p None r e h = absurd cc
 no_tls_at p (Some q) r e h = subst (λ r. asks_tls r ≡ false) (some_is e) h.0
 
-answered_plain : (s : Session) (server : Agreed) (next : Phase) (p : List ℕ) (k : Kind) (side : Side) → side ≡ Client → s.phase ≡ phase.Login server → AnsweredAs server false p k next
+answered_plain : (s : Session) (server : Agreed) (next : Phase) (p : List ℕ) (k : PacketKind) (side : Side) → side ≡ Client → s.phase ≡ phase.Login server → AnsweredAs server false p k next
     → (t : Session) → t.phase ≡ next → IsEncrypted t ↔ AsksForTls s side p
 answered_plain s server next p k side c a (inl (r, l, inl g)) t e = ((λ h. (c, server, r, a, login_at_is r p l, g.1)), (λ h. (server, e ∙ g.3)))
 answered_plain s server next p k side c a (inl (r, l, inr g)) t e = neither
@@ -176,12 +176,12 @@ answered_plain s server next p k side c a (inr g) t e = neither
     (not_encrypted t (ap is_encrypted (e ∙ g.2)))
     (λ h. let no : true ≡ false = sym h.5 ∙ no_tls_at p (login_at p) h.2 (login_at_of h.2 p h.4) g.0 in absurd cc)
 
-answered_in_tls : (server : Agreed) (next : Phase) (p : List ℕ) (k : Kind) → AnsweredAs server true p k next → is_encrypted next ≡ false
+answered_in_tls : (server : Agreed) (next : Phase) (p : List ℕ) (k : PacketKind) → AnsweredAs server true p k next → is_encrypted next ≡ false
 answered_in_tls server next p k (inl (r, l, inl g)) = let no : true ≡ false = g.0 in absurd cc
 answered_in_tls server next p k (inl (r, l, inr g)) = ap is_encrypted g.3.1
 answered_in_tls server next p k (inr g) = ap is_encrypted g.2
 
-sent_tls_at : (s t : Session) (ph next : Phase) (p : List ℕ) (k : Kind) (side : Side) → side ≡ Client → s.phase ≡ ph → SentBefore ph p k next → t.phase ≡ next → IsEncrypted t ↔ AsksForTls s side p
+sent_tls_at : (s t : Session) (ph next : Phase) (p : List ℕ) (k : PacketKind) (side : Side) → side ≡ Client → s.phase ≡ ph → SentBefore ph p k next → t.phase ≡ next → IsEncrypted t ↔ AsksForTls s side p
 sent_tls_at s t phase.Greeting next p k side c a h e = absurd h
 sent_tls_at s t phase.Refused next p k side c a h e = absurd h
 sent_tls_at s t (phase.Login server) next p k side c a h e = answered_plain s server next p k side c a h t e
@@ -190,7 +190,7 @@ sent_tls_at s t (phase.InTls server) next p k side c a h e = neither (not_encryp
 sent_tls_at s t phase.NoLogin next p k side c a h e = absurd h
 sent_tls_at s t (phase.Commands q) next p k side c a h e = absurd h
 
-pub sent_tls : (s t : Session) (p : List ℕ) (k : Kind) (side : Side) → side ≡ Client → SentBefore s.phase p k t.phase → IsEncrypted t ↔ AsksForTls s side p
+pub sent_tls : (s t : Session) (p : List ℕ) (k : PacketKind) (side : Side) → side ≡ Client → SentBefore s.phase p k t.phase → IsEncrypted t ↔ AsksForTls s side p
 sent_tls s t p k side c h = sent_tls_at s t s.phase t.phase p k side c refl h refl
 
 compressed_at : (s : Session) (ph : Phase) (p : List ℕ) (side : Side) → side ≡ Client → s.phase ≡ ph → CompressedAt ph p ↔ AgreesOnCompression s side p
@@ -208,7 +208,7 @@ sent_compressed s p side c = compressed_at s s.phase p side c refl
 
 -- ---- the conversation
 
-pub commands_full : {A : Type 0} (s : Session) (p : Pipeline) (side : Side) (payload : List ℕ) (r : Result A Refusal) → s.phase ≡ phase.Commands p
+pub commands_full : {A : Type 0} (s : Session) (p : Pipeline) (side : Side) (payload : List ℕ) (r : Result A SessionError) → s.phase ≡ phase.Commands p
     → (r ≡ Err refusal.Full) ↔ pipe.IsFull p side payload → (r ≡ Err refusal.Full) ↔ ((q : Pipeline) × Continues s q × pipe.IsFull q side payload)
 commands_full s p side payload r e h = (
   (λ full. (p, e, h.0 full)),

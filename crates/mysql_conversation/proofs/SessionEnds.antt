@@ -15,9 +15,9 @@ use Rattle.mysql_conversation.specs.Pipelined.{Numbered, IsPipelined}
 use Rattle.mysql_conversation.specs.Session.{client_of, MayLogIn, Before, IsLoggedIn, IsRefused, IsSessionBeginning, TakenIn}
 use Rattle.mysql_conversation.specs.Standing.{start}
 use Rattle.mysql_conversation.proofs.Stood.{run_is_beginning}
-use Rattle.mysql_conversation.specs.declared.kind.Kind.TheVariants as kind
-use Rattle.mysql_conversation.specs.declared.kind.Opening.TheVariants.{Login}
-use Rattle.mysql_conversation.specs.declared.kind.Side.TheVariants.{Client, Server}
+use Rattle.mysql_conversation.specs.declared.packet_kind.PacketKind.TheVariants as kind
+use Rattle.mysql_conversation.specs.declared.packet_kind.InitialPhase.TheVariants.{Login}
+use Rattle.mysql_conversation.specs.declared.packet_kind.Side.TheVariants.{Client, Server}
 use Rattle.mysql_conversation.specs.declared.session.Phase.{Phase}
 use Rattle.mysql_conversation.specs.declared.session.Phase.TheVariants as phase
 
@@ -59,7 +59,7 @@ login_goes_on server tls items f =
 
 pub taken_is_beginning : (ph : Phase) (items : List Numbered) → TakenIn ph items → IsSessionBeginning items
 taken_is_beginning phase.Greeting items e =
-    let y = place Server (0xff ∷ []) kind.UnaskedError 0 in
+    let y = place Server (0xff ∷ []) kind.UnsolicitedError 0 in
     (y ∷ [], inl (inl (y, ap (λ xs. xs ++ y ∷ []) e, ((refl, refl, refl), refl))))
 taken_is_beginning phase.Refused items h = ([], inl (subst (λ xs. IsRefused xs) (sym (append-nil items)) h))
 taken_is_beginning phase.NoLogin items h =

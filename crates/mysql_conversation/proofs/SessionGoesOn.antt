@@ -10,7 +10,7 @@ use Rattle.mysql_auth.specs.SslRequest.{ssl_request, request_of}
 use Rattle.mysql_auth.specs.declared.ssl_request.SslRequest.{SslRequest}
 use Rattle.mysql_conversation.specs.Agreements.{Agreed, agreed_on}
 use Rattle.mysql_conversation.specs.Expected.{greeting_names, login_names, login_error_names}
-use Rattle.mysql_conversation.specs.KindName.{name_of, is_in}
+use Rattle.mysql_conversation.specs.PacketKindTag.{name_of, is_in}
 use Rattle.mysql_conversation.specs.Payloads.{first_is}
 use Rattle.mysql_conversation.specs.Piped.{PipeTaken, place}
 use Rattle.mysql_conversation.specs.Pipelined.{Numbered, IsPipelined, IsPipelinedBeginning}
@@ -21,13 +21,13 @@ use Rattle.mysql_conversation.proofs.Named.{All, pick}
 use Rattle.mysql_conversation.proofs.SessionEnds.{zeros, nothing_asked, logged_in, taken_is_beginning}
 use Rattle.mysql_conversation.proofs.Sessions.{AnswersGreeting, greeting_at_is, answer_at, error_at, nothing_after, served_more, session_rest, begins_with, more_of}
 use Rattle.mysql_conversation.proofs.Stood.{run_is_beginning}
-use Rattle.mysql_conversation.specs.declared.kind.Kind.{Kind}
-use Rattle.mysql_conversation.specs.declared.kind.Kind.TheVariants as kind
-use Rattle.mysql_conversation.specs.declared.kind.Opening.TheVariants.{Login}
-use Rattle.mysql_conversation.specs.declared.kind.Side.{Side}
-use Rattle.mysql_conversation.specs.declared.kind.Side.TheVariants.{Client, Server}
-use Rattle.mysql_conversation.specs.declared.kind_name.KindName.{KindName}
-use Rattle.mysql_conversation.specs.declared.kind_name.KindName.TheVariants as name
+use Rattle.mysql_conversation.specs.declared.packet_kind.PacketKind.{PacketKind}
+use Rattle.mysql_conversation.specs.declared.packet_kind.PacketKind.TheVariants as kind
+use Rattle.mysql_conversation.specs.declared.packet_kind.InitialPhase.TheVariants.{Login}
+use Rattle.mysql_conversation.specs.declared.packet_kind.Side.{Side}
+use Rattle.mysql_conversation.specs.declared.packet_kind.Side.TheVariants.{Client, Server}
+use Rattle.mysql_conversation.specs.declared.packet_kind_tag.PacketKindTag.{PacketKindTag}
+use Rattle.mysql_conversation.specs.declared.packet_kind_tag.PacketKindTag.TheVariants as name
 use Rattle.mysql_conversation.specs.declared.pipeline.Pipeline.{Pipeline}
 use Rattle.mysql_conversation.specs.declared.session.Phase.TheVariants as phase
 
@@ -54,20 +54,20 @@ greeting_comes =
     let f = greeting_at_is no_flags greeting_bytes greeting_found in
     (greeting_bytes, kind.Handshake, 0, refl, taken_is_beginning (phase.Login no_flags) (y ∷ []) (y, refl, ((refl, refl, refl), not_error, f.0, f.1, f.2, f.3)))
 
-error_comes : GoesOn Server name.UnaskedError []
+error_comes : GoesOn Server name.UnsolicitedError []
 error_comes =
-    let y = place Server (0xff ∷ []) kind.UnaskedError 0 in
-    (0xff ∷ [], kind.UnaskedError, 0, refl, taken_is_beginning phase.Refused (y ∷ []) (inl (y, refl, ((refl, refl, refl), refl))))
+    let y = place Server (0xff ∷ []) kind.UnsolicitedError 0 in
+    (0xff ∷ [], kind.UnsolicitedError, 0, refl, taken_is_beginning phase.Refused (y ∷ []) (inl (y, refl, ((refl, refl, refl), refl))))
 
 each_greeting : (side : Side) → All (λ n. GoesOn side n []) (greeting_names side)
 each_greeting Client = tt
 each_greeting Server = (greeting_comes, (error_comes, tt))
 
-begun_as : (side : Side) (p : List ℕ) (k : Kind) (i : ℕ) → IsGreetingError (place side p k i) ⊎ ((server : Agreed) × IsGreeting server (place side p k i)) → is_in (name_of k) (greeting_names side) ≡ true
+begun_as : (side : Side) (p : List ℕ) (k : PacketKind) (i : ℕ) → IsGreetingError (place side p k i) ⊎ ((server : Agreed) × IsGreeting server (place side p k i)) → is_in (name_of k) (greeting_names side) ≡ true
 begun_as side p k i (inl h) = rw (h.0.0, h.0.1) refl
 begun_as side p k i (inr h) = rw (h.1.0.0, h.1.0.1) refl
 
-pub greeting_goes_on : (side : Side) (n : KindName) (items : List Numbered) → items ≡ [] → is_in n (greeting_names side) ≡ true ↔ GoesOn side n items
+pub greeting_goes_on : (side : Side) (n : PacketKindTag) (items : List Numbered) → items ≡ [] → is_in n (greeting_names side) ≡ true ↔ GoesOn side n items
 greeting_goes_on side n items e = (
   (λ h. subst (λ xs. GoesOn side n xs) (sym e) (pick (λ n. GoesOn side n []) n (greeting_names side) (each_greeting side) h)),
   (λ h.
@@ -78,7 +78,7 @@ greeting_goes_on side n items e = (
 
 -- ---- after an error
 
-pub nothing_goes_on : (side : Side) (n : KindName) (items : List Numbered) → TakenIn phase.Refused items → GoesOn side n items → ⊥
+pub nothing_goes_on : (side : Side) (n : PacketKindTag) (items : List Numbered) → TakenIn phase.Refused items → GoesOn side n items → ⊥
 nothing_goes_on side n items t h =
     let y = place side h.0 h.1 h.2 in
     let b = h.4 in
@@ -93,7 +93,7 @@ each_login_error : (side : Side) (items : List Numbered) → TakenIn phase.NoLog
 each_login_error Client items t = tt
 each_login_error Server items t = (login_error_comes items t, tt)
 
-pub login_error_goes_on : (side : Side) (n : KindName) (items : List Numbered) → TakenIn phase.NoLogin items → is_in n (login_error_names side) ≡ true ↔ GoesOn side n items
+pub login_error_goes_on : (side : Side) (n : PacketKindTag) (items : List Numbered) → TakenIn phase.NoLogin items → is_in n (login_error_names side) ≡ true ↔ GoesOn side n items
 login_error_goes_on side n items t = (
   (λ h. pick (λ n. GoesOn side n items) n (login_error_names side) (each_login_error side items t) h),
   (λ h.
@@ -133,17 +133,17 @@ login_comes server tls items f =
     let y = place Client zeros kind.Login 0 in
     (zeros, kind.Login, 0, refl, (b.0, inr (a, items, y, b.0, append_assoc items (y ∷ []) b.0, logged_in server tls items f, b.1)))
 
-late_comes : (server : Agreed) (tls : Bool) (items : List Numbered) → Before server tls items → GoesOn Server name.UnaskedError items
+late_comes : (server : Agreed) (tls : Bool) (items : List Numbered) → Before server tls items → GoesOn Server name.UnsolicitedError items
 late_comes server tls items f =
-    let y = place Server (0xff ∷ []) kind.UnaskedError 0 in
-    (0xff ∷ [], kind.UnaskedError, 0, refl, taken_is_beginning phase.Refused (items ++ y ∷ []) (inr (inl (server, tls, items, y, refl, f, ((refl, refl, refl), refl)))))
+    let y = place Server (0xff ∷ []) kind.UnsolicitedError 0 in
+    (0xff ∷ [], kind.UnsolicitedError, 0, refl, taken_is_beginning phase.Refused (items ++ y ∷ []) (inr (inl (server, tls, items, y, refl, f, ((refl, refl, refl), refl)))))
 
 each_login : (server : Agreed) (tls : Bool) (side : Side) (items : List Numbered) → Before server tls items → All (λ n. GoesOn side n items) (login_names tls side)
 each_login server true Client items f = (login_comes server true items f, tt)
 each_login server false Client items f = (request_comes server items f, (login_comes server false items f, tt))
 each_login server tls Server items f = (late_comes server tls items f, tt)
 
-answer_named : (tls : Bool) (side : Side) (p : List ℕ) (k : Kind) (i : ℕ) → AnswersGreeting tls (place side p k i) → is_in (name_of k) (login_names tls side) ≡ true
+answer_named : (tls : Bool) (side : Side) (p : List ℕ) (k : PacketKind) (i : ℕ) → AnswersGreeting tls (place side p k i) → is_in (name_of k) (login_names tls side) ≡ true
 answer_named true side p k i (inl h) = absurd cc
 answer_named false side p k i (inl h) = rw (h.1.0.0, h.1.0.1) refl
 answer_named true side p k i (inr (inl h)) = rw (h.1.0.0, h.1.0.1) refl
@@ -153,7 +153,7 @@ answer_named false side p k i (inr (inr (inl h))) = rw (h.0.0, h.0.1) refl
 answer_named true side p k i (inr (inr (inr h))) = rw (h.0.0, h.0.1) refl
 answer_named false side p k i (inr (inr (inr h))) = rw (h.0.0, h.0.1) refl
 
-pub login_goes_on : (server : Agreed) (tls : Bool) (side : Side) (n : KindName) (items : List Numbered) → Before server tls items → is_in n (login_names tls side) ≡ true ↔ GoesOn side n items
+pub login_goes_on : (server : Agreed) (tls : Bool) (side : Side) (n : PacketKindTag) (items : List Numbered) → Before server tls items → is_in n (login_names tls side) ≡ true ↔ GoesOn side n items
 login_goes_on server tls side n items f = (
   (λ h. pick (λ n. GoesOn side n items) n (login_names tls side) (each_login server tls side items f) h),
   (λ h.
@@ -164,8 +164,8 @@ login_goes_on server tls side n items f = (
 
 -- ---- the conversation
 
-pub commands_go_on : (q : Pipeline) (side : Side) (n : KindName) (items : List Numbered) (B : Type 0)
-    → ((rest : List Numbered) → PipeTaken q rest → B ↔ ((p : List ℕ) × (k : Kind) × (i : ℕ) × (name_of k ≡ n) × IsPipelinedBeginning q.agreed q.opening (rest ++ place side p k i ∷ [])))
+pub commands_go_on : (q : Pipeline) (side : Side) (n : PacketKindTag) (items : List Numbered) (B : Type 0)
+    → ((rest : List Numbered) → PipeTaken q rest → B ↔ ((p : List ℕ) × (k : PacketKind) × (i : ℕ) × (name_of k ≡ n) × IsPipelinedBeginning q.agreed q.opening (rest ++ place side p k i ∷ [])))
     → TakenIn (phase.Commands q) items → B ↔ GoesOn side n items
 commands_go_on q side n items B f t = (
   (λ b.

@@ -8,10 +8,10 @@ use Rattle.mysql_conversation.specs.Session.{asks_tls, IsGreeting, IsGreetingErr
 use Rattle.mysql_conversation.proofs.Classes.{some_is}
 use Rattle.mysql_conversation.proofs.Sessions.{AnswersGreeting, answer_at, begins_with, error_at, login_at_of, session_rest}
 use Rattle.mysql_conversation.proofs.Stood.{pipe_one_kind}
-use Rattle.mysql_conversation.specs.declared.kind.Kind.{Kind}
-use Rattle.mysql_conversation.specs.declared.kind.Opening.TheVariants.{Login}
-use Rattle.mysql_conversation.specs.declared.kind.Side.{Side}
-use Rattle.mysql_conversation.specs.declared.kind.Side.TheVariants.{Client, Server}
+use Rattle.mysql_conversation.specs.declared.packet_kind.PacketKind.{PacketKind}
+use Rattle.mysql_conversation.specs.declared.packet_kind.InitialPhase.TheVariants.{Login}
+use Rattle.mysql_conversation.specs.declared.packet_kind.Side.{Side}
+use Rattle.mysql_conversation.specs.declared.packet_kind.Side.TheVariants.{Client, Server}
 
 -- ---- how far a session has come
 
@@ -126,19 +126,19 @@ stage items more y (inr h) = elim (where_is items more h.1 h.3 y h.2 h.4) [
 
 -- ---- of one kind
 
-abbrev Same : Kind → Kind → ℕ → ℕ → Type 0
+abbrev Same : PacketKind → PacketKind → ℕ → ℕ → Type 0
 Same j k m n = (j ≡ k) × (m ≡ n)
 
 abbrev Begins : Numbered → Type 0
 Begins y = IsGreetingError y ⊎ ((server : Agreed) × IsGreeting server y)
 
-same_greeting : (side : Side) (p : List ℕ) (j k : Kind) (m n : ℕ) → Begins (place side p j m) → Begins (place side p k n) → Same j k m n
+same_greeting : (side : Side) (p : List ℕ) (j k : PacketKind) (m n : ℕ) → Begins (place side p j m) → Begins (place side p k n) → Same j k m n
 same_greeting side p j k m n (inl g) (inl h) = (g.0.1 ∙ sym h.0.1, g.0.2 ∙ sym h.0.2)
 same_greeting side p j k m n (inr g) (inr h) = (g.1.0.1 ∙ sym h.1.0.1, g.1.0.2 ∙ sym h.1.0.2)
 same_greeting side p j k m n (inl g) (inr h) = let yes : first_is 0xff p ≡ true = g.1 in let no : first_is 0xff p ≡ false = h.1.1 in absurd cc
 same_greeting side p j k m n (inr g) (inl h) = let no : first_is 0xff p ≡ false = g.1.1 in let yes : first_is 0xff p ≡ true = h.1 in absurd cc
 
-plain_or_tls : (tls : Bool) (c : Agreed) (side : Side) (p : List ℕ) (j k : Kind) (m n : ℕ) → tls ≡ false → IsSslRequest (place side p j m) → IsLogin tls c (place side p k n) → ⊥
+plain_or_tls : (tls : Bool) (c : Agreed) (side : Side) (p : List ℕ) (j k : PacketKind) (m n : ℕ) → tls ≡ false → IsSslRequest (place side p j m) → IsLogin tls c (place side p k n) → ⊥
 plain_or_tls true c side p j k m n e t l = absurd cc
 plain_or_tls false c side p j k m n e t l =
     let same : t.1 ≡ l.1 = some_is (sym (login_at_of t.1 p t.2) ∙ login_at_of l.1 p l.2) in
@@ -146,7 +146,7 @@ plain_or_tls false c side p j k m n e t l =
     let no : asks_tls l.1 ≡ false = l.3 in absurd cc
 
 -- whether a request for TLS or a login, or what is none, stands there
-no_request : (tls : Bool) (side : Side) (p : List ℕ) (j k : Kind) (m n : ℕ) → tls ≡ false → IsSslRequest (place side p j m) → IsNoLogin tls (place side p k n) → ⊥
+no_request : (tls : Bool) (side : Side) (p : List ℕ) (j k : PacketKind) (m n : ℕ) → tls ≡ false → IsSslRequest (place side p j m) → IsNoLogin tls (place side p k n) → ⊥
 no_request true side p j k m n e t l = absurd cc
 no_request false side p j k m n e t l =
     let plain : asks_tls t.1 ≡ false = (l.1 t.1 t.2).0 in
@@ -155,7 +155,7 @@ no_request false side p j k m n e t l =
 side_once : (s : Side) → s ≡ Client → s ≡ Server → ⊥
 side_once s c e = let no : Client ≡ Server = sym c ∙ e in absurd cc
 
-same_answer : (tls : Bool) (side : Side) (p : List ℕ) (j k : Kind) (m n : ℕ) → AnswersGreeting tls (place side p j m) → AnswersGreeting tls (place side p k n) → Same j k m n
+same_answer : (tls : Bool) (side : Side) (p : List ℕ) (j k : PacketKind) (m n : ℕ) → AnswersGreeting tls (place side p j m) → AnswersGreeting tls (place side p k n) → Same j k m n
 same_answer tls side p j k m n (inl g) (inl h) = (g.1.0.1 ∙ sym h.1.0.1, g.1.0.2 ∙ sym h.1.0.2)
 same_answer tls side p j k m n (inl g) (inr (inl h)) = absurd (plain_or_tls tls h.0 side p j k m n g.0 g.1 h.1)
 same_answer tls side p j k m n (inl g) (inr (inr (inl h))) = absurd (no_request tls side p j k m n g.0 g.1 h)
@@ -173,7 +173,7 @@ same_answer tls side p j k m n (inr (inr (inr g))) (inr (inl h)) = absurd (side_
 same_answer tls side p j k m n (inr (inr (inr g))) (inr (inr (inl h))) = absurd (side_once side h.0.0 g.0.0)
 same_answer tls side p j k m n (inr (inr (inr g))) (inr (inr (inr h))) = (g.0.1 ∙ sym h.0.1, g.0.2 ∙ sym h.0.2)
 
-same_by : (items : List Numbered) (side : Side) (p : List ℕ) (j k : Kind) (m n : ℕ) (xs ys : List Numbered) → Stage items → IsSession (items ++ place side p j m ∷ xs) → IsSession (items ++ place side p k n ∷ ys) → Same j k m n
+same_by : (items : List Numbered) (side : Side) (p : List ℕ) (j k : PacketKind) (m n : ℕ) (xs ys : List Numbered) → Stage items → IsSession (items ++ place side p j m ∷ xs) → IsSession (items ++ place side p k n ∷ ys) → Same j k m n
 same_by items side p j k m n xs ys (inl e) g h =
     same_greeting side p j k m n (begins_with (place side p j m) xs (subst (λ is. IsSession (is ++ place side p j m ∷ xs)) e g)) (begins_with (place side p k n) ys (subst (λ is. IsSession (is ++ place side p k n ∷ ys)) e h))
 same_by items side p j k m n xs ys (inr (inl f)) g h =
@@ -183,20 +183,20 @@ same_by items side p j k m n xs ys (inr (inr (inl f))) g h =
     let b = error_of k n ys h in
     (a.0.1 ∙ sym b.0.1, a.0.2 ∙ sym b.0.2)
   where
-    error_of : (l : Kind) (i : ℕ) (zs : List Numbered) → IsSession (items ++ place side p l i ∷ zs) → IsLoginError (place side p l i)
+    error_of : (l : PacketKind) (i : ℕ) (zs : List Numbered) → IsSession (items ++ place side p l i ∷ zs) → IsLoginError (place side p l i)
     error_of l i zs s =
         let y = place side p l i in
         (error_at f.0 f.1 f.2 f.3 y zs f.5 f.6 (subst (λ xs. IsSession xs) (ap (λ is. is ++ y ∷ zs) f.4 ∙ append_assoc f.2 (f.3 ∷ []) (y ∷ zs)) s)).0
 same_by items side p j k m n xs ys (inr (inr (inr t))) g h =
     pipe_one_kind t.0 Login t.3 side p j k m n (rest_of j m xs g) (rest_of k n ys h)
   where
-    rest_of : (l : Kind) (i : ℕ) (zs : List Numbered) → IsSession (items ++ place side p l i ∷ zs) → (more : List Numbered) × IsPipelined t.0 Login ((t.3 ++ place side p l i ∷ []) ++ more)
+    rest_of : (l : PacketKind) (i : ℕ) (zs : List Numbered) → IsSession (items ++ place side p l i ∷ zs) → (more : List Numbered) × IsPipelined t.0 Login ((t.3 ++ place side p l i ∷ []) ++ more)
     rest_of l i zs s =
         let y = place side p l i in
         let at : IsSession (t.1 ++ t.2 ∷ (t.3 ++ y ∷ zs)) = subst (λ xs. IsSession xs) (ap (λ is. is ++ y ∷ zs) t.4 ∙ append_assoc t.1 (t.2 ∷ t.3) (y ∷ zs)) s in
         (zs, subst (λ xs. IsPipelined t.0 Login xs) (sym (append_assoc t.3 (y ∷ []) zs)) (session_rest t.0 t.1 t.2 (t.3 ++ y ∷ zs) t.5 at))
 
-pub session_one_kind : (items : List Numbered) (side : Side) (p : List ℕ) (j k : Kind) (m n : ℕ)
+pub session_one_kind : (items : List Numbered) (side : Side) (p : List ℕ) (j k : PacketKind) (m n : ℕ)
     → IsSessionBeginning (items ++ place side p j m ∷ []) → IsSessionBeginning (items ++ place side p k n ∷ []) → (j ≡ k) × (m ≡ n)
 session_one_kind items side p j k m n g h =
     let a = subst (λ xs. IsSession xs) (append_assoc items (place side p j m ∷ []) g.0) g.1 in

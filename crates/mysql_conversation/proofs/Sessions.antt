@@ -14,14 +14,14 @@ use Rattle.mysql_conversation.specs.Pipelined.{Numbered, IsPipelined, IsPipeline
 use Rattle.mysql_conversation.specs.Session.{server_of, client_of, asks_tls, ends_name, is_clear_error, IsGreeting, IsGreetingError, BeginsAs, IsSslRequest, MayLogIn, IsLogin, IsNoLogin, IsLoginError, Before, IsLoggedIn, IsLoggedInAmong, IsRefused, IsSession, IsSessionBeginning, TakenIn}
 use Rattle.mysql_conversation.specs.SessionSteps.{greeting_in, greeting_at, login_in, login_at, IsNoLoginAt, AnsweredAs, SentBefore, refused_by, greeted_by, served_before, sends_none, is_commands, is_encrypted}
 use Rattle.mysql_conversation.proofs.Classes.{chosen, some_is}
-use Rattle.mysql_conversation.specs.declared.kind.Kind.{Kind}
-use Rattle.mysql_conversation.specs.declared.kind.Kind.TheVariants as kind
-use Rattle.mysql_conversation.specs.declared.kind.Opening.TheVariants.{Login}
-use Rattle.mysql_conversation.specs.declared.kind.Side.{Side}
-use Rattle.mysql_conversation.specs.declared.kind.Side.TheVariants.{Client, Server}
+use Rattle.mysql_conversation.specs.declared.packet_kind.PacketKind.{PacketKind}
+use Rattle.mysql_conversation.specs.declared.packet_kind.PacketKind.TheVariants as kind
+use Rattle.mysql_conversation.specs.declared.packet_kind.InitialPhase.TheVariants.{Login}
+use Rattle.mysql_conversation.specs.declared.packet_kind.Side.{Side}
+use Rattle.mysql_conversation.specs.declared.packet_kind.Side.TheVariants.{Client, Server}
 use Rattle.mysql_conversation.specs.declared.pipeline.Pipeline.{Pipeline}
-use Rattle.mysql_conversation.specs.declared.pipeline.Refusal.{Refusal}
-use Rattle.mysql_conversation.specs.declared.pipeline.Refusal.TheVariants as refusal
+use Rattle.mysql_conversation.specs.declared.pipeline.SessionError.{SessionError}
+use Rattle.mysql_conversation.specs.declared.pipeline.SessionError.TheVariants as refusal
 use Rattle.mysql_conversation.specs.declared.session.Phase.{Phase}
 use Rattle.mysql_conversation.specs.declared.session.Phase.TheVariants as phase
 
@@ -212,8 +212,8 @@ commands_refuse p y items f h b =
     f h.2 h.6 (b.0, subst (λ o. IsPipelined p.agreed o ((h.2 ++ y ∷ []) ++ b.0)) (sym h.5) q)
 
 pub commands_come : (p : Pipeline) (side : Side) (payload : List ℕ) (items : List Numbered)
-    → ((rest : List Numbered) → PipeTaken p rest → (k : Kind) × (n : ℕ) × IsPipelinedBeginning p.agreed p.opening (rest ++ place side payload k n ∷ []))
-    → TakenIn (phase.Commands p) items → (k : Kind) × (n : ℕ) × IsSessionBeginning (items ++ place side payload k n ∷ [])
+    → ((rest : List Numbered) → PipeTaken p rest → (k : PacketKind) × (n : ℕ) × IsPipelinedBeginning p.agreed p.opening (rest ++ place side payload k n ∷ []))
+    → TakenIn (phase.Commands p) items → (k : PacketKind) × (n : ℕ) × IsSessionBeginning (items ++ place side payload k n ∷ [])
 commands_come p side payload items f h =
     let c = f h.2 h.6 in
     let y = place side payload c.0 c.1 in
@@ -222,7 +222,7 @@ commands_come p side payload items f h =
     ap (λ xs. (xs ++ y ∷ []) ++ more) h.3 ∙ ap (λ xs. xs ++ more) (more_of h.0 h.1 h.2 (y ∷ [])) ∙ more_of h.0 h.1 (h.2 ++ y ∷ []) more in
     (c.0, c.1, (more, inr (p.agreed, h.0, h.1, (h.2 ++ y ∷ []) ++ more, e, h.4, subst (λ o. IsPipelined p.agreed o ((h.2 ++ y ∷ []) ++ more)) h.5 c.2.1)))
 
-pub not_unexpected : (why : Refusal) → (why ≡ refusal.Full) ⊎ (why ≡ refusal.Memory) → why ≢ refusal.Unexpected
+pub not_unexpected : (why : SessionError) → (why ≡ refusal.Full) ⊎ (why ≡ refusal.Memory) → why ≢ refusal.UnexpectedPacket
 not_unexpected why (inl e) u = absurd cc
 not_unexpected why (inr e) u = absurd cc
 
@@ -365,27 +365,27 @@ clear_is_error (b ∷ c ∷ []) h = absurd cc
 clear_is_error (b ∷ []) h = absurd cc
 clear_is_error [] h = absurd cc
 
-by_error : (b : Bool) (j k : Kind) (next : Phase) → refused_by b j ≡ Some (k, next) → (b ≡ true) × (j ≡ k) × (phase.Refused ≡ next)
-by_error true j k next h = let e = some_is h in (refl, ap (λ (x : Kind × Phase). x.0) e, ap (λ (x : Kind × Phase). x.1) e)
+by_error : (b : Bool) (j k : PacketKind) (next : Phase) → refused_by b j ≡ Some (k, next) → (b ≡ true) × (j ≡ k) × (phase.Refused ≡ next)
+by_error true j k next h = let e = some_is h in (refl, ap (λ (x : PacketKind × Phase). x.0) e, ap (λ (x : PacketKind × Phase). x.1) e)
 by_error false j k next h = absurd cc
 
-late_more : (server : Agreed) (tls : Bool) (p : List ℕ) (k : Kind) (n : ℕ) (next : Phase) (items : List Numbered) (b : Bool) → n ≡ 0 → (b ≡ true → first_is 0xff p ≡ true) → refused_by b kind.UnaskedError ≡ Some (k, next) → Before server tls items → TakenIn next (items ++ place Server p k n ∷ [])
+late_more : (server : Agreed) (tls : Bool) (p : List ℕ) (k : PacketKind) (n : ℕ) (next : Phase) (items : List Numbered) (b : Bool) → n ≡ 0 → (b ≡ true → first_is 0xff p ≡ true) → refused_by b kind.UnsolicitedError ≡ Some (k, next) → Before server tls items → TakenIn next (items ++ place Server p k n ∷ [])
 late_more server tls p k n next items b z g h f =
-    let e = by_error b kind.UnaskedError k next h in
+    let e = by_error b kind.UnsolicitedError k next h in
     subst (λ ph. TakenIn ph (items ++ place Server p k n ∷ [])) e.2 (inr (inl (server, tls, items, place Server p k n, refl, f, ((refl, sym e.1, z), g e.0))))
 
-greeting_more : (p : List ℕ) (k : Kind) (n : ℕ) (next : Phase) (items : List Numbered) (o : Option Agreed) → n ≡ 0 → first_is 0xff p ≡ false → greeting_at p ≡ o → greeted_by o ≡ Some (k, next) → items ≡ [] → TakenIn next (items ++ place Server p k n ∷ [])
+greeting_more : (p : List ℕ) (k : PacketKind) (n : ℕ) (next : Phase) (items : List Numbered) (o : Option Agreed) → n ≡ 0 → first_is 0xff p ≡ false → greeting_at p ≡ o → greeted_by o ≡ Some (k, next) → items ≡ [] → TakenIn next (items ++ place Server p k n ∷ [])
 greeting_more p k n next items None z f g h e = absurd cc
 greeting_more p k n next items (Some server) z f g h e =
     let y = place Server p k n in
     let s = some_is h in
     let read = greeting_at_is server p g in
-    subst (λ ph. TakenIn ph (items ++ y ∷ [])) (ap (λ (x : Kind × Phase). x.1) s) (y, ap (λ xs. xs ++ y ∷ []) e, ((refl, sym (ap (λ (x : Kind × Phase). x.0) s), z), f, read.0, read.1, read.2, read.3))
+    subst (λ ph. TakenIn ph (items ++ y ∷ [])) (ap (λ (x : PacketKind × Phase). x.1) s) (y, ap (λ xs. xs ++ y ∷ []) e, ((refl, sym (ap (λ (x : PacketKind × Phase). x.0) s), z), f, read.0, read.1, read.2, read.3))
 
-pub served_more : (ph : Phase) (p : List ℕ) (k : Kind) (n : ℕ) (next : Phase) (items : List Numbered) → n ≡ 0 → served_before ph p ≡ Some (k, next) → TakenIn ph items → TakenIn next (items ++ place Server p k n ∷ [])
+pub served_more : (ph : Phase) (p : List ℕ) (k : PacketKind) (n : ℕ) (next : Phase) (items : List Numbered) → n ≡ 0 → served_before ph p ≡ Some (k, next) → TakenIn ph items → TakenIn next (items ++ place Server p k n ∷ [])
 served_more phase.Greeting p k n next items z h e = elim (chosen (first_is 0xff p) _ _ _ h) [
   | inl g ↦ (let y = place Server p k n in let s = some_is g.1 in
-      subst (λ ph. TakenIn ph (items ++ y ∷ [])) (ap (λ (x : Kind × Phase). x.1) s) (inl (y, ap (λ xs. xs ++ y ∷ []) e, ((refl, sym (ap (λ (x : Kind × Phase). x.0) s), z), g.0))))
+      subst (λ ph. TakenIn ph (items ++ y ∷ [])) (ap (λ (x : PacketKind × Phase). x.1) s) (inl (y, ap (λ xs. xs ++ y ∷ []) e, ((refl, sym (ap (λ (x : PacketKind × Phase). x.0) s), z), g.0))))
   | inr g ↦ greeting_more p k n next items (greeting_at p) z g.0 refl g.1 e
 ]
 served_more phase.Refused p k n next items z h t = absurd cc
@@ -400,24 +400,24 @@ served_more phase.NoLogin p k n next items z h t =
 served_more (phase.Commands q) p k n next items z h t = absurd cc
 
 -- what is no error is refused there
-no_error : (b : Bool) (k : Kind) → refused_by b k ≡ None → b ≡ false
+no_error : (b : Bool) (k : PacketKind) → refused_by b k ≡ None → b ≡ false
 no_error true k h = absurd cc
 no_error false k h = refl
 
-server_answers : (tls : Bool) (p : List ℕ) (k : Kind) (n : ℕ) → first_is 0xff p ≡ false → AnswersGreeting tls (place Server p k n) → ⊥
+server_answers : (tls : Bool) (p : List ℕ) (k : PacketKind) (n : ℕ) → first_is 0xff p ≡ false → AnswersGreeting tls (place Server p k n) → ⊥
 server_answers tls p k n f (inl h) = let no : Server ≡ Client = h.1.0.0 in absurd cc
 server_answers tls p k n f (inr (inl h)) = let no : Server ≡ Client = h.1.0.0 in absurd cc
 server_answers tls p k n f (inr (inr (inl h))) = let no : Server ≡ Client = h.0.0 in absurd cc
 server_answers tls p k n f (inr (inr (inr h))) = let yes : first_is 0xff p ≡ true = h.1 in absurd cc
 
-greeting_none : (p : List ℕ) (k : Kind) (n : ℕ) (more : List Numbered) → first_is 0xff p ≡ false → greeted_by (greeting_at p) ≡ None → IsSession (place Server p k n ∷ more) → ⊥
+greeting_none : (p : List ℕ) (k : PacketKind) (n : ℕ) (more : List Numbered) → first_is 0xff p ≡ false → greeted_by (greeting_at p) ≡ None → IsSession (place Server p k n ∷ more) → ⊥
 greeting_none p k n more f g s = elim (begins_with (place Server p k n) more s) [
   | inl h ↦ (let no : first_is 0xff p ≡ true = h.1 in absurd cc)
   | inr h ↦ (let some : greeting_at p ≡ Some h.0 = greeting_at_of h.0 (place Server p k n) h.1 in
       let no : greeted_by (Some h.0) ≡ None = subst (λ o. greeted_by o ≡ None) some g in absurd cc)
 ]
 
-pub served_refused : (ph : Phase) (p : List ℕ) (k : Kind) (n : ℕ) (items : List Numbered) → is_commands ph ≡ false → is_encrypted ph ≡ false → served_before ph p ≡ None → TakenIn ph items → IsSessionBeginning (items ++ place Server p k n ∷ []) → ⊥
+pub served_refused : (ph : Phase) (p : List ℕ) (k : PacketKind) (n : ℕ) (items : List Numbered) → is_commands ph ≡ false → is_encrypted ph ≡ false → served_before ph p ≡ None → TakenIn ph items → IsSessionBeginning (items ++ place Server p k n ∷ []) → ⊥
 served_refused ph p k n items c t h taken b = at_beginning ph c t h taken (subst (λ xs. IsSession xs) (append_assoc items (y ∷ []) b.0) b.1)
   where
     y : Numbered
@@ -429,9 +429,9 @@ served_refused ph p k n items c t h taken b = at_beginning ph c t h taken (subst
       | inr g ↦ greeting_none p k n b.0 g.0 g.1 (subst (λ xs. IsSession (xs ++ y ∷ b.0)) e s)
     ]
     at_beginning phase.Refused c t h r s = nothing_after items y b.0 r s
-    at_beginning (phase.Login server) c t h f s = server_answers false p k n (no_error (first_is 0xff p) kind.UnaskedError h) (answer_at y items b.0 server false f s)
+    at_beginning (phase.Login server) c t h f s = server_answers false p k n (no_error (first_is 0xff p) kind.UnsolicitedError h) (answer_at y items b.0 server false f s)
     at_beginning (phase.Encrypted server) c t h f s = absurd cc
-    at_beginning (phase.InTls server) c t h f s = server_answers true p k n (no_error (first_is 0xff p) kind.UnaskedError h) (answer_at y items b.0 server true f s)
+    at_beginning (phase.InTls server) c t h f s = server_answers true p k n (no_error (first_is 0xff p) kind.UnsolicitedError h) (answer_at y items b.0 server true f s)
     at_beginning phase.NoLogin c t h l s =
         let e = error_at l.0 l.1 l.2 l.3 y b.0 l.5 l.6 (subst (λ xs. IsSession xs) (ap (λ xs. xs ++ y ∷ b.0) l.4 ∙ append_assoc l.2 (l.3 ∷ []) (y ∷ b.0)) s) in
         let no : first_is 0xff p ≡ false = no_error (first_is 0xff p) kind.Error h in
@@ -444,7 +444,7 @@ none_at : (tls : Bool) (p : List ℕ) (o : Option SslRequest) (r : SslRequest) �
 none_at tls p None r e h = absurd cc
 none_at tls p (Some q) r e h = subst (λ r. MayLogIn tls r × (ends_name p ≡ false)) (some_is e) h
 
-pub answered_more : (server : Agreed) (next : Phase) (p : List ℕ) (k : Kind) (n : ℕ) (tls : Bool) (items : List Numbered) → n ≡ 0 → AnsweredAs server tls p k next → Before server tls items
+pub answered_more : (server : Agreed) (next : Phase) (p : List ℕ) (k : PacketKind) (n : ℕ) (tls : Bool) (items : List Numbered) → n ≡ 0 → AnsweredAs server tls p k next → Before server tls items
     → TakenIn next (items ++ place Client p k n ∷ [])
 answered_more server next p k n false items z (inl (r, l, inl g)) f =
     let y = place Client p k n in
@@ -460,7 +460,7 @@ answered_more server next p k n tls items z (inr g) f =
     let y = place Client p k n in
     subst (λ ph. TakenIn ph (items ++ y ∷ [])) (sym g.2) (server, tls, items, y, refl, f, ((refl, g.1, z), (λ r b. none_at tls p (login_at p) r (login_at_of r p b) g.0)))
 
-pub sent_more : (ph : Phase) (p : List ℕ) (k : Kind) (n : ℕ) (next : Phase) (items : List Numbered) → n ≡ 0 → SentBefore ph p k next → TakenIn ph items → TakenIn next (items ++ place Client p k n ∷ [])
+pub sent_more : (ph : Phase) (p : List ℕ) (k : PacketKind) (n : ℕ) (next : Phase) (items : List Numbered) → n ≡ 0 → SentBefore ph p k next → TakenIn ph items → TakenIn next (items ++ place Client p k n ∷ [])
 sent_more phase.Greeting p k n next items z h t = absurd h
 sent_more phase.Refused p k n next items z h t = absurd h
 sent_more (phase.Login server) p k n next items z h t = answered_more server next p k n false items z h t
@@ -469,13 +469,13 @@ sent_more (phase.InTls server) p k n next items z h t = answered_more server nex
 sent_more phase.NoLogin p k n next items z h t = absurd h
 sent_more (phase.Commands q) p k n next items z h t = absurd h
 
-client_first : (p : List ℕ) (k : Kind) (n : ℕ) (more : List Numbered) → IsSession (place Client p k n ∷ more) → ⊥
+client_first : (p : List ℕ) (k : PacketKind) (n : ℕ) (more : List Numbered) → IsSession (place Client p k n ∷ more) → ⊥
 client_first p k n more s = elim (begins_with (place Client p k n) more s) [
   | inl h ↦ (let no : Client ≡ Server = h.0.0 in absurd cc)
   | inr h ↦ (let no : Client ≡ Server = h.1.0.0 in absurd cc)
 ]
 
-pub sent_refused : (ph : Phase) (p : List ℕ) (k : Kind) (n : ℕ) (items : List Numbered) → sends_none ph ≡ true → TakenIn ph items → IsSessionBeginning (items ++ place Client p k n ∷ []) → ⊥
+pub sent_refused : (ph : Phase) (p : List ℕ) (k : PacketKind) (n : ℕ) (items : List Numbered) → sends_none ph ≡ true → TakenIn ph items → IsSessionBeginning (items ++ place Client p k n ∷ []) → ⊥
 sent_refused ph p k n items h taken b = at_beginning ph h taken (subst (λ xs. IsSession xs) (append_assoc items (y ∷ []) b.0) b.1)
   where
     y : Numbered

@@ -8,20 +8,20 @@ use Rattle.mysql_prepared.specs.StmtWithMetadata.{packet_of}
 use Rattle.mysql_prepared.specs.declared.stmt_with_metadata.StmtPacketWithMetadata.{StmtPacketWithMetadata}
 use Rattle.mysql_conversation.specs.Agreements.{Agreed, deprecates_eof, asks_factors}
 use Rattle.mysql_conversation.specs.Payloads.{first_is, definitions_follow, is_one_byte, is_report, asks_cursor, opens_cursor, has_more}
-use Rattle.mysql_conversation.specs.Conversation.{code_of, answering, asks, commands, inside, ending, format_of, authentication_kind}
-use Rattle.mysql_conversation.specs.Machine.{entrance, step, take_step, client_step, serve, rests, is_idle, is_shut, listens, is_due, error_step, failed, answers, begun, infile_step, answer_step, logged_in, authentication_step, reply_step, infile_reply_step, columns_step, definitions_end_step, event_step, line_step, last_step, prepared_by, prepared_step, column_end, param_end, last_ok, last_end, acknowledgement_step, enter, defined, less, define, counted, ended, reply_of, line_of, old_end_of, statement_at, ok_status}
+use Rattle.mysql_conversation.specs.Conversation.{code_of, answering, asks, begins_with_login, ends_login, commands, inside, ending, format_of, authentication_kind}
+use Rattle.mysql_conversation.specs.Machine.{entrance, step, take_step, client_step, serve, rests, is_rest, is_shut, listens, is_due, is_login, reports, error_step, failed, answers, begun, infile_step, answer_step, logged_in, authentication_step, reply_step, infile_reply_step, columns_step, definitions_end_step, event_step, line_step, last_step, prepared_by, prepared_step, column_end, param_end, last_ok, last_end, acknowledgement_step, enter, defined, less, define, counted, ended, reply_of, line_of, old_end_of, statement_at, ok_status}
 use Rattle.mysql_conversation.specs.Expected.{shutting_names}
-use Rattle.mysql_conversation.specs.KindName.{name_of, is_in}
+use Rattle.mysql_conversation.specs.PacketKindTag.{name_of, is_in}
 use Rattle.mysql_conversation.specs.Standing.{is_quit}
 use Rattle.mysql_conversation.proofs.Classes.{chosen, some_is}
-use Rattle.mysql_conversation.specs.declared.kind_name.KindName.TheVariants as name
-use Rattle.mysql_conversation.specs.declared.kind.Format.TheVariants.{Text, Binary}
-use Rattle.mysql_conversation.specs.declared.kind.Kind.{Kind}
-use Rattle.mysql_conversation.specs.declared.kind.Kind.TheVariants as kind
-use Rattle.mysql_conversation.specs.declared.kind.Opening.{Opening}
-use Rattle.mysql_conversation.specs.declared.kind.Opening.TheVariants as opened_at
-use Rattle.mysql_conversation.specs.declared.kind.Side.{Side}
-use Rattle.mysql_conversation.specs.declared.kind.Side.TheVariants.{Client, Server}
+use Rattle.mysql_conversation.specs.declared.packet_kind_tag.PacketKindTag.TheVariants as name
+use Rattle.mysql_conversation.specs.declared.packet_kind.RowFormat.TheVariants.{Text, Binary}
+use Rattle.mysql_conversation.specs.declared.packet_kind.PacketKind.{PacketKind}
+use Rattle.mysql_conversation.specs.declared.packet_kind.PacketKind.TheVariants as kind
+use Rattle.mysql_conversation.specs.declared.packet_kind.InitialPhase.{InitialPhase}
+use Rattle.mysql_conversation.specs.declared.packet_kind.InitialPhase.TheVariants as opened_at
+use Rattle.mysql_conversation.specs.declared.packet_kind.Side.{Side}
+use Rattle.mysql_conversation.specs.declared.packet_kind.Side.TheVariants.{Client, Server}
 use Rattle.mysql_conversation.specs.declared.state.After.{After}
 use Rattle.mysql_conversation.specs.declared.state.After.TheVariants as after
 use Rattle.mysql_conversation.specs.declared.state.Answer.{Answer}
@@ -59,7 +59,7 @@ turn (state.Acknowledgement may_end) = inr (inr (inl (refl, refl, refl)))
 turn state.Text = inr (inr (inl (refl, refl, refl)))
 turn state.Fields = inr (inr (inl (refl, refl, refl)))
 turn state.Events = inr (inr (inl (refl, refl, refl)))
-turn state.Refusal = inr (inr (inl (refl, refl, refl)))
+turn state.SessionError = inr (inr (inl (refl, refl, refl)))
 turn state.CloneReply = inr (inr (inl (refl, refl, refl)))
 turn state.Clone = inr (inr (inr (refl, refl, refl, refl)))
 turn state.Quit = inr (inr (inr (refl, refl, refl, refl)))
@@ -74,11 +74,11 @@ which_rests s = elim (turn s) [
   | inr (inr (inr t)) ↦ inl t.1
 ]
 
-pub idle_is : (s : State) → is_idle s ≡ true → s ≡ state.Rest
+pub idle_is : (s : State) → is_rest s ≡ true → s ≡ state.Rest
 idle_is state.Rest h = refl
 idle_is _ h = absurd cc
 
-pub running_idle : (s : State) → rests s ≡ false → is_idle s ≡ false
+pub running_idle : (s : State) → rests s ≡ false → is_rest s ≡ false
 running_idle state.Rest h = absurd cc
 running_idle _ h = refl
 
@@ -88,7 +88,7 @@ running_shut state.Quit h = absurd cc
 running_shut state.Over h = absurd cc
 running_shut _ h = refl
 
-pub shut_idle : (s : State) → is_shut s ≡ true → is_idle s ≡ false
+pub shut_idle : (s : State) → is_shut s ≡ true → is_rest s ≡ false
 shut_idle state.Rest h = absurd cc
 shut_idle _ h = refl
 
@@ -109,16 +109,26 @@ due_runs s h = elim (turn s) [
   | inr (inr (inr d)) ↦ absurd cc
 ]
 
-pub entrance_listens : (o : Opening) → listens (entrance o) ≡ false
+not_true : (b : Bool) → not b ≡ true → b ≡ false
+not_true true h = absurd cc
+not_true false h = refl
+
+-- a report comes where the server is to speak, and no login runs
+pub reports_parts : (s : State) → reports s ≡ true → (is_due s ≡ true) × (is_login s ≡ false)
+reports_parts s h = let b = and_parts (is_due s) (not (is_login s)) h in (b.0, not_true (is_login s) b.1)
+
+pub reports_of : (s : State) → is_due s ≡ true → is_login s ≡ false → reports s ≡ true
+reports_of s d l = ap (λ b. b && not (is_login s)) d ∙ ap not l
+
+pub entrance_login : (o : InitialPhase) → is_login (entrance o) ≡ begins_with_login o
+entrance_login opened_at.Login = refl
+entrance_login opened_at.Commands = refl
+
+pub entrance_listens : (o : InitialPhase) → listens (entrance o) ≡ false
 entrance_listens opened_at.Login = refl
 entrance_listens opened_at.Commands = refl
 
 -- ---- after each packet the client is asked or not, by its kind; and inside of an exchange each is of a kind that is inside
-
--- a login runs
-abbrev pub is_login : State → Bool
-is_login (state.Authentication true is_asked) = true
-is_login _ = false
 
 -- what the client is asked for, and whether a login runs, and whether no command comes any more
 abbrev pub stance : State → Bool × Bool × Bool
@@ -128,7 +138,7 @@ abbrev pub quiet : Bool × Bool × Bool
 quiet = (false, false, false)
 
 -- after a packet of this kind in an exchange
-abbrev Listening : Kind → State → Type 0
+abbrev Listening : PacketKind → State → Type 0
 Listening k m = stance m ≡ (asks k, false, false)
 
 asking : (x y : Bool) → x ≡ y → ◌≡◌ {A = Bool × Bool × Bool} (x, false, false) (y, false, false)
@@ -143,11 +153,11 @@ stance_login m b h = ap (λ (x : Bool × Bool × Bool). x.1) h
 pub stance_shut : (m : State) (b : Bool) → stance m ≡ (b, false, false) → is_shut m ≡ false
 stance_shut m b h = ap (λ (x : Bool × Bool × Bool). x.2) h
 
-abbrev Fits : Option (Kind × State) → Type 0
+abbrev Fits : Option (PacketKind × State) → Type 0
 Fits None = Unit {0}
 Fits (Some x) = Listening x.0 x.1 × (inside x.0 ≡ true)
 
-fits_cond : (b : Bool) (x y : Option (Kind × State)) → Fits x → Fits y → Fits (cond b x y)
+fits_cond : (b : Bool) (x y : Option (PacketKind × State)) → Fits x → Fits y → Fits (cond b x y)
 fits_cond true x y f g = f
 fits_cond false x y f g = g
 
@@ -190,7 +200,7 @@ answers_listens answer.Events h = refl
 answers_listens answer.Nothing h = refl
 answers_listens answer.Quit h = absurd cc
 answers_listens answer.Clone h = refl
-answers_listens answer.Refusal h = refl
+answers_listens answer.SessionError h = refl
 
 -- a command that may end the connection
 abbrev pub may_shut : Answer → Bool
@@ -211,7 +221,7 @@ answers_shut answer.Events = refl
 answers_shut answer.Nothing = refl
 answers_shut answer.Quit = refl
 answers_shut answer.Clone = refl
-answers_shut answer.Refusal = refl
+answers_shut answer.SessionError = refl
 
 pub answers_quiet : (r : Answer) → listens (answers r) ≡ false
 answers_quiet answer.Quit = refl
@@ -235,8 +245,8 @@ ending_inside false = refl
 fits_end : (d : Bool) (m : State) → stance m ≡ quiet → Fits (Some (ending d, m))
 fits_end d m h = (h ∙ asking false (asks (ending d)) (sym (ending_asks d)), ending_inside d)
 
-module _ (P : Kind → Type 0) where
-  pub by_cond : (b : Bool) (x y : Kind) → P x → P y → P (cond b x y)
+module _ (P : PacketKind → Type 0) where
+  pub by_cond : (b : Bool) (x y : PacketKind) → P x → P y → P (cond b x y)
   by_cond true x y f g = f
   by_cond false x y f g = g
 
@@ -256,11 +266,11 @@ fits_authentication : (a : Agreed) (p : List ℕ) (status : Option StatusFlags) 
 fits_authentication a p status = fits_cond (first_is 0 p) _ _ (fits_status status) (asking true (asks (authentication_kind a p)) (sym (kind_asks a p)), kind_inside a p)
 
 -- the same of a login
-abbrev FitsLogin : Option (Kind × State) → Type 0
+abbrev FitsLogin : Option (PacketKind × State) → Type 0
 FitsLogin None = Unit {0}
 FitsLogin (Some x) = (listens x.1 ≡ asks x.0) × (inside x.0 ≡ true) × (is_shut x.1 ≡ false) × (is_in (name_of x.0) (name.Error ∷ []) ≡ false)
 
-login_cond : (b : Bool) (x y : Option (Kind × State)) → FitsLogin x → FitsLogin y → FitsLogin (cond b x y)
+login_cond : (b : Bool) (x y : Option (PacketKind × State)) → FitsLogin x → FitsLogin y → FitsLogin (cond b x y)
 login_cond true x y f g = f
 login_cond false x y f g = g
 
@@ -312,7 +322,7 @@ fits_line d r None = tt
 fits_line d r (Some line.Row) = (refl, refl)
 fits_line d r (Some (line.End more)) = fits_end d (ended r more) (ended_listens r more)
 
-fits_last : (d : Bool) (k : Kind) (s : State) (l : Option Line) → Listening k s → inside k ≡ true → Fits (last_step d k s l)
+fits_last : (d : Bool) (k : PacketKind) (s : State) (l : Option Line) → Listening k s → inside k ≡ true → Fits (last_step d k s l)
 fits_last d k s None h i = tt
 fits_last d k s (Some line.Row) h i = (h, i)
 fits_last d k s (Some (line.End more)) h i = fits_end d state.Rest refl
@@ -372,7 +382,7 @@ fits_serve a (state.Acknowledgement may_end) p h = fits_acknowledgement (depreca
 fits_serve a state.Text p h = (refl, refl)
 fits_serve a state.Fields p h = fits_last (deprecates_eof a) kind.FieldListColumn state.Fields (line_of a Text p) refl refl
 fits_serve a state.Events p h = fits_event (first_is 0 p) (old_end_of a p)
-fits_serve a state.Refusal p h = tt
+fits_serve a state.SessionError p h = tt
 fits_serve a state.CloneReply p h = absurd cc
 fits_serve a state.Clone p h = absurd cc
 fits_serve a state.Quit p h = absurd cc
@@ -403,20 +413,20 @@ fits_client (state.Acknowledgement may_end) p h = tt
 fits_client state.Text p h = tt
 fits_client state.Fields p h = tt
 fits_client state.Events p h = fits_cond (first_is 0xef p) _ _ (refl, refl) tt
-fits_client state.Refusal p h = tt
+fits_client state.SessionError p h = tt
 fits_client state.CloneReply p h = absurd cc
 fits_client state.Clone p h = absurd cc
 fits_client state.Quit p h = absurd cc
 fits_client state.Over p h = absurd cc
 
-fitting : (o : Option (Kind × State)) (k : Kind) (m : State) → Fits o → o ≡ Some (k, m) → Fits (Some (k, m))
+fitting : (o : Option (PacketKind × State)) (k : PacketKind) (m : State) → Fits o → o ≡ Some (k, m) → Fits (Some (k, m))
 fitting o k m f e = subst (λ o. Fits o) e f
 
 -- ---- what a packet says of the state after it, where an exchange runs, and where none does
 
 -- the client is asked after it just where its kind says so; it is inside of an exchange just where one runs; and no command comes after it
 -- just where its name says so
-abbrev Says : State → Kind → State → Type 0
+abbrev Says : State → PacketKind → State → Type 0
 Says s k m = (listens m ≡ asks k) × (inside k ≡ not (rests s)) × (is_shut m ≡ is_in (name_of k) (shutting_names s))
 
 plain_shuts : (s : State) → is_plain s ≡ true → (rests s ≡ false) × (shutting_names s ≡ [])
@@ -439,20 +449,20 @@ plain_shuts (state.Acknowledgement may_end) h = (refl, refl)
 plain_shuts state.Text h = (refl, refl)
 plain_shuts state.Fields h = (refl, refl)
 plain_shuts state.Events h = (refl, refl)
-plain_shuts state.Refusal h = (refl, refl)
+plain_shuts state.SessionError h = (refl, refl)
 
-plain_says : (s : State) (k : Kind) (m : State) → is_plain s ≡ true → Fits (Some (k, m)) → Says s k m
+plain_says : (s : State) (k : PacketKind) (m : State) → is_plain s ≡ true → Fits (Some (k, m)) → Says s k m
 plain_says s k m h f =
     let n = plain_shuts s h in
     (stance_listens m (asks k) f.0, f.1 ∙ ap not (sym n.0), stance_shut m (asks k) f.0 ∙ sym (ap (λ xs. is_in (name_of k) xs) n.1))
 
-login_says : (b : Bool) (o : Option (Kind × State)) (k : Kind) (m : State) → FitsLogin o → o ≡ Some (k, m) → Says (state.Authentication true b) k m
+login_says : (b : Bool) (o : Option (PacketKind × State)) (k : PacketKind) (m : State) → FitsLogin o → o ≡ Some (k, m) → Says (state.Authentication true b) k m
 login_says b o k m f e = let g : FitsLogin (Some (k, m)) = subst (λ o. FitsLogin o) e f in (g.0, g.1, g.2 ∙ sym g.3)
 
-of_one : (s : State) (j k : Kind) (n m : State) → ◌≡◌ {A = Option (Kind × State)} (Some (j, n)) (Some (k, m)) → Says s j n → Says s k m
-of_one s j k n m e = subst (λ (x : Kind × State). Says s x.0 x.1) (some_is e)
+of_one : (s : State) (j k : PacketKind) (n m : State) → ◌≡◌ {A = Option (PacketKind × State)} (Some (j, n)) (Some (k, m)) → Says s j n → Says s k m
+of_one s j k n m e = subst (λ (x : PacketKind × State). Says s x.0 x.1) (some_is e)
 
-clone_ok_says : (r : Option Reply) (k : Kind) (m : State) → last_ok state.Clone r ≡ Some (k, m) → Says state.CloneReply k m
+clone_ok_says : (r : Option Reply) (k : PacketKind) (m : State) → last_ok state.Clone r ≡ Some (k, m) → Says state.CloneReply k m
 clone_ok_says (Some (reply.Ok true)) k m h = absurd cc
 clone_ok_says (Some (reply.Ok false)) k m h = of_one state.CloneReply kind.Ok k state.Clone m h (refl, refl, refl)
 clone_ok_says (Some reply.Infile) k m h = absurd cc
@@ -483,9 +493,9 @@ special (state.Acknowledgement may_end) = inr (inr (inr (inr (inr (inr refl)))))
 special state.Text = inr (inr (inr (inr (inr (inr refl)))))
 special state.Fields = inr (inr (inr (inr (inr (inr refl)))))
 special state.Events = inr (inr (inr (inr (inr (inr refl)))))
-special state.Refusal = inr (inr (inr (inr (inr (inr refl)))))
+special state.SessionError = inr (inr (inr (inr (inr (inr refl)))))
 
-served_says : (a : Agreed) (s : State) (p : List ℕ) (k : Kind) (m : State) → Special s → serve a s p ≡ Some (k, m) → Says s k m
+served_says : (a : Agreed) (s : State) (p : List ℕ) (k : PacketKind) (m : State) → Special s → serve a s p ≡ Some (k, m) → Says s k m
 served_says a s p k m (inl e) h = let no : serve a state.Rest p ≡ Some (k, m) = subst (λ s. serve a s p ≡ Some (k, m)) e h in absurd cc
 served_says a s p k m (inr (inl e)) h =
     subst (λ s. Says s k m) (sym e.1) (login_says e.0 _ k m (fits_login a p (ok_status a p)) (subst (λ s. serve a s p ≡ Some (k, m)) e.1 h))
@@ -507,14 +517,14 @@ plain_error state.Over h = absurd cc
 plain_error (state.Authentication false b) h = refl
 plain_error _ h = refl
 
-error_says : (s : State) (k : Kind) (m : State) → Special s → error_step s ≡ Some (k, m) → Says s k m
-error_says s k m (inl e) h = subst (λ s. Says s k m) (sym e) (of_one state.Rest kind.UnaskedError k state.Over m (subst (λ s. error_step s ≡ Some (k, m)) e h) (refl, refl, refl))
+error_says : (s : State) (k : PacketKind) (m : State) → Special s → error_step s ≡ Some (k, m) → Says s k m
+error_says s k m (inl e) h = subst (λ s. Says s k m) (sym e) (of_one state.Rest kind.UnsolicitedError k state.Over m (subst (λ s. error_step s ≡ Some (k, m)) e h) (refl, refl, refl))
 error_says s k m (inr (inl e)) h =
     subst (λ s. Says s k m) (sym e.1) (of_one (state.Authentication true e.0) kind.Error k state.Over m (subst (λ s. error_step s ≡ Some (k, m)) e.1 h) (refl, refl, refl))
 error_says s k m (inr (inr (inl e))) h = subst (λ s. Says s k m) (sym e) (of_one state.CloneReply kind.Error k state.Rest m (subst (λ s. error_step s ≡ Some (k, m)) e h) (refl, refl, refl))
 error_says s k m (inr (inr (inr (inl e)))) h = subst (λ s. Says s k m) (sym e) (of_one state.Clone kind.Clone k state.Clone m (subst (λ s. error_step s ≡ Some (k, m)) e h) (refl, refl, refl))
 error_says s k m (inr (inr (inr (inr (inl e))))) h = let no : error_step state.Over ≡ Some (k, m) = subst (λ s. error_step s ≡ Some (k, m)) e h in absurd cc
-error_says s k m (inr (inr (inr (inr (inr (inl e)))))) h = subst (λ s. Says s k m) (sym e) (of_one state.Quit kind.UnaskedError k state.Over m (subst (λ s. error_step s ≡ Some (k, m)) e h) (refl, refl, refl))
+error_says s k m (inr (inr (inr (inr (inr (inl e)))))) h = subst (λ s. Says s k m) (sym e) (of_one state.Quit kind.UnsolicitedError k state.Over m (subst (λ s. error_step s ≡ Some (k, m)) e h) (refl, refl, refl))
 error_says s k m (inr (inr (inr (inr (inr (inr e)))))) h = plain_says s k m e (fitting (error_step s) k m (subst (λ o. Fits o) (sym (plain_error s e)) (refl, refl)) h)
 
 pub failed_clone : (r : Bool) → failed r state.Clone ≡ Some (kind.Clone, state.Clone)
@@ -522,8 +532,8 @@ failed_clone true = refl
 failed_clone false = refl
 
 -- what begins with ff is an error, or a packet of the clone plugin
-pub failed_is : (r : Bool) (s : State) (k : Kind) (m : State) → failed r s ≡ Some (k, m) → ((r ≡ false) × (error_step s ≡ Some (k, m))) ⊎ ((s ≡ state.Clone) × (kind.Clone ≡ k) × (state.Clone ≡ m))
-failed_is r state.Clone k m h = let e = some_is (sym (failed_clone r) ∙ h) in inr (refl, ap (λ (x : Kind × State). x.0) e, ap (λ (x : Kind × State). x.1) e)
+pub failed_is : (r : Bool) (s : State) (k : PacketKind) (m : State) → failed r s ≡ Some (k, m) → ((r ≡ false) × (error_step s ≡ Some (k, m))) ⊎ ((s ≡ state.Clone) × (kind.Clone ≡ k) × (state.Clone ≡ m))
+failed_is r state.Clone k m h = let e = some_is (sym (failed_clone r) ∙ h) in inr (refl, ap (λ (x : PacketKind × State). x.0) e, ap (λ (x : PacketKind × State). x.1) e)
 failed_is true _ k m h = absurd cc
 failed_is false _ k m h = inl (refl, h)
 
@@ -531,13 +541,13 @@ pub failed_no_report : (s : State) → failed false s ≡ error_step s
 failed_no_report state.Clone = refl
 failed_no_report _ = refl
 
-failed_says : (r : Bool) (s : State) (k : Kind) (m : State) → failed r s ≡ Some (k, m) → Says s k m
+failed_says : (r : Bool) (s : State) (k : PacketKind) (m : State) → failed r s ≡ Some (k, m) → Says s k m
 failed_says r s k m h = elim (failed_is r s k m h) [
   | inl e ↦ error_says s k m (special s) e.1
   | inr e ↦ subst (λ s. Says s k m) (sym e.0) (subst (λ k. Says state.Clone k m) e.1 (subst (λ m. Says state.Clone kind.Clone m) e.2 (refl, refl, refl)))
 ]
 
-step_says : (a : Agreed) (s : State) (p : List ℕ) (k : Kind) (m : State) → step a s Server p ≡ Some (k, m) → Says s k m
+step_says : (a : Agreed) (s : State) (p : List ℕ) (k : PacketKind) (m : State) → step a s Server p ≡ Some (k, m) → Says s k m
 step_says a s p k m h = elim (chosen (first_is 0xff p) _ _ _ h) [
   | inl e ↦ failed_says (is_report a p) s k m e.1
   | inr e ↦ served_says a s p k m (special s) e.1
@@ -552,29 +562,29 @@ due_shuts (state.Authentication true b) h = (refl, refl)
 due_shuts (state.Authentication false b) h = (refl, refl)
 due_shuts _ h = (refl, refl)
 
-take_says : (a : Agreed) (s : State) (p : List ℕ) (k : Kind) (m : State) → take_step a s Server p ≡ Some (k, m) → Says s k m
-take_says a s p k m h = elim (chosen (is_report a p && is_due s) _ _ _ h) [
-  | inl r ↦ (let due = (and_parts (is_report a p) (is_due s) r.0).1 in let d = due_runs s due in let u = due_shuts s due in
-      subst (λ (x : Kind × State). Says s x.0 x.1) (some_is r.1) (d.1, ap not (sym d.0), u.0 ∙ sym u.1))
+take_says : (a : Agreed) (s : State) (p : List ℕ) (k : PacketKind) (m : State) → take_step a s Server p ≡ Some (k, m) → Says s k m
+take_says a s p k m h = elim (chosen (is_report a p && reports s) _ _ _ h) [
+  | inl r ↦ (let due = (reports_parts s (and_parts (is_report a p) (reports s) r.0).1).0 in let d = due_runs s due in let u = due_shuts s due in
+      subst (λ (x : PacketKind × State). Says s x.0 x.1) (some_is r.1) (d.1, ap not (sym d.0), u.0 ∙ sym u.1))
   | inr r ↦ step_says a s p k m r.1
 ]
 
 -- no command comes after a packet of the server just where its name says so
-pub take_shuts : (a : Agreed) (s : State) (p : List ℕ) (k : Kind) (m : State) → take_step a s Server p ≡ Some (k, m) → is_shut m ≡ is_in (name_of k) (shutting_names s)
+pub take_shuts : (a : Agreed) (s : State) (p : List ℕ) (k : PacketKind) (m : State) → take_step a s Server p ≡ Some (k, m) → is_shut m ≡ is_in (name_of k) (shutting_names s)
 take_shuts a s p k m h = (take_says a s p k m h).2
 
 -- ---- of the client
 
 -- at rest there are commands
-begun_listens : (code : ℕ) (r : Option Answer) (k : Kind) (m : State) → begun code r ≡ Some (k, m) → (listens m ≡ asks k) × (inside k ≡ false)
+begun_listens : (code : ℕ) (r : Option Answer) (k : PacketKind) (m : State) → begun code r ≡ Some (k, m) → (listens m ≡ asks k) × (inside k ≡ false)
 begun_listens code None k m h = absurd cc
-begun_listens code (Some r) k m h = subst (λ (x : Kind × State). (listens x.1 ≡ asks x.0) × (inside x.0 ≡ false)) (some_is h) (answers_quiet r, refl)
+begun_listens code (Some r) k m h = subst (λ (x : PacketKind × State). (listens x.1 ≡ asks x.0) × (inside x.0 ≡ false)) (some_is h) (answers_quiet r, refl)
 
-login_client : (b : Bool) (k : Kind) (m : State) → answer_step true b ≡ Some (k, m) → (listens m ≡ asks k) × (inside k ≡ true)
-login_client true k m h = subst (λ (x : Kind × State). (listens x.1 ≡ asks x.0) × (inside x.0 ≡ true)) (some_is h) (refl, refl)
+login_client : (b : Bool) (k : PacketKind) (m : State) → answer_step true b ≡ Some (k, m) → (listens m ≡ asks k) × (inside k ≡ true)
+login_client true k m h = subst (λ (x : PacketKind × State). (listens x.1 ≡ asks x.0) × (inside x.0 ≡ true)) (some_is h) (refl, refl)
 login_client false k m h = absurd cc
 
-client_listens : (s : State) (p : List ℕ) (k : Kind) (m : State) → Special s → client_step s p ≡ Some (k, m) → (listens m ≡ asks k) × (inside k ≡ not (rests s))
+client_listens : (s : State) (p : List ℕ) (k : PacketKind) (m : State) → Special s → client_step s p ≡ Some (k, m) → (listens m ≡ asks k) × (inside k ≡ not (rests s))
 client_listens s p k m (inl e) h =
     let c = begun_listens (code_of p) (answering (code_of p) (asks_cursor p)) k m (subst (λ s. client_step s p ≡ Some (k, m)) e h) in
     (c.0, c.1 ∙ ap not (sym (ap rests e)))
@@ -584,7 +594,7 @@ client_listens s p k m (inr (inl e)) h =
 client_listens s p k m (inr (inr (inl e))) h = let no : client_step state.CloneReply p ≡ Some (k, m) = subst (λ s. client_step s p ≡ Some (k, m)) e h in absurd cc
 client_listens s p k m (inr (inr (inr (inl e)))) h =
     let c : client_step state.Clone p ≡ Some (k, m) = subst (λ s. client_step s p ≡ Some (k, m)) e h in
-    let f = subst (λ (x : Kind × State). (listens x.1 ≡ asks x.0) × (inside x.0 ≡ false)) (some_is c) (refl, refl) in
+    let f = subst (λ (x : PacketKind × State). (listens x.1 ≡ asks x.0) × (inside x.0 ≡ false)) (some_is c) (refl, refl) in
     (f.0, f.1 ∙ ap not (sym (ap rests e)))
 client_listens s p k m (inr (inr (inr (inr (inl e))))) h = let no : client_step state.Over p ≡ Some (k, m) = subst (λ s. client_step s p ≡ Some (k, m)) e h in absurd cc
 client_listens s p k m (inr (inr (inr (inr (inr (inl e)))))) h = let no : client_step state.Quit p ≡ Some (k, m) = subst (λ s. client_step s p ≡ Some (k, m)) e h in absurd cc
@@ -595,11 +605,11 @@ client_listens s p k m (inr (inr (inr (inr (inr (inr e)))))) h =
 -- ---- of both
 
 -- the client is asked after a packet just where its kind says so, and a packet is inside of an exchange just where one runs
-pub step_listens : (a : Agreed) (s : State) (side : Side) (p : List ℕ) (k : Kind) (m : State) → step a s side p ≡ Some (k, m) → (listens m ≡ asks k) × (inside k ≡ not (rests s))
+pub step_listens : (a : Agreed) (s : State) (side : Side) (p : List ℕ) (k : PacketKind) (m : State) → step a s side p ≡ Some (k, m) → (listens m ≡ asks k) × (inside k ≡ not (rests s))
 step_listens a s Client p k m h = client_listens s p k m (special s) h
 step_listens a s Server p k m h = let f = step_says a s p k m h in (f.0, f.1)
 
-pub take_listens : (a : Agreed) (s : State) (side : Side) (p : List ℕ) (k : Kind) (m : State) → take_step a s side p ≡ Some (k, m) → (listens m ≡ asks k) × (inside k ≡ not (rests s))
+pub take_listens : (a : Agreed) (s : State) (side : Side) (p : List ℕ) (k : PacketKind) (m : State) → take_step a s side p ≡ Some (k, m) → (listens m ≡ asks k) × (inside k ≡ not (rests s))
 take_listens a s Client p k m h = client_listens s p k m (special s) h
 take_listens a s Server p k m h = let f = take_says a s p k m h in (f.0, f.1)
 
@@ -616,14 +626,14 @@ answers_login r = elim (cases_Bool (is_quit r)) [
     quit_login answer.Quit h = refl
     quit_login _ h = absurd cc
 
-abbrev NoLogin : Option (Kind × State) → Type 0
+abbrev NoLogin : Option (PacketKind × State) → Type 0
 NoLogin None = Unit {0}
 NoLogin (Some x) = is_login x.1 ≡ false
 
-no_login : (o : Option (Kind × State)) (k : Kind) (m : State) → NoLogin o → o ≡ Some (k, m) → is_login m ≡ false
+no_login : (o : Option (PacketKind × State)) (k : PacketKind) (m : State) → NoLogin o → o ≡ Some (k, m) → is_login m ≡ false
 no_login o k m f e = subst (λ o. NoLogin o) e f
 
-fits_no_login : (o : Option (Kind × State)) → Fits o → NoLogin o
+fits_no_login : (o : Option (PacketKind × State)) → Fits o → NoLogin o
 fits_no_login None f = tt
 fits_no_login (Some x) f = stance_login x.1 (asks x.0) f.0
 
@@ -665,17 +675,62 @@ error_no_login state.Quit = refl
 error_no_login state.Clone = refl
 error_no_login _ = refl
 
-failed_no_login : (r : Bool) (s : State) (k : Kind) (m : State) → failed r s ≡ Some (k, m) → is_login m ≡ false
+failed_no_login : (r : Bool) (s : State) (k : PacketKind) (m : State) → failed r s ≡ Some (k, m) → is_login m ≡ false
 failed_no_login r s k m h = elim (failed_is r s k m h) [
   | inl e ↦ no_login (error_step s) k m (error_no_login s) e.1
   | inr e ↦ ap is_login (sym e.2)
 ]
 
-pub stays_no_login : (a : Agreed) (s : State) (side : Side) (p : List ℕ) (k : Kind) (m : State) → is_login s ≡ false → step a s side p ≡ Some (k, m) → is_login m ≡ false
+pub stays_no_login : (a : Agreed) (s : State) (side : Side) (p : List ℕ) (k : PacketKind) (m : State) → is_login s ≡ false → step a s side p ≡ Some (k, m) → is_login m ≡ false
 stays_no_login a s Client p k m l h = no_login (client_step s p) k m (client_no_login s p (special s) l) h
 stays_no_login a s Server p k m l h = elim (chosen (first_is 0xff p) _ _ _ h) [
   | inl e ↦ failed_no_login (is_report a p) s k m e.1
   | inr e ↦ no_login (serve a s p) k m (serve_no_login a s p (special s) l) e.1
+]
+
+-- ---- a login is over after a packet whose kind says so
+
+pub login_is : (s : State) → is_login s ≡ true → (b : Bool) × (s ≡ state.Authentication true b)
+login_is (state.Authentication true b) h = (b, refl)
+login_is (state.Authentication false b) h = absurd cc
+login_is _ h = absurd cc
+
+kind_goes_on : (a : Agreed) (p : List ℕ) → ends_login (authentication_kind a p) ≡ false
+kind_goes_on a p = by_cond (λ k. ends_login k ≡ false) (first_is 0xfe p) _ _ (by_cond (λ k. ends_login k ≡ false) (is_one_byte p) _ _ refl refl)
+    (by_cond (λ k. ends_login k ≡ false) (first_is 1 p) _ _ refl (by_cond (λ k. ends_login k ≡ false) (first_is 2 p && asks_factors a) _ _ refl refl))
+
+abbrev Ends : Option (PacketKind × State) → Type 0
+Ends None = Unit {0}
+Ends (Some x) = is_login x.1 ≡ not (ends_login x.0)
+
+ends_cond : (b : Bool) (x y : Option (PacketKind × State)) → Ends x → Ends y → Ends (cond b x y)
+ends_cond true x y f g = f
+ends_cond false x y f g = g
+
+ends_status : (status : Option StatusFlags) → Ends (logged_in status)
+ends_status None = tt
+ends_status (Some status) = ends_cond (has_more status) _ _ tt refl
+
+ends_served : (a : Agreed) (p : List ℕ) (status : Option StatusFlags) → Ends (authentication_step a true p status)
+ends_served a p status = ends_cond (first_is 0 p) _ _ (ends_status status) (ap not (sym (kind_goes_on a p)))
+
+ends_failed : (is_report b : Bool) → Ends (failed is_report (state.Authentication true b))
+ends_failed true b = tt
+ends_failed false b = refl
+
+ends_client : (b : Bool) → Ends (answer_step true b)
+ends_client true = refl
+ends_client false = tt
+
+ends_step : (a : Agreed) (b : Bool) (side : Side) (p : List ℕ) → Ends (step a (state.Authentication true b) side p)
+ends_step a b Client p = ends_client b
+ends_step a b Server p = ends_cond (first_is 0xff p) _ _ (ends_failed (is_report a p) b) (ends_served a p (ok_status a p))
+
+pub step_login : (a : Agreed) (s : State) (side : Side) (p : List ℕ) (k : PacketKind) (m : State) → step a s side p ≡ Some (k, m) → is_login m ≡ (is_login s && not (ends_login k))
+step_login a s side p k m h = elim (cases_Bool (is_login s)) [
+  | inl l ↦ (let e = login_is s l in
+      subst (λ b. is_login m ≡ (b && not (ends_login k))) (sym l) (subst (λ o. Ends o) (sym (ap (λ s. step a s side p) e.1) ∙ h) (ends_step a e.0 side p)))
+  | inr n ↦ stays_no_login a s side p k m n h ∙ ap (λ b. b && not (ends_login k)) (sym n)
 ]
 
 -- an error in an exchange ends it, but of a login
@@ -703,6 +758,6 @@ error_ends s n = elim (cases_Bool (is_login s)) [
     login_error _ h = absurd cc
 
 -- no packet inside of an exchange is a command
-pub inside_command : (k : Kind) → inside k ≡ true → commands k ≡ false
+pub inside_command : (k : PacketKind) → inside k ≡ true → commands k ≡ false
 inside_command (kind.Command code) h = absurd cc
 inside_command _ h = refl

@@ -4,7 +4,7 @@ use Rattle.std.proofs.Common.{◌≡◌, ℕ, List, [], ◌∷◌, ◌++◌, ◌
 use Rattle.std.proofs.lemmas.Bool.{cases_Bool}
 use Rattle.std.specs.Prelude.{◌≢◌, Option, Result, Ok, Err, IfOk, IfErr}
 use Rattle.mysql_conversation.specs.Conversation.{Packet, IsConversation, asks}
-use Rattle.mysql_conversation.specs.Machine.{take_step, rests, is_shut, is_due, entrance}
+use Rattle.mysql_conversation.specs.Machine.{take_step, rests, is_shut, is_due, is_login, entrance}
 use Rattle.mysql_conversation.specs.Pipelined.{Numbered, packets, counted, AreNumbered, Early, IsPipelined, IsPipelinedBeginning, numbered}
 use Rattle.mysql_conversation.specs.Standing.{Standing, standing, begin, waits, settle, pipe_step, step_of, Steps, PipeRun, start}
 use Rattle.mysql_conversation.proofs.Runs.{join, part, once}
@@ -12,31 +12,31 @@ use Rattle.mysql_conversation.specs.Piped.{place}
 use Rattle.mysql_conversation.proofs.Begun.{conversation_takes, takes_is_conversation, no_report}
 use Rattle.mysql_conversation.proofs.Ends.{short_report, ok_bytes, plain, ok_spelled}
 use Rattle.mysql_conversation.proofs.Classes.{some_is, ok_status_of}
-use Rattle.mysql_conversation.proofs.States.{which_rests, running_idle, due_runs, entrance_listens, is_login, error_rests, failed_no_report}
+use Rattle.mysql_conversation.proofs.States.{which_rests, running_idle, due_runs, entrance_listens, login_is, error_rests, failed_no_report}
 use Rattle.mysql_conversation.proofs.Turns.{begin_due, begin_shut}
 use Rattle.mysql_conversation.proofs.Pipes.{early_runs, run_early, in_turn_plain, run_in_turn}
 use Rattle.mysql_conversation.proofs.PipeSteps.{Outcome, Over, OnlyLast, Sound, run_sound, server_next, settle_stays}
-use Rattle.mysql_conversation.specs.declared.kind.Kind.{Kind}
-use Rattle.mysql_conversation.specs.declared.kind.Kind.TheVariants as kind
-use Rattle.mysql_conversation.specs.declared.kind.Side.{Side}
-use Rattle.mysql_conversation.specs.declared.kind.Side.TheVariants.{Server}
+use Rattle.mysql_conversation.specs.declared.packet_kind.PacketKind.{PacketKind}
+use Rattle.mysql_conversation.specs.declared.packet_kind.PacketKind.TheVariants as kind
+use Rattle.mysql_conversation.specs.declared.packet_kind.Side.{Side}
+use Rattle.mysql_conversation.specs.declared.packet_kind.Side.TheVariants.{Server}
 use Rattle.mysql_conversation.specs.declared.state.State.{State}
 use Rattle.mysql_conversation.specs.declared.state.State.TheVariants as state
-use Rattle.mysql_conversation.specs.declared.kind.Opening.{Opening}
+use Rattle.mysql_conversation.specs.declared.packet_kind.InitialPhase.{InitialPhase}
 use Rattle.mysql_conversation.specs.declared.pipeline.Waiting.{Waiting}
 
 -- ---- pipelined conversations are what is taken
 
-start_sound : (o : Opening) → Sound (start o)
+start_sound : (o : InitialPhase) → Sound (start o)
 start_sound o = ((λ h. refl), tt)
 
-pub pipelined_runs : (d : Agreed) (o : Opening) (items : List Numbered) → IsPipelined d o items → (t : Standing) × PipeRun d (start o) items t × Over t
+pub pipelined_runs : (d : Agreed) (o : InitialPhase) (items : List Numbered) → IsPipelined d o items → (t : Standing) × PipeRun d (start o) items t × Over t
 pipelined_runs d o items h =
     let g = conversation_takes d o (packets h.0) h.1 in
     let r = run_in_turn d (entrance o) 0 h.0 g.0 g.1 g.2 h.2 in
     (r.0, early_runs d (start o) false items h.0 r.0 (entrance_listens o) h.3 r.1, r.2)
 
-pub run_is_pipelined : (d : Agreed) (o : Opening) (items : List Numbered) (t : Standing) → PipeRun d (start o) items t → Over t → IsPipelined d o items
+pub run_is_pipelined : (d : Agreed) (o : InitialPhase) (items : List Numbered) (t : Standing) → PipeRun d (start o) items t → Over t → IsPipelined d o items
 run_is_pipelined d o items t r over =
     let h = run_early d (start o) items t (start_sound o) r over in
     let p = in_turn_plain d (entrance o) 0 h.0 t h.2 in
@@ -54,17 +54,12 @@ then_ends d w x m e h = (x ∷ h.0, h.1, (m, e, h.2), h.3)
 abbrev Settles : Agreed → ℕ → ℕ → List Waiting → State → Type 0
 Settles d i l q s = PipeEnds d (settle s i l q)
 
-served_ends : (d : Agreed) (i l : ℕ) (q : List Waiting) (s : State) (p : List ℕ) (k : Kind) → rests s ≡ false → take_step d s Server p ≡ Some (k, state.Rest) → Settles d i l q state.Rest → Settles d i l q s
+served_ends : (d : Agreed) (i l : ℕ) (q : List Waiting) (s : State) (p : List ℕ) (k : PacketKind) → rests s ≡ false → take_step d s Server p ≡ Some (k, state.Rest) → Settles d i l q state.Rest → Settles d i l q s
 served_ends d i l q s p k rs e h =
     subst (λ w. PipeEnds d w) (sym (settle_stays s i l q (running_idle s rs)))
     (then_ends d (standing s i l q) (place Server p k i) (settle state.Rest i l q) (server_next d (standing s i l q) (place Server p k i) state.Rest (settle state.Rest i l q) refl e refl refl refl) h)
 
 -- a login comes to its end by an OK packet, and another exchange by an error
-login_is : (s : State) → is_login s ≡ true → (b : Bool) × (s ≡ state.Authentication true b)
-login_is (state.Authentication true b) h = (b, refl)
-login_is (state.Authentication false b) h = absurd cc
-login_is _ h = absurd cc
-
 login_step : (d : Agreed) (b : Bool) → take_step d (state.Authentication true b) Server ok_bytes ≡ Some (kind.Ok, state.Rest)
 login_step d b = rw (no_report d ok_bytes refl, ok_status_of d plain ok_bytes (ok_spelled d)) refl
 
@@ -105,12 +100,12 @@ standing_ends d w k = standing_ends_at d w.state w.number w.last w.waiting (whic
 
 -- ---- the beginning of a pipelined conversation
 
-pub run_is_beginning : (d : Agreed) (o : Opening) (items : List Numbered) (t : Standing) → PipeRun d (start o) items t → IsPipelinedBeginning d o items
+pub run_is_beginning : (d : Agreed) (o : InitialPhase) (items : List Numbered) (t : Standing) → PipeRun d (start o) items t → IsPipelinedBeginning d o items
 run_is_beginning d o items t r =
     let h = standing_ends d t (run_sound d (start o) items t (start_sound o) r) in
     (h.0, run_is_pipelined d o (items ++ h.0) h.1 (join (Steps d) (start o) items t h.0 h.1 r h.2) h.3)
 
-pub beginning_runs : (d : Agreed) (o : Opening) (items : List Numbered) → IsPipelinedBeginning d o items → (t : Standing) × PipeRun d (start o) items t
+pub beginning_runs : (d : Agreed) (o : InitialPhase) (items : List Numbered) → IsPipelinedBeginning d o items → (t : Standing) × PipeRun d (start o) items t
 beginning_runs d o items h =
     let g = pipelined_runs d o (items ++ h.0) h.1 in
     let r = part (Steps d) (start o) items h.0 g.0 g.1 in
@@ -121,7 +116,7 @@ pub one_standing : (d : Agreed) (w : Standing) (x : Numbered) (m n : Standing) �
 one_standing d w x m n e f = ap (λ (o : Outcome). o.2) (some_is (sym e ∙ f))
 
 -- where a packet is refused, no kind and no number makes the list with it a beginning
-pub pipe_refused : (d : Agreed) (o : Opening) (items : List Numbered) (w : Standing) (x : Numbered) → PipeRun d (start o) items w → step_of d w x ≡ None → IsPipelinedBeginning d o (items ++ x ∷ []) → ⊥
+pub pipe_refused : (d : Agreed) (o : InitialPhase) (items : List Numbered) (w : Standing) (x : Numbered) → PipeRun d (start o) items w → step_of d w x ≡ None → IsPipelinedBeginning d o (items ++ x ∷ []) → ⊥
 pipe_refused d o items w x r e h =
     let b = beginning_runs d o (items ++ x ∷ []) h in
     let p = part (Steps d) (start o) items (x ∷ []) b.0 b.1 in
@@ -132,22 +127,22 @@ pipe_refused d o items w x r e h =
 
 -- ---- at rest, and one packet more
 
-pub pipe_at_rest : (d : Agreed) (o : Opening) (items : List Numbered) (w : Standing) → PipeRun d (start o) items w → IsPipelined d o items → Over w
+pub pipe_at_rest : (d : Agreed) (o : InitialPhase) (items : List Numbered) (w : Standing) → PipeRun d (start o) items w → IsPipelined d o items → Over w
 pipe_at_rest d o items w r h =
     let g = pipelined_runs d o items h in
     subst (λ w. Over w) (once (Steps d) (one_standing d) (start o) items g.0 w g.1 r) g.2
 
-pub pipe_one_more : (d : Agreed) (o : Opening) (items : List Numbered) (w : Standing) (side : Side) (p : List ℕ) (k : Kind) (n : ℕ) (m : Standing) → PipeRun d (start o) items w → pipe_step d w side p ≡ Some (k, n, m) → PipeRun d (start o) (items ++ place side p k n ∷ []) m
+pub pipe_one_more : (d : Agreed) (o : InitialPhase) (items : List Numbered) (w : Standing) (side : Side) (p : List ℕ) (k : PacketKind) (n : ℕ) (m : Standing) → PipeRun d (start o) items w → pipe_step d w side p ≡ Some (k, n, m) → PipeRun d (start o) (items ++ place side p k n ∷ []) m
 pipe_one_more d o items w side p k n m r e = join (Steps d) (start o) items w (place side p k n ∷ []) m r (m, e, refl)
 
 -- a step that is taken goes on with what was taken
-pub pipe_comes : (d : Agreed) (o : Opening) (items : List Numbered) (w : Standing) (side : Side) (p : List ℕ) (r : Option Outcome) → PipeRun d (start o) items w → pipe_step d w side p ≡ r → r ≢ None
-    → (k : Kind) × (n : ℕ) × IsPipelinedBeginning d o (items ++ place side p k n ∷ [])
+pub pipe_comes : (d : Agreed) (o : InitialPhase) (items : List Numbered) (w : Standing) (side : Side) (p : List ℕ) (r : Option Outcome) → PipeRun d (start o) items w → pipe_step d w side p ≡ r → r ≢ None
+    → (k : PacketKind) × (n : ℕ) × IsPipelinedBeginning d o (items ++ place side p k n ∷ [])
 pipe_comes d o items w side p None run e h = absurd (h refl)
 pipe_comes d o items w side p (Some x) run e h = (x.0, x.1, run_is_beginning d o (items ++ place side p x.0 x.1 ∷ []) x.2 (pipe_one_more d o items w side p x.0 x.1 x.2 run e))
 
 -- a packet is of one kind, and of one exchange, after what came before it
-pub pipe_one_kind : (d : Agreed) (o : Opening) (items : List Numbered) (side : Side) (p : List ℕ) (j k : Kind) (m n : ℕ)
+pub pipe_one_kind : (d : Agreed) (o : InitialPhase) (items : List Numbered) (side : Side) (p : List ℕ) (j k : PacketKind) (m n : ℕ)
     → IsPipelinedBeginning d o (items ++ place side p j m ∷ []) → IsPipelinedBeginning d o (items ++ place side p k n ∷ []) → (j ≡ k) × (m ≡ n)
 pipe_one_kind d o items side p j k m n g h =
     let b = beginning_runs d o (items ++ place side p j m ∷ []) g in
@@ -173,7 +168,7 @@ early_same : (b : Bool) (items : List Numbered) → Early b items items
 early_same b [] = refl
 early_same b (x ∷ xs) = inl (xs, refl, early_same (asks x.packet.kind) xs)
 
-pub conversation_is_pipelined : (d : Agreed) (o : Opening) (items : List Packet) → IsConversation d o items → IsPipelined d o (numbered 0 items)
+pub conversation_is_pipelined : (d : Agreed) (o : InitialPhase) (items : List Packet) → IsConversation d o items → IsPipelined d o (numbered 0 items)
 conversation_is_pipelined d o items h = (numbered 0 items, subst (λ xs. IsConversation d o xs) (sym (numbered_packets 0 items)) h, numbered_are 0 items, early_same false (numbered 0 items))
 
 -- ---- what the calls say
@@ -191,5 +186,5 @@ lift_err (Ok x) f h = tt
 lift_err (Err e) f h = f e h
 
 -- what was agreed on and where it began stay
-pub run_stays : (d e : Agreed) (o q : Opening) (xs : List Numbered) (t : Standing) → e ≡ d → q ≡ o → PipeRun d (start o) xs t → PipeRun e (start q) xs t
+pub run_stays : (d e : Agreed) (o q : InitialPhase) (xs : List Numbered) (t : Standing) → e ≡ d → q ≡ o → PipeRun d (start o) xs t → PipeRun e (start q) xs t
 run_stays d e o q xs t a b r = subst (λ e. PipeRun e (start q) xs t) (sym a) (subst (λ q. PipeRun d (start q) xs t) (sym b) r)

@@ -12,10 +12,10 @@ use Rattle.mysql_conversation.specs.declared.state.After.{After}
 use Rattle.mysql_conversation.specs.declared.state.After.TheVariants as after
 use Rattle.mysql_conversation.specs.declared.state.Request.{Request}
 use Rattle.mysql_conversation.specs.declared.state.Request.TheVariants.{Query, Execution, Cursor}
-use Rattle.mysql_conversation.specs.declared.kind.Format.TheVariants.{Binary}
-use Rattle.mysql_conversation.specs.declared.kind.Kind.{Kind}
-use Rattle.mysql_conversation.specs.declared.kind.Kind.TheVariants as kind
-use Rattle.mysql_conversation.specs.declared.kind.Side.TheVariants.{Client, Server}
+use Rattle.mysql_conversation.specs.declared.packet_kind.RowFormat.TheVariants.{Binary}
+use Rattle.mysql_conversation.specs.declared.packet_kind.PacketKind.{PacketKind}
+use Rattle.mysql_conversation.specs.declared.packet_kind.PacketKind.TheVariants as kind
+use Rattle.mysql_conversation.specs.declared.packet_kind.Side.TheVariants.{Client, Server}
 use Rattle.mysql_conversation.specs.declared.state.State.{State}
 use Rattle.mysql_conversation.specs.declared.state.State.TheVariants as state
 
@@ -77,7 +77,7 @@ tail_of a (state.Acknowledgement may_end) = c.acknowledged a may_end
 tail_of a state.Text = c.text
 tail_of a state.Fields = many (c.field a) followed_by c.any_end a
 tail_of a state.Events = c.events a
-tail_of a state.Refusal = c.error a
+tail_of a state.SessionError = c.error a
 tail_of a state.CloneReply = (c.ok a false followed_by many c.clone) or c.error a
 tail_of a state.Clone = many c.clone
 tail_of a state.Quit = nothing
@@ -85,10 +85,10 @@ tail_of a state.Over = nothing
 
 -- ---- parts
 
-pub sending : (k : Kind) (P : List ℕ → Type 0) (p : List ℕ) (items rest : List Packet) → items ≡ rest → P p → sent k P (packet Client p k ∷ items) rest
+pub sending : (k : PacketKind) (P : List ℕ → Type 0) (p : List ℕ) (items rest : List Packet) → items ≡ rest → P p → sent k P (packet Client p k ∷ items) rest
 sending k P p items rest e h = (packet Client p k, (refl, refl, h), ap (λ xs. packet Client p k ∷ xs) e)
 
-pub serving : (k : Kind) (P : List ℕ → Type 0) (p : List ℕ) (items rest : List Packet) → items ≡ rest → first_is 0xff p ≡ false → P p → served k P (packet Server p k ∷ items) rest
+pub serving : (k : PacketKind) (P : List ℕ → Type 0) (p : List ℕ) (items rest : List Packet) → items ≡ rest → first_is 0xff p ≡ false → P p → served k P (packet Server p k ∷ items) rest
 serving k P p items rest e f h = (packet Server p k, (refl, refl, f, h), ap (λ xs. packet Server p k ∷ xs) e)
 
 pub many_more : {X : Type 0} (f : List X → List X → Type 0) (items mid rest : List X) → f items mid → many f mid rest → many f items rest

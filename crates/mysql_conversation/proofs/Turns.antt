@@ -13,13 +13,13 @@ use Rattle.mysql_conversation.specs.Agreements.{Agreed}
 use Rattle.mysql_conversation.specs.declared.state.Answer.{Answer}
 use Rattle.mysql_conversation.specs.declared.state.Answer.TheVariants as answer
 use Rattle.mysql_conversation.specs.declared.state.Command.{Command}
-use Rattle.mysql_conversation.specs.declared.kind.Kind.{Kind}
-use Rattle.mysql_conversation.specs.declared.kind.Side.TheVariants.{Client}
+use Rattle.mysql_conversation.specs.declared.packet_kind.PacketKind.{PacketKind}
+use Rattle.mysql_conversation.specs.declared.packet_kind.Side.TheVariants.{Client}
 use Rattle.mysql_conversation.specs.declared.state.State.{State}
 use Rattle.mysql_conversation.specs.declared.state.State.TheVariants as state
 
 -- a command at rest
-abbrev pub command_step : Option Command → Option (Kind × State)
+abbrev pub command_step : Option Command → Option (PacketKind × State)
 command_step None = None
 command_step (Some c) = Some (kind_of c, begin c)
 
@@ -59,10 +59,10 @@ begin_due c = answers_due c.answer
     answers_due answer.Nothing = inl refl
     answers_due answer.Quit = inr (inl refl)
     answers_due answer.Clone = inr (inr refl)
-    answers_due answer.Refusal = inr (inr refl)
+    answers_due answer.SessionError = inr (inr refl)
 
 -- what the client says while an exchange runs is no command
-pub running_kind : (d : Agreed) (s : State) (p : List ℕ) (k : Kind) (m : State) → rests s ≡ false → take_step d s Client p ≡ Some (k, m) → commands k ≡ false
+pub running_kind : (d : Agreed) (s : State) (p : List ℕ) (k : PacketKind) (m : State) → rests s ≡ false → take_step d s Client p ≡ Some (k, m) → commands k ≡ false
 running_kind d s p k m n h = inside_command k ((take_listens d s Client p k m h).1 ∙ ap not n)
 
 -- no command begins as an acknowledgement does
@@ -97,19 +97,19 @@ no_aside d (state.Acknowledgement may_end) p c h e = refl
 no_aside d state.Text p c h e = refl
 no_aside d state.Fields p c h e = refl
 no_aside d state.Events p c h e = ack_refused p c e
-no_aside d state.Refusal p c h e = refl
+no_aside d state.SessionError p c h e = refl
 no_aside d state.CloneReply p c h e = refl
 no_aside d state.Clone p c h e = absurd cc
 no_aside d state.Quit p c h e = absurd cc
 no_aside d state.Over p c h e = absurd cc
 
-kind_at : (k : Kind) (m : State) (r : Option Command) → command_step r ≡ Some (k, m) → commands k ≡ true
+kind_at : (k : PacketKind) (m : State) (r : Option Command) → command_step r ≡ Some (k, m) → commands k ≡ true
 kind_at k m None h = absurd cc
-kind_at k m (Some c) h = ap (λ (o : Kind × State). commands o.0) (some_is (sym h))
+kind_at k m (Some c) h = ap (λ (o : PacketKind × State). commands o.0) (some_is (sym h))
 
-pub command_kind : (d : Agreed) (s : State) (p : List ℕ) (k : Kind) (m : State) → s ≡ state.Rest → take_step d s Client p ≡ Some (k, m) → commands k ≡ true
+pub command_kind : (d : Agreed) (s : State) (p : List ℕ) (k : PacketKind) (m : State) → s ≡ state.Rest → take_step d s Client p ≡ Some (k, m) → commands k ≡ true
 command_kind d s p k m e h = kind_at k m (command_of p) (sym (rest_step_is d p) ∙ subst (λ s. take_step d s Client p ≡ Some (k, m)) e h)
 
-pub rest_plain : (d : Agreed) (s : State) (p : List ℕ) (c : Command) (k : Kind) → s ≡ state.Rest → command_of p ≡ Some c → kind_of c ≡ k → take_step d s Client p ≡ Some (k, begin c)
+pub rest_plain : (d : Agreed) (s : State) (p : List ℕ) (c : Command) (k : PacketKind) → s ≡ state.Rest → command_of p ≡ Some c → kind_of c ≡ k → take_step d s Client p ≡ Some (k, begin c)
 rest_plain d s p c k e h g =
-    subst (λ s. take_step d s Client p ≡ Some (k, begin c)) (sym e) (rest_step_is d p ∙ ap command_step h ∙ ap (λ (k : Kind). Some (k, begin c)) g)
+    subst (λ s. take_step d s Client p ≡ Some (k, begin c)) (sym e) (rest_step_is d p ∙ ap command_step h ∙ ap (λ (k : PacketKind). Some (k, begin c)) g)

@@ -11,22 +11,22 @@ use Rattle.mysql_prepared.specs.StmtWithMetadata.{sends_metadata}
 use Rattle.mysql_conversation.specs.Agreements.{Agreed, deprecates_eof, asks_factors, reports_progress}
 use Rattle.mysql_conversation.specs.Payloads.{first_is, is_report, IsOk, IsCount}
 use Rattle.mysql_conversation.specs.Conversation.{ending, format_of}
-use Rattle.mysql_conversation.specs.Machine.{take_step, serve, is_due, error_step, reply_step, infile_reply_step, definitions_end_step, event_step, line_step, last_step, prepared_step, last_ok, acknowledgement_step, ended, counted, reply_of, line_of, old_end_of, ok_status}
-use Rattle.mysql_conversation.specs.KindName.{name_of}
-use Rattle.mysql_conversation.specs.Expected.{sent_names, end_name, row_name, asked_names, served_names, error_names, reported, names, expects}
+use Rattle.mysql_conversation.specs.Machine.{take_step, serve, reports, error_step, reply_step, infile_reply_step, definitions_end_step, event_step, line_step, last_step, prepared_step, last_ok, acknowledgement_step, ended, counted, reply_of, line_of, old_end_of, ok_status}
+use Rattle.mysql_conversation.specs.PacketKindTag.{name_of}
+use Rattle.mysql_conversation.specs.Expected.{sent_names, end_name, row_name, asked_names, served_names, error_names, reported, names, may_receive}
 use Rattle.mysql_conversation.proofs.Begun.{no_report}
 use Rattle.mysql_conversation.proofs.Classes.{ok_status_of, statement_at_of, old_end_of_is, line_row, line_end, reply_ok, reply_infile, reply_count}
 use Rattle.mysql_conversation.proofs.Ends.{short_report, ok_bytes, old_end_bytes, statement_bytes, plain, ok_spelled, old_end_spelled, end_bytes, statement_is}
 use Rattle.mysql_conversation.proofs.Named.{All, pick, all_both}
-use Rattle.mysql_conversation.proofs.States.{failed_no_report}
-use Rattle.mysql_conversation.specs.declared.kind.Format.{Format}
-use Rattle.mysql_conversation.specs.declared.kind.Format.TheVariants.{Text, Binary}
-use Rattle.mysql_conversation.specs.declared.kind.Kind.{Kind}
-use Rattle.mysql_conversation.specs.declared.kind.Kind.TheVariants as kind
-use Rattle.mysql_conversation.specs.declared.kind.Side.{Side}
-use Rattle.mysql_conversation.specs.declared.kind.Side.TheVariants.{Client, Server}
-use Rattle.mysql_conversation.specs.declared.kind_name.KindName.{KindName}
-use Rattle.mysql_conversation.specs.declared.kind_name.KindName.TheVariants as name
+use Rattle.mysql_conversation.proofs.States.{failed_no_report, reports_parts}
+use Rattle.mysql_conversation.specs.declared.packet_kind.RowFormat.{RowFormat}
+use Rattle.mysql_conversation.specs.declared.packet_kind.RowFormat.TheVariants.{Text, Binary}
+use Rattle.mysql_conversation.specs.declared.packet_kind.PacketKind.{PacketKind}
+use Rattle.mysql_conversation.specs.declared.packet_kind.PacketKind.TheVariants as kind
+use Rattle.mysql_conversation.specs.declared.packet_kind.Side.{Side}
+use Rattle.mysql_conversation.specs.declared.packet_kind.Side.TheVariants.{Client, Server}
+use Rattle.mysql_conversation.specs.declared.packet_kind_tag.PacketKindTag.{PacketKindTag}
+use Rattle.mysql_conversation.specs.declared.packet_kind_tag.PacketKindTag.TheVariants as name
 use Rattle.mysql_conversation.specs.declared.state.After.{After}
 use Rattle.mysql_conversation.specs.declared.state.After.TheVariants as after
 use Rattle.mysql_conversation.specs.declared.state.Line.TheVariants as line
@@ -37,10 +37,10 @@ use Rattle.mysql_conversation.specs.declared.state.State.{State}
 use Rattle.mysql_conversation.specs.declared.state.State.TheVariants as state
 
 -- some packet of this side is of a kind with this name
-abbrev pub Comes : Agreed → State → Side → KindName → Type 0
-Comes a s side n = (p : List ℕ) × (k : Kind) × (m : State) × (name_of k ≡ n) × (take_step a s side p ≡ Some (k, m))
+abbrev pub Comes : Agreed → State → Side → PacketKindTag → Type 0
+Comes a s side n = (p : List ℕ) × (k : PacketKind) × (m : State) × (name_of k ≡ n) × (take_step a s side p ≡ Some (k, m))
 
-comes_served : (a : Agreed) (s : State) (n : KindName) (p : List ℕ) (k : Kind) (m : State) → name_of k ≡ n → first_is 0xff p ≡ false → serve a s p ≡ Some (k, m) → Comes a s Server n
+comes_served : (a : Agreed) (s : State) (n : PacketKindTag) (p : List ℕ) (k : PacketKind) (m : State) → name_of k ≡ n → first_is 0xff p ≡ false → serve a s p ≡ Some (k, m) → Comes a s Server n
 comes_served a s n p k m e f h = (p, k, m, e, rw (no_report a p f, f) h)
 
 -- ---- OK packets, rows and ends
@@ -60,12 +60,12 @@ old_end_at a = old_end_of_is a plain old_end_bytes (refl, old_end_spelled a)
 row_bytes : List ℕ
 row_bytes = 0 ∷ []
 
-is_row : (a : Agreed) (format : Format) → line_of a format row_bytes ≡ Some line.Row
+is_row : (a : Agreed) (format : RowFormat) → line_of a format row_bytes ≡ Some line.Row
 unfolding row_bytes
 is_row a Text = line_row a Text row_bytes refl
 is_row a Binary = line_row a Binary row_bytes refl
 
-is_end : (a : Agreed) (format : Format) → line_of a format (end_bytes a (deprecates_eof a)).0 ≡ Some (line.End false)
+is_end : (a : Agreed) (format : RowFormat) → line_of a format (end_bytes a (deprecates_eof a)).0 ≡ Some (line.End false)
 is_end a format = let e = end_bytes a (deprecates_eof a) in line_end a format false e.0 (e.2, plain, e.3, refl)
 
 end_is : (d : Bool) → name_of (ending d) ≡ end_name d
@@ -196,31 +196,32 @@ each_served a state.Events =
     also (comes_served a state.Events name.BinlogEvent row_bytes kind.BinlogEvent state.Events refl refl refl)
     (also (comes_served a state.Events name.Eof old_end_bytes kind.Eof state.Rest refl refl (ap (event_step false) (old_end_at a)))
     tt)
-each_served a state.Refusal = tt
+each_served a state.SessionError = tt
 each_served a state.CloneReply = (comes_served a state.CloneReply name.Ok ok_bytes kind.Ok state.Clone refl refl (ap (last_ok state.Clone) (ok_reply a)), tt)
 each_served a state.Clone = (comes_served a state.Clone name.Clone [] kind.Clone state.Clone refl refl refl, tt)
 each_served a state.Quit = tt
 each_served a state.Over = tt
 
-comes_error_at : (a : Agreed) (s : State) (n : KindName) (k : Kind) (m : State) → name_of k ≡ n → error_step s ≡ Some (k, m) → Comes a s Server n
+comes_error_at : (a : Agreed) (s : State) (n : PacketKindTag) (k : PacketKind) (m : State) → name_of k ≡ n → error_step s ≡ Some (k, m) → Comes a s Server n
 comes_error_at a s n k m e h = (0xff ∷ [], k, m, e, rw (short_report a) (failed_no_report s ∙ h))
 
 each_error : (a : Agreed) (s : State) → All (Comes a s Server) (error_names s)
-each_error a state.Rest = (comes_error_at a state.Rest name.UnaskedError kind.UnaskedError state.Over refl refl, tt)
+each_error a state.Rest = (comes_error_at a state.Rest name.UnsolicitedError kind.UnsolicitedError state.Over refl refl, tt)
 each_error a state.Clone = (comes_error_at a state.Clone name.Clone kind.Clone state.Clone refl refl, tt)
-each_error a state.Quit = (comes_error_at a state.Quit name.UnaskedError kind.UnaskedError state.Over refl refl, tt)
+each_error a state.Quit = (comes_error_at a state.Quit name.UnsolicitedError kind.UnsolicitedError state.Over refl refl, tt)
 each_error a state.Over = tt
 each_error a (state.Authentication true b) = (comes_error_at a (state.Authentication true b) name.Error kind.Error state.Over refl refl, tt)
 each_error a (state.Authentication false b) = (comes_error_at a (state.Authentication false b) name.Error kind.Error state.Rest refl refl, tt)
 each_error a s = (comes_error_at a s name.Error kind.Error state.Rest refl refl, tt)
 
-comes_report : (a : Agreed) (s : State) → (reports_progress a && is_due s) ≡ true → Comes a s Server name.ProgressReport
+comes_report : (a : Agreed) (s : State) → (reports_progress a && reports s) ≡ true → Comes a s Server name.ProgressReport
 unfolding is_report
 comes_report a s h =
-    let b = and_parts (reports_progress a) (is_due s) h in
-    (0xff ∷ 0xff ∷ 0xff ∷ [], kind.ProgressReport, s, refl, rw (b.0, b.1) refl)
+    let b = and_parts (reports_progress a) (reports s) h in
+    let r = reports_parts s b.1 in
+    (0xff ∷ 0xff ∷ 0xff ∷ [], kind.ProgressReport, s, refl, rw (b.0, r.0, r.1) refl)
 
-with_report : (a : Agreed) (s : State) (b : Bool) → (reports_progress a && is_due s) ≡ b → All (Comes a s Server) (reported b (served_names a s))
+with_report : (a : Agreed) (s : State) (b : Bool) → (reports_progress a && reports s) ≡ b → All (Comes a s Server) (reported b (served_names a s))
 with_report a s true h = (comes_report a s h, each_served a s)
 with_report a s false h = each_served a s
 
@@ -242,7 +243,7 @@ each_sent a (state.Acknowledgement may_end) = tt
 each_sent a state.Text = tt
 each_sent a state.Fields = tt
 each_sent a state.Events = ((0xef ∷ [], kind.SemiSyncAck, state.Events, refl, refl), tt)
-each_sent a state.Refusal = tt
+each_sent a state.SessionError = tt
 each_sent a state.CloneReply = tt
 each_sent a state.Clone = (([], kind.Clone, state.Clone, refl, refl), tt)
 each_sent a state.Quit = tt
@@ -252,7 +253,7 @@ each_sent a state.Over = tt
 
 each : (a : Agreed) (s : State) (side : Side) → All (Comes a s side) (names a s side)
 each a s Client = each_sent a s
-each a s Server = all_both (Comes a s Server) (error_names s) _ (each_error a s) (with_report a s (reports_progress a && is_due s) refl)
+each a s Server = all_both (Comes a s Server) (error_names s) _ (each_error a s) (with_report a s (reports_progress a && reports s) refl)
 
-pub what_is_named_comes : (a : Agreed) (s : State) (side : Side) (n : KindName) → expects a s side n ≡ true → Comes a s side n
+pub what_is_named_comes : (a : Agreed) (s : State) (side : Side) (n : PacketKindTag) → may_receive a s side n ≡ true → Comes a s side n
 what_is_named_comes a s side n h = pick (Comes a s side) n (names a s side) (each a s side) h

@@ -1,5 +1,5 @@
 -- Which packets are a conversation: the pages of the protocol, as a grammar of whole lists of packets.
-use Rattle.std.specs.Prelude.{◌≡◌, ◌≢◌, ◌⊎◌, ℕ, zero, suc, List, [], ◌∷◌, ◌++◌, Bool, true, false, Option, Some, None, ◌==◌, ◌&&◌, if◌then◌else◌}
+use Rattle.std.specs.Prelude.{◌≡◌, ◌≢◌, ◌⊎◌, ℕ, zero, suc, List, [], ◌∷◌, ◌++◌, Bool, true, false, not, Option, Some, None, ◌==◌, ◌&&◌, if◌then◌else◌}
 use Rattle.mysql_wire.specs.Flags.{StatusFlags}
 use Rattle.mysql_conversation.specs.Agreements.{Agreed, deprecates_eof, asks_factors}
 use Rattle.mysql_conversation.specs.Parts.{nothing, never, one, ◌followed_by◌, ◌or◌, for_some, times, many, broken}
@@ -8,31 +8,31 @@ use Rattle.mysql_conversation.specs.declared.state.Answer.{Answer}
 use Rattle.mysql_conversation.specs.declared.state.Answer.TheVariants as answer
 use Rattle.mysql_conversation.specs.declared.state.Request.{Request}
 use Rattle.mysql_conversation.specs.declared.state.Request.TheVariants.{Query, Execution, Cursor}
-use Rattle.mysql_conversation.specs.declared.kind.Format.{Format}
-use Rattle.mysql_conversation.specs.declared.kind.Format.TheVariants.{Text, Binary}
-use Rattle.mysql_conversation.specs.declared.kind.Kind.{Kind}
-use Rattle.mysql_conversation.specs.declared.kind.Kind.TheVariants as kind
-use Rattle.mysql_conversation.specs.declared.kind.Opening.{Opening}
-use Rattle.mysql_conversation.specs.declared.kind.Opening.TheVariants as opened_at
-use Rattle.mysql_conversation.specs.declared.kind.Side.{Side}
-use Rattle.mysql_conversation.specs.declared.kind.Side.TheVariants.{Client, Server}
+use Rattle.mysql_conversation.specs.declared.packet_kind.RowFormat.{RowFormat}
+use Rattle.mysql_conversation.specs.declared.packet_kind.RowFormat.TheVariants.{Text, Binary}
+use Rattle.mysql_conversation.specs.declared.packet_kind.PacketKind.{PacketKind}
+use Rattle.mysql_conversation.specs.declared.packet_kind.PacketKind.TheVariants as kind
+use Rattle.mysql_conversation.specs.declared.packet_kind.InitialPhase.{InitialPhase}
+use Rattle.mysql_conversation.specs.declared.packet_kind.InitialPhase.TheVariants as opened_at
+use Rattle.mysql_conversation.specs.declared.packet_kind.Side.{Side}
+use Rattle.mysql_conversation.specs.declared.packet_kind.Side.TheVariants.{Client, Server}
 
 -- a packet: who sent it, its payload, and which packet it is
 pub record Packet : Type 0 where
   pub from : Side
   pub payload : List ℕ
-  pub kind : Kind
+  pub kind : PacketKind
 
 -- a part of a conversation
 abbrev pub Part : Type 1
 Part = List Packet → List Packet → Type 0
 
 -- a packet of the client of this kind, whose payload is such
-abbrev pub sent : Kind → (List ℕ → Type 0) → Part
+abbrev pub sent : PacketKind → (List ℕ → Type 0) → Part
 sent kind P = one (λ x. (x.from ≡ Client) × (x.kind ≡ kind) × P x.payload)
 
 -- a packet of the server of this kind, which is no error, and whose payload is such
-abbrev pub served : Kind → (List ℕ → Type 0) → Part
+abbrev pub served : PacketKind → (List ℕ → Type 0) → Part
 served kind P = one (λ x. (x.from ≡ Server) × (x.kind ≡ kind) × (first_is 0xff x.payload ≡ false) × P x.payload)
 
 abbrev pub error : Agreed → Part
@@ -43,11 +43,11 @@ error a = one (λ x. (x.from ≡ Server) × (x.kind ≡ kind.Error) × IsError a
 abbrev pub ok : Agreed → Bool → Part
 ok a more = served kind.Ok (IsOk a more)
 
-abbrev pub row : Agreed → Format → Part
+abbrev pub row : Agreed → RowFormat → Part
 row a format = served (kind.Row format) (IsRow a format)
 
 -- how an end is spelled
-abbrev pub ending : Bool → Kind
+abbrev pub ending : Bool → PacketKind
 ending true = kind.OkTerminator
 ending false = kind.Eof
 
@@ -86,7 +86,7 @@ clone = one (λ x. x.kind ≡ kind.Clone)
 -- ---- results
 
 -- how the rows that are asked for are spelled
-abbrev pub format_of : Request → Format
+abbrev pub format_of : Request → RowFormat
 format_of Query = Text
 format_of Execution = Binary
 format_of Cursor = Binary
@@ -106,12 +106,12 @@ columns_end a Execution deprecates = definitions_end a deprecates
 columns_end a Cursor true = nothing
 columns_end a Cursor false = served kind.Eof (λ p. (status : StatusFlags) × IsOldEnd a status p × (opens_cursor status ≡ false))
 
--- the end of the definitions of so many columns or parameters; of none there is none
+-- the end of the definitions of a given number of columns or parameters; of none there is none
 abbrev pub definitions_end_of : Agreed → Bool → ℕ → Part
 definitions_end_of a deprecates zero = nothing
 definitions_end_of a deprecates (suc n) = definitions_end a deprecates
 
--- definitions of so many columns or parameters, and their end; where the definitions are left out, the end alone
+-- definitions of a given number of columns or parameters, and their end; where the definitions are left out, the end alone
 abbrev pub definitions : Agreed → Bool → ℕ → Part
 definitions a true n = times n definition followed_by definitions_end_of a (deprecates_eof a) n
 definitions a false n = definitions_end_of a (deprecates_eof a) n
@@ -167,7 +167,7 @@ acknowledged a false = ok a false
 
 -- what the server says before it is done, by the first byte: a switch of the plugin, or of fe alone to the old one, more data, a
 -- next factor where these are agreed on, and else what its plugin says
-abbrev pub authentication_kind : Agreed → List ℕ → Kind
+abbrev pub authentication_kind : Agreed → List ℕ → PacketKind
 authentication_kind a p =
     if first_is 0xfe p then (if is_one_byte p then kind.OldAuthSwitch else kind.AuthSwitch)
     else (if first_is 1 p then kind.AuthMoreData
@@ -235,7 +235,7 @@ answering code cursor =
     else (if code == 0x1e then Some answer.Events  -- COM_BINLOG_DUMP_GTID
     else (if code == 0x20 then Some answer.Clone  -- COM_CLONE
     else (if code == 0xef then None  -- an acknowledgement of an event
-    else Some answer.Refusal)))))))))))))))))))))))))))
+    else Some answer.SessionError)))))))))))))))))))))))))))
 
 -- the first byte; a server takes an empty packet for COM_SLEEP (`Protocol_classic::get_command` in MySQL, `do_command` in MariaDB)
 abbrev pub code_of : List ℕ → ℕ
@@ -258,7 +258,7 @@ answered a (Some answer.Events) = events a
 answered a (Some answer.Nothing) = nothing
 answered a (Some answer.Quit) = never
 answered a (Some answer.Clone) = error a
-answered a (Some answer.Refusal) = error a
+answered a (Some answer.SessionError) = error a
 
 -- a command and all that answers it
 abbrev pub exchange_of : Agreed → ℕ → Bool → Part
@@ -269,14 +269,14 @@ exchange a = for_some (λ code. exchange_of a code true or exchange_of a code fa
 
 -- ---- conversations
 
-abbrev pub commands : Kind → Bool
+abbrev pub commands : PacketKind → Bool
 commands (kind.Command code) = true
 commands _ = false
 
 -- a packet inside of an exchange
-abbrev pub inside : Kind → Bool
+abbrev pub inside : PacketKind → Bool
 inside (kind.Command code) = false
-inside kind.UnaskedError = false
+inside kind.UnsolicitedError = false
 inside kind.Clone = false
 inside _ = true
 
@@ -288,8 +288,8 @@ abbrev pub unless_broken : Agreed → Part → Part
 unless_broken a part = part or broken part IsInside (error a)
 
 -- an error between two exchanges: the server ends the connection
-abbrev pub unasked_error : Agreed → Part
-unasked_error a = one (λ x. (x.from ≡ Server) × (x.kind ≡ kind.UnaskedError) × IsError a x.payload)
+abbrev pub unsolicited_error : Agreed → Part
+unsolicited_error a = one (λ x. (x.from ≡ Server) × (x.kind ≡ kind.UnsolicitedError) × IsError a x.payload)
 
 abbrev pub exchanges : Agreed → Part
 exchanges a = many (unless_broken a (exchange a))
@@ -300,7 +300,7 @@ commanding r = one (λ x. (x.from ≡ Client) × (x.kind ≡ kind.Command (code_
 
 -- COM_QUIT, which a server may still answer with an error
 abbrev pub quit : Agreed → Part
-quit a = commanding answer.Quit followed_by (nothing or unasked_error a)
+quit a = commanding answer.Quit followed_by (nothing or unsolicited_error a)
 
 -- COM_CLONE, and the clone plugin's own protocol up to the end of the connection
 abbrev pub cloned : Agreed → Part
@@ -308,7 +308,7 @@ cloned a = commanding answer.Clone followed_by ok a false followed_by many clone
 
 -- what ends the connection, after which no packet comes
 abbrev pub last : Agreed → Part
-last a = nothing or quit a or unasked_error a or cloned a
+last a = nothing or quit a or unsolicited_error a or cloned a
 
 abbrev pub commanded : Agreed → Part
 commanded a = exchanges a followed_by last a
@@ -317,7 +317,7 @@ commanded a = exchanges a followed_by last a
 abbrev pub refused_login : Agreed → Part
 refused_login a = broken (authentication a) IsInside (error a)
 
-abbrev pub conversation : Agreed → Opening → List Packet → Type 0
+abbrev pub conversation : Agreed → InitialPhase → List Packet → Type 0
 conversation a opened_at.Login items = ((authentication a followed_by commanded a) or refused_login a) items []
 conversation a opened_at.Commands items = commanded a items []
 
@@ -327,7 +327,7 @@ abbrev pub IsReport : Agreed → Packet → Type 0
 IsReport a x = (x.from ≡ Server) × (x.kind ≡ kind.ProgressReport) × (is_report a x.payload ≡ true)
 
 -- the client may answer a packet of this kind by one that is no command
-abbrev pub asks : Kind → Bool
+abbrev pub asks : PacketKind → Bool
 asks kind.AuthSwitch = true
 asks kind.OldAuthSwitch = true
 asks kind.AuthMoreData = true
@@ -342,16 +342,27 @@ abbrev pub InsideIsNext : List Packet → Type 0
 InsideIsNext [] = ⊥
 InsideIsNext (x ∷ xs) = IsInside x
 
--- The packets are these others, and reports of progress, each inside of an exchange, where the client is not asked.
-abbrev pub Reported : Agreed → Bool → List Packet → List Packet → Type 0
-Reported a is_asked [] others = others ≡ []
-Reported a is_asked (x ∷ items) others =
-    (IsReport a x × (is_asked ≡ false) × InsideIsNext others × Reported a false items others)
-    ⊎ ((more : List Packet) × (others ≡ x ∷ more) × Reported a (asks x.kind) items more)
+-- a login is over after a packet of this kind
+abbrev pub ends_login : PacketKind → Bool
+ends_login kind.Ok = true
+ends_login kind.Error = true
+ends_login _ = false
 
-abbrev pub IsConversation : Agreed → Opening → List Packet → Type 0
-IsConversation a o items = (others : List Packet) × conversation a o others × Reported a false items others
+-- The packets are these others, and reports of progress, each inside of the answer to a command, where the client is not asked. A login
+-- has none.
+abbrev pub Reported : Agreed → (is_login is_asked : Bool) → List Packet → List Packet → Type 0
+Reported a is_login is_asked [] others = others ≡ []
+Reported a is_login is_asked (x ∷ items) others =
+    (IsReport a x × (is_login ≡ false) × (is_asked ≡ false) × InsideIsNext others × Reported a false false items others)
+    ⊎ ((more : List Packet) × (others ≡ x ∷ more) × Reported a (is_login && not (ends_login x.kind)) (asks x.kind) items more)
+
+abbrev pub begins_with_login : InitialPhase → Bool
+begins_with_login opened_at.Login = true
+begins_with_login opened_at.Commands = false
+
+abbrev pub IsConversation : Agreed → InitialPhase → List Packet → Type 0
+IsConversation a o items = (others : List Packet) × conversation a o others × Reported a (begins_with_login o) false items others
 
 -- the beginning of a conversation
-abbrev pub IsBeginning : Agreed → Opening → List Packet → Type 0
+abbrev pub IsBeginning : Agreed → InitialPhase → List Packet → Type 0
 IsBeginning a o items = (more : List Packet) × IsConversation a o (items ++ more)

@@ -5,7 +5,7 @@ use Rattle.mysql_conversation.specs.Agreements.{Agreed}
 use Rattle.mysql_conversation.specs.Conversation.{Packet}
 use Rattle.mysql_conversation.specs.Machine.{Takes, entrance}
 use Rattle.mysql_conversation.specs.declared.conversation_state.ConversationState.{ConversationState}
-use Rattle.mysql_conversation.specs.declared.kind.Opening.{Opening}
+use Rattle.mysql_conversation.specs.declared.packet_kind.InitialPhase.{InitialPhase}
 use Rattle.mysql_conversation.specs.declared.state.After.{After}
 use Rattle.mysql_conversation.specs.declared.state.After.TheVariants as after
 use Rattle.mysql_conversation.specs.declared.state.Request.{Request}
@@ -14,7 +14,7 @@ use Rattle.mysql_conversation.specs.declared.state.State.{State}
 use Rattle.mysql_conversation.specs.declared.state.State.TheVariants as state
 
 -- a place at which nothing is counted
-abbrev pub at : Opening → ℕ → ℕ → ConversationState
+abbrev pub at : InitialPhase → ℕ → ℕ → ConversationState
 at opening place request = record { opening = opening; place = place; request = request; after = 0; definitions = 0; columns = 0 }
 
 -- the numbers of each state, and those that are not needed are 0
@@ -23,7 +23,7 @@ number_of Query = 0
 number_of Execution = 1
 number_of Cursor = 2
 
-abbrev pub at_definitions : Opening → ℕ → ℕ → After → ConversationState
+abbrev pub at_definitions : InitialPhase → ℕ → ℕ → After → ConversationState
 at_definitions opening place n after.Rest = record { opening = opening; place = place; request = 0; after = 0; definitions = n; columns = 0 }
 at_definitions opening place n (after.Rows r) = record { opening = opening; place = place; request = number_of r; after = 1; definitions = n; columns = 0 }
 at_definitions opening place n (after.Columns m) = record { opening = opening; place = place; request = 0; after = 2; definitions = n; columns = m }
@@ -39,7 +39,7 @@ asked_number false is_asked = number_if is_asked
 asked_number true false = 2
 asked_number true true = 3
 
-abbrev pub numbers_of : Opening → State → ConversationState
+abbrev pub numbers_of : InitialPhase → State → ConversationState
 numbers_of o state.Rest = at o 0 0
 numbers_of o (state.Authentication login is_asked) = at o 1 (asked_number login is_asked)
 numbers_of o (state.Reply r) = at o 2 (number_of r)
@@ -54,7 +54,7 @@ numbers_of o (state.Acknowledgement may_end) = at o 10 (number_if may_end)
 numbers_of o state.Text = at o 11 0
 numbers_of o state.Fields = at o 12 0
 numbers_of o state.Events = at o 13 0
-numbers_of o state.Refusal = at o 14 0
+numbers_of o state.SessionError = at o 14 0
 numbers_of o state.CloneReply = at o 15 0
 numbers_of o state.Clone = at o 16 0
 numbers_of o state.Over = at o 17 0
@@ -100,7 +100,7 @@ state_at s =
     else (if s.place == 11 then Some state.Text
     else (if s.place == 12 then Some state.Fields
     else (if s.place == 13 then Some state.Events
-    else (if s.place == 14 then Some state.Refusal
+    else (if s.place == 14 then Some state.SessionError
     else (if s.place == 15 then Some state.CloneReply
     else (if s.place == 16 then Some state.Clone
     else (if s.place == 17 then Some state.Over

@@ -1,20 +1,20 @@
 -- Which kinds may come next.
 use Rattle.std.specs.Prelude.{List, [], ◌∷◌, ◌++◌, Bool, true, false, ◌&&◌, ◌||◌, ◌==◌, not, if◌then◌else◌}
 use Rattle.mysql_conversation.specs.Agreements.{Agreed, deprecates_eof, asks_factors, reports_progress}
-use Rattle.mysql_conversation.specs.Machine.{is_due}
-use Rattle.mysql_conversation.specs.KindName.{index, is_in}
+use Rattle.mysql_conversation.specs.Machine.{is_due, reports}
+use Rattle.mysql_conversation.specs.PacketKindTag.{index, is_in}
 use Rattle.mysql_conversation.specs.Standing.{Standing, waits, quits}
-use Rattle.mysql_conversation.specs.declared.kind.Side.{Side}
-use Rattle.mysql_conversation.specs.declared.kind.Side.TheVariants.{Client, Server}
-use Rattle.mysql_conversation.specs.declared.kind_name.KindName.{KindName}
-use Rattle.mysql_conversation.specs.declared.kind_name.KindName.TheVariants as name
+use Rattle.mysql_conversation.specs.declared.packet_kind.Side.{Side}
+use Rattle.mysql_conversation.specs.declared.packet_kind.Side.TheVariants.{Client, Server}
+use Rattle.mysql_conversation.specs.declared.packet_kind_tag.PacketKindTag.{PacketKindTag}
+use Rattle.mysql_conversation.specs.declared.packet_kind_tag.PacketKindTag.TheVariants as name
 use Rattle.mysql_conversation.specs.declared.state.Request.{Request}
 use Rattle.mysql_conversation.specs.declared.state.Request.TheVariants.{Query, Execution, Cursor}
 use Rattle.mysql_conversation.specs.declared.state.State.{State}
 use Rattle.mysql_conversation.specs.declared.state.State.TheVariants as state
 
 -- of the client
-abbrev pub sent_names : State → List KindName
+abbrev pub sent_names : State → List PacketKindTag
 sent_names state.Rest = name.Command ∷ []
 sent_names (state.Authentication login true) = name.AuthData ∷ []
 sent_names (state.Authentication login false) = []
@@ -30,29 +30,29 @@ sent_names (state.Acknowledgement may_end) = []
 sent_names state.Text = []
 sent_names state.Fields = []
 sent_names state.Events = name.SemiSyncAck ∷ []
-sent_names state.Refusal = []
+sent_names state.SessionError = []
 sent_names state.CloneReply = []
 sent_names state.Clone = name.Clone ∷ []
 sent_names state.Quit = []
 sent_names state.Over = []
 
 -- how an end is named
-abbrev pub end_name : Bool → KindName
+abbrev pub end_name : Bool → PacketKindTag
 end_name true = name.OkTerminator
 end_name false = name.Eof
 
-abbrev pub row_name : Request → KindName
+abbrev pub row_name : Request → PacketKindTag
 row_name Query = name.TextRow
 row_name Execution = name.BinaryRow
 row_name Cursor = name.BinaryRow
 
 -- what a server says before it is done
-abbrev pub asked_names : Bool → List KindName
+abbrev pub asked_names : Bool → List PacketKindTag
 asked_names true = name.AuthSwitch ∷ name.OldAuthSwitch ∷ name.AuthMoreData ∷ name.AuthNextFactor ∷ name.AuthPluginData ∷ []
 asked_names false = name.AuthSwitch ∷ name.OldAuthSwitch ∷ name.AuthMoreData ∷ name.AuthPluginData ∷ []
 
 -- of the server, where it is neither an error nor a report of progress
-abbrev pub served_names : Agreed → State → List KindName
+abbrev pub served_names : Agreed → State → List PacketKindTag
 served_names a state.Rest = []
 served_names a (state.Authentication login is_asked) = name.Ok ∷ asked_names (asks_factors a)
 served_names a (state.Reply r) = name.Ok ∷ name.LocalInfile ∷ name.ColumnCount ∷ []
@@ -68,64 +68,64 @@ served_names a (state.Acknowledgement false) = name.Ok ∷ []
 served_names a state.Text = name.Statistics ∷ []
 served_names a state.Fields = name.FieldListColumn ∷ end_name (deprecates_eof a) ∷ []
 served_names a state.Events = name.BinlogEvent ∷ name.Eof ∷ []
-served_names a state.Refusal = []
+served_names a state.SessionError = []
 served_names a state.CloneReply = name.Ok ∷ []
 served_names a state.Clone = name.Clone ∷ []
 served_names a state.Quit = []
 served_names a state.Over = []
 
 -- of what begins with ff, and is no report
-abbrev pub error_names : State → List KindName
-error_names state.Rest = name.UnaskedError ∷ []
+abbrev pub error_names : State → List PacketKindTag
+error_names state.Rest = name.UnsolicitedError ∷ []
 error_names state.Clone = name.Clone ∷ []
-error_names state.Quit = name.UnaskedError ∷ []
+error_names state.Quit = name.UnsolicitedError ∷ []
 error_names state.Over = []
 error_names _ = name.Error ∷ []
 
-abbrev pub reported : Bool → List KindName → List KindName
+abbrev pub reported : Bool → List PacketKindTag → List PacketKindTag
 reported true names = name.ProgressReport ∷ names
 reported false names = names
 
--- an error may come at any time before the end, and a report of progress where the server is to speak
-abbrev pub names : Agreed → State → Side → List KindName
+-- an error may come at any time before the end, and a report of progress while a command is answered
+abbrev pub names : Agreed → State → Side → List PacketKindTag
 names a s Client = sent_names s
-names a s Server = error_names s ++ reported (reports_progress a && is_due s) (served_names a s)
+names a s Server = error_names s ++ reported (reports_progress a && reports s) (served_names a s)
 
-abbrev pub expects : Agreed → State → Side → KindName → Bool
-expects a s side n = is_in n (names a s side)
+abbrev pub may_receive : Agreed → State → Side → PacketKindTag → Bool
+may_receive a s side n = is_in n (names a s side)
 
 -- after which the client may answer by a packet that is no command
-abbrev pub asking_names : List KindName
+abbrev pub asking_names : List PacketKindTag
 asking_names = name.AuthSwitch ∷ name.OldAuthSwitch ∷ name.AuthMoreData ∷ name.AuthNextFactor ∷ name.AuthPluginData ∷ name.LocalInfile ∷ name.InfileContent ∷ []
 
 -- after which no command comes any more
-abbrev pub shutting_names : State → List KindName
-shutting_names state.Rest = name.UnaskedError ∷ []
+abbrev pub shutting_names : State → List PacketKindTag
+shutting_names state.Rest = name.UnsolicitedError ∷ []
 shutting_names (state.Authentication true is_asked) = name.Error ∷ []
 shutting_names state.CloneReply = name.Ok ∷ []
 shutting_names state.Clone = name.Clone ∷ []
-shutting_names state.Quit = name.UnaskedError ∷ []
+shutting_names state.Quit = name.UnsolicitedError ∷ []
 shutting_names _ = []
 
 -- Where commands may come early: a command where the server is to speak and COM_QUIT doesn't wait, and another packet of the client where
 -- no command waits. Where commands wait, the server asks the client for nothing, and doesn't end the connection.
-abbrev pub pipe_expects : Agreed → Standing → Side → KindName → Bool
+abbrev pub pipe_expects : Agreed → Standing → Side → PacketKindTag → Bool
 pipe_expects a w Client n =
-    if is_due w.state then (expects a w.state Client n && not (waits w.waiting)) || (index n == index name.Command && not (quits w.waiting))
-    else expects a w.state Client n
-pipe_expects a w Server n = expects a w.state Server n && not (waits w.waiting && (is_in n asking_names || is_in n (shutting_names w.state)))
+    if is_due w.state then (may_receive a w.state Client n && not (waits w.waiting)) || (index n == index name.Command && not (quits w.waiting))
+    else may_receive a w.state Client n
+pipe_expects a w Server n = may_receive a w.state Server n && not (waits w.waiting && (is_in n asking_names || is_in n (shutting_names w.state)))
 
 -- what a session begins with, and what answers the greeting, in TLS or not
-abbrev pub greeting_names : Side → List KindName
+abbrev pub greeting_names : Side → List PacketKindTag
 greeting_names Client = []
-greeting_names Server = name.Handshake ∷ name.UnaskedError ∷ []
+greeting_names Server = name.Handshake ∷ name.UnsolicitedError ∷ []
 
 -- what answers what is no login
-abbrev pub login_error_names : Side → List KindName
+abbrev pub login_error_names : Side → List PacketKindTag
 login_error_names Client = []
 login_error_names Server = name.Error ∷ []
 
-abbrev pub login_names : Bool → Side → List KindName
-login_names tls Server = name.UnaskedError ∷ []
+abbrev pub login_names : Bool → Side → List PacketKindTag
+login_names tls Server = name.UnsolicitedError ∷ []
 login_names true Client = name.Login ∷ []
 login_names false Client = name.SslRequest ∷ name.Login ∷ []

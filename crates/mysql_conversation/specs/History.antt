@@ -3,13 +3,13 @@ use Rattle.std.specs.Prelude.{◌≡◌, ℕ, List, [], ◌∷◌, ◌++◌}
 use Rattle.mysql_conversation.specs.Agreements.{Agreed}
 use Rattle.mysql_conversation.specs.Conversation.{Packet, IsBeginning}
 use Rattle.mysql_conversation.specs.ConversationState.{numbers_of}
-use Rattle.mysql_conversation.specs.KindName.{name_of}
+use Rattle.mysql_conversation.specs.PacketKindTag.{name_of}
 use Rattle.mysql_conversation.specs.Machine.{Takes, entrance}
 use Rattle.mysql_conversation.specs.Taken.{packet}
-use Rattle.mysql_conversation.specs.declared.kind.Kind.{Kind}
-use Rattle.mysql_conversation.specs.declared.kind.Opening.{Opening}
-use Rattle.mysql_conversation.specs.declared.kind.Side.{Side}
-use Rattle.mysql_conversation.specs.declared.kind_name.KindName.{KindName}
+use Rattle.mysql_conversation.specs.declared.packet_kind.PacketKind.{PacketKind}
+use Rattle.mysql_conversation.specs.declared.packet_kind.InitialPhase.{InitialPhase}
+use Rattle.mysql_conversation.specs.declared.packet_kind.Side.{Side}
+use Rattle.mysql_conversation.specs.declared.packet_kind_tag.PacketKindTag.{PacketKindTag}
 use Rattle.mysql_conversation.specs.declared.conversation.Conversation.{Conversation}
 use Rattle.mysql_conversation.specs.declared.conversation_state.ConversationState.{ConversationState}
 
@@ -17,7 +17,7 @@ use Rattle.mysql_conversation.specs.declared.conversation_state.ConversationStat
 abbrev pub agreed : Conversation → Agreed
 agreed c = c.agreed
 
-abbrev pub opening : Conversation → Opening
+abbrev pub opening : Conversation → InitialPhase
 opening c = c.opening
 
 -- where it stands, in plain numbers
@@ -29,5 +29,5 @@ abbrev pub Taken : Conversation → List Packet → Type 0
 Taken c items = Takes c.agreed (entrance c.opening) items c.state
 
 -- some packet of this side, of a kind with this name, goes on with these packets
-abbrev pub GoesOn : Conversation → Side → KindName → List Packet → Type 0
-GoesOn c side name items = (payload : List ℕ) × (kind : Kind) × (name_of kind ≡ name) × IsBeginning c.agreed c.opening (items ++ packet side payload kind ∷ [])
+abbrev pub GoesOn : Conversation → Side → PacketKindTag → List Packet → Type 0
+GoesOn c side name items = (payload : List ℕ) × (kind : PacketKind) × (name_of kind ≡ name) × IsBeginning c.agreed c.opening (items ++ packet side payload kind ∷ [])

@@ -13,5 +13,6 @@ pub mod Standing
 pub mod Piped
 pub mod Session
 pub mod SessionSteps
-pub mod KindName
+pub mod LoginState
+pub mod PacketKindTag
 pub mod Expected

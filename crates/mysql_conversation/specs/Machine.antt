@@ -25,14 +25,14 @@ use Rattle.mysql_conversation.specs.declared.state.Reply.{Reply}
 use Rattle.mysql_conversation.specs.declared.state.Reply.TheVariants as reply
 use Rattle.mysql_conversation.specs.declared.state.State.{State}
 use Rattle.mysql_conversation.specs.declared.state.State.TheVariants as state
-use Rattle.mysql_conversation.specs.declared.kind.Format.{Format}
-use Rattle.mysql_conversation.specs.declared.kind.Format.TheVariants.{Text, Binary}
-use Rattle.mysql_conversation.specs.declared.kind.Kind.{Kind}
-use Rattle.mysql_conversation.specs.declared.kind.Kind.TheVariants as kind
-use Rattle.mysql_conversation.specs.declared.kind.Opening.{Opening}
-use Rattle.mysql_conversation.specs.declared.kind.Opening.TheVariants as opened_at
-use Rattle.mysql_conversation.specs.declared.kind.Side.{Side}
-use Rattle.mysql_conversation.specs.declared.kind.Side.TheVariants.{Client, Server}
+use Rattle.mysql_conversation.specs.declared.packet_kind.RowFormat.{RowFormat}
+use Rattle.mysql_conversation.specs.declared.packet_kind.RowFormat.TheVariants.{Text, Binary}
+use Rattle.mysql_conversation.specs.declared.packet_kind.PacketKind.{PacketKind}
+use Rattle.mysql_conversation.specs.declared.packet_kind.PacketKind.TheVariants as kind
+use Rattle.mysql_conversation.specs.declared.packet_kind.InitialPhase.{InitialPhase}
+use Rattle.mysql_conversation.specs.declared.packet_kind.InitialPhase.TheVariants as opened_at
+use Rattle.mysql_conversation.specs.declared.packet_kind.Side.{Side}
+use Rattle.mysql_conversation.specs.declared.packet_kind.Side.TheVariants.{Client, Server}
 
 -- ---- what a payload is
 
@@ -80,11 +80,11 @@ end_of None = None
 end_of (Some status) = Some (line.End (has_more status))
 
 -- what a row may be, and no end is
-abbrev pub row_of : Format → List ℕ → Option Line
+abbrev pub row_of : RowFormat → List ℕ → Option Line
 row_of Text p = Some line.Row
 row_of Binary p = if first_is 0 p then Some line.Row else None
 
-abbrev pub line_of : Agreed → Format → List ℕ → Option Line
+abbrev pub line_of : Agreed → RowFormat → List ℕ → Option Line
 line_of a format p =
     if looks_like_end (deprecates_eof a) p then end_of (end_status a (deprecates_eof a) p)
     else row_of format p
@@ -102,7 +102,7 @@ statement_at a p = statement_in ((stmt_with_metadata.form a.mysql).reads p)
 -- ---- the states
 
 -- where a conversation begins
-abbrev pub entrance : Opening → State
+abbrev pub entrance : InitialPhase → State
 entrance opened_at.Login = state.Authentication true false
 entrance opened_at.Commands = state.Rest
 
@@ -119,12 +119,12 @@ abbrev pub defined : Bool → After → State
 defined true b = enter b
 defined false b = state.DefinitionsEnd b
 
--- after a definition after which so many come
+-- after a definition after which this many come
 abbrev pub less : Bool → ℕ → After → State
 less deprecates zero b = defined deprecates b
 less deprecates (suc n) b = state.Definitions n b
 
--- where so many definitions come
+-- where a given number of definitions come
 abbrev pub define : ℕ → After → State
 define zero b = enter b
 define (suc n) b = state.Definitions n b
@@ -147,29 +147,29 @@ answers answer.Events = state.Events
 answers answer.Nothing = state.Rest
 answers answer.Quit = state.Quit
 answers answer.Clone = state.CloneReply
-answers answer.Refusal = state.Refusal
+answers answer.SessionError = state.SessionError
 
 -- ---- the steps
 
-abbrev pub begun : ℕ → Option Answer → Option (Kind × State)
+abbrev pub begun : ℕ → Option Answer → Option (PacketKind × State)
 begun code None = None
 begun code (Some a) = Some (kind.Command code, answers a)
 
-abbrev pub command_step : List ℕ → Option (Kind × State)
+abbrev pub command_step : List ℕ → Option (PacketKind × State)
 command_step p = begun (code_of p) (answering (code_of p) (asks_cursor p))
 
-abbrev pub infile_step : Request → List ℕ → Option (Kind × State)
+abbrev pub infile_step : Request → List ℕ → Option (PacketKind × State)
 infile_step r [] = Some (kind.InfileEnd, state.InfileReply r)
 infile_step r (b ∷ bytes) = Some (kind.InfileContent, state.Infile r)
 
-abbrev pub answer_step : Bool → Bool → Option (Kind × State)
+abbrev pub answer_step : Bool → Bool → Option (PacketKind × State)
 answer_step login true = Some (kind.AuthData, state.Authentication login false)
 answer_step login false = None
 
-abbrev pub ack_step : List ℕ → Option (Kind × State)
+abbrev pub ack_step : List ℕ → Option (PacketKind × State)
 ack_step p = if first_is 0xef p then Some (kind.SemiSyncAck, state.Events) else None
 
-abbrev pub client_step : State → List ℕ → Option (Kind × State)
+abbrev pub client_step : State → List ℕ → Option (PacketKind × State)
 client_step state.Rest p = command_step p
 client_step (state.Authentication login is_asked) p = answer_step login is_asked
 client_step (state.Infile r) p = infile_step r p
@@ -184,14 +184,14 @@ client_step (state.Acknowledgement may_end) p = None
 client_step state.Text p = None
 client_step state.Fields p = None
 client_step state.Events p = ack_step p
-client_step state.Refusal p = None
+client_step state.SessionError p = None
 client_step state.CloneReply p = None
 client_step state.Clone p = Some (kind.Clone, state.Clone)
 client_step state.Quit p = None
 client_step state.Over p = None
 
 -- an event, or the EOF packet after the last
-abbrev pub event_step : Bool → Option StatusFlags → Option (Kind × State)
+abbrev pub event_step : Bool → Option StatusFlags → Option (PacketKind × State)
 event_step true status = Some (kind.BinlogEvent, state.Events)
 event_step false None = None
 event_step false (Some status) = Some (kind.Eof, state.Rest)
@@ -201,57 +201,57 @@ abbrev pub counted : Bool → ℕ → Bool → After → State
 counted deprecates n true b = define n b
 counted deprecates n false b = defined deprecates b
 
-abbrev pub logged_in : Option StatusFlags → Option (Kind × State)
+abbrev pub logged_in : Option StatusFlags → Option (PacketKind × State)
 logged_in None = None
 logged_in (Some status) = if has_more status then None else Some (kind.Ok, state.Rest)
 
-abbrev pub authentication_step : Agreed → Bool → List ℕ → Option StatusFlags → Option (Kind × State)
+abbrev pub authentication_step : Agreed → Bool → List ℕ → Option StatusFlags → Option (PacketKind × State)
 authentication_step a login p status =
     if first_is 0 p then logged_in status
     else Some (authentication_kind a p, state.Authentication login true)
 
-abbrev pub reply_step : Bool → Request → Option Reply → Option (Kind × State)
+abbrev pub reply_step : Bool → Request → Option Reply → Option (PacketKind × State)
 reply_step deprecates r None = None
 reply_step deprecates r (Some (reply.Ok more)) = Some (kind.Ok, ended r more)
 reply_step deprecates r (Some reply.Infile) = Some (kind.LocalInfile, state.Infile r)
 reply_step deprecates r (Some (reply.Columns n follow)) = Some (kind.ColumnCount n follow, counted deprecates n follow (after.Rows r))
 
-abbrev pub infile_reply_step : Request → Option Reply → Option (Kind × State)
+abbrev pub infile_reply_step : Request → Option Reply → Option (PacketKind × State)
 infile_reply_step r None = None
 infile_reply_step r (Some (reply.Ok more)) = Some (kind.Ok, ended r more)
 infile_reply_step r (Some reply.Infile) = None
 infile_reply_step r (Some (reply.Columns n follow)) = None
 
 -- after the EOF packet of a result's definitions: the rows, or nothing of it where the cursor that was asked for is open
-abbrev pub columns_step : StatusFlags → Request → Option (Kind × State)
+abbrev pub columns_step : StatusFlags → Request → Option (PacketKind × State)
 columns_step status Query = Some (kind.Eof, state.Rows Query)
 columns_step status Execution = Some (kind.Eof, state.Rows Execution)
 columns_step status Cursor = if opens_cursor status then Some (kind.Eof, ended Cursor (has_more status)) else Some (kind.Eof, state.Rows Cursor)
 
-abbrev pub definitions_end_step : After → Option StatusFlags → Option (Kind × State)
+abbrev pub definitions_end_step : After → Option StatusFlags → Option (PacketKind × State)
 definitions_end_step b None = None
 definitions_end_step (after.Rows r) (Some status) = columns_step status r
 definitions_end_step (after.Columns n) (Some status) = Some (kind.Eof, enter (after.Columns n))
 definitions_end_step after.End (Some status) = Some (kind.Eof, enter after.End)
 definitions_end_step after.Rest (Some status) = Some (kind.Eof, state.Rest)
 
-abbrev pub line_step : Bool → Request → Option Line → Option (Kind × State)
+abbrev pub line_step : Bool → Request → Option Line → Option (PacketKind × State)
 line_step deprecates r None = None
 line_step deprecates r (Some line.Row) = Some (kind.Row (format_of r), state.Rows r)
 line_step deprecates r (Some (line.End more)) = Some (ending deprecates, ended r more)
 
 -- a packet of this kind and what goes on in this state, or the end
-abbrev pub last_step : Bool → Kind → State → Option Line → Option (Kind × State)
+abbrev pub last_step : Bool → PacketKind → State → Option Line → Option (PacketKind × State)
 last_step deprecates k s None = None
 last_step deprecates k s (Some line.Row) = Some (k, s)
 last_step deprecates k s (Some (line.End more)) = Some (ending deprecates, state.Rest)
 
--- where the definitions of so many columns are left out: the EOF packet after them is not
+-- where the definitions of a given number of columns are left out: the EOF packet after them is not
 abbrev pub column_end : ℕ → State
 column_end zero = state.Rest
 column_end (suc n) = state.DefinitionsEnd after.Rest
 
--- and those of so many parameters before them
+-- and those of a given number of parameters before them
 abbrev pub param_end : (params columns : ℕ) → State
 param_end zero columns = column_end columns
 param_end (suc n) zero = state.DefinitionsEnd after.Rest
@@ -263,7 +263,7 @@ prepared_by deprecates true columns params = define params (after.Columns column
 prepared_by true false columns params = state.Rest
 prepared_by false false columns params = param_end params columns
 
-abbrev pub prepared_step : Bool → Option StmtPacketWithMetadata → Option (Kind × State)
+abbrev pub prepared_step : Bool → Option StmtPacketWithMetadata → Option (PacketKind × State)
 prepared_step deprecates None = None
 prepared_step deprecates (Some s) =
     Some (
@@ -272,23 +272,23 @@ prepared_step deprecates (Some s) =
     )
 
 -- an OK packet, after which no more results come
-abbrev pub last_ok : State → Option Reply → Option (Kind × State)
+abbrev pub last_ok : State → Option Reply → Option (PacketKind × State)
 last_ok m (Some (reply.Ok more)) = if more then None else Some (kind.Ok, m)
 last_ok m (Some reply.Infile) = None
 last_ok m (Some (reply.Columns n follow)) = None
 last_ok m None = None
 
 -- an end, where the server may say so
-abbrev pub last_end : Bool → Bool → Bool → Option (Kind × State)
+abbrev pub last_end : Bool → Bool → Bool → Option (PacketKind × State)
 last_end deprecates may_end more = if more || not may_end then None else Some (ending deprecates, state.Rest)
 
-abbrev pub acknowledgement_step : Bool → Bool → Option Line → Option Reply → Option (Kind × State)
+abbrev pub acknowledgement_step : Bool → Bool → Option Line → Option Reply → Option (PacketKind × State)
 acknowledgement_step deprecates may_end (Some (line.End more)) r = last_end deprecates may_end more
 acknowledgement_step deprecates may_end (Some line.Row) r = last_ok state.Rest r
 acknowledgement_step deprecates may_end None r = None
 
 -- a packet of the server that is no error
-abbrev pub serve : Agreed → State → List ℕ → Option (Kind × State)
+abbrev pub serve : Agreed → State → List ℕ → Option (PacketKind × State)
 serve a state.Rest p = None
 serve a (state.Authentication login is_asked) p = authentication_step a login p (ok_status a p)
 serve a (state.Infile r) p = None
@@ -303,7 +303,7 @@ serve a (state.Acknowledgement may_end) p = acknowledgement_step (deprecates_eof
 serve a state.Text p = Some (kind.Statistics, state.Rest)
 serve a state.Fields p = last_step (deprecates_eof a) kind.FieldListColumn state.Fields (line_of a Text p)
 serve a state.Events p = event_step (first_is 0 p) (old_end_of a p)
-serve a state.Refusal p = None
+serve a state.SessionError p = None
 serve a state.CloneReply p = last_ok state.Clone (reply_of a p)
 serve a state.Clone p = Some (kind.Clone, state.Clone)
 serve a state.Quit p = None
@@ -312,9 +312,9 @@ serve a state.Over p = None
 -- ---- whose turn it is
 
 -- no exchange runs, and a command may come
-abbrev pub is_idle : State → Bool
-is_idle state.Rest = true
-is_idle _ = false
+abbrev pub is_rest : State → Bool
+is_rest state.Rest = true
+is_rest _ = false
 
 -- no command comes any more
 abbrev pub is_shut : State → Bool
@@ -348,23 +348,32 @@ is_due state.Quit = false
 is_due state.Over = false
 is_due _ = true
 
+-- a login runs
+abbrev pub is_login : State → Bool
+is_login (state.Authentication true is_asked) = true
+is_login _ = false
+
+-- a report of progress may come
+abbrev pub reports : State → Bool
+reports s = is_due s && not (is_login s)
+
 -- an error: in an exchange, of a login, which ends the connection, or in none, which does too
-abbrev pub error_step : State → Option (Kind × State)
-error_step state.Rest = Some (kind.UnaskedError, state.Over)
+abbrev pub error_step : State → Option (PacketKind × State)
+error_step state.Rest = Some (kind.UnsolicitedError, state.Over)
 error_step (state.Authentication true is_asked) = Some (kind.Error, state.Over)
-error_step state.Quit = Some (kind.UnaskedError, state.Over)
+error_step state.Quit = Some (kind.UnsolicitedError, state.Over)
 error_step state.Over = None
 error_step state.Clone = Some (kind.Clone, state.Clone)
 error_step _ = Some (kind.Error, state.Rest)
 
--- what begins with ff: a report of progress comes in an exchange alone, and the clone plugin's protocol is its own
-abbrev pub failed : Bool → State → Option (Kind × State)
+-- what begins with ff and is no report that may come: the clone plugin's protocol is its own
+abbrev pub failed : Bool → State → Option (PacketKind × State)
 failed is_report state.Clone = Some (kind.Clone, state.Clone)
 failed true s = None
 failed false s = error_step s
 
 -- which packet it is, if it is no report of progress, and the state after it
-abbrev pub step : Agreed → State → Side → List ℕ → Option (Kind × State)
+abbrev pub step : Agreed → State → Side → List ℕ → Option (PacketKind × State)
 step a s Client p = client_step s p
 step a s Server p = if first_is 0xff p then failed (is_report a p) s else serve a s p
 
@@ -376,9 +385,9 @@ abbrev pub Run : Agreed → State → List Packet → State → Type 0
 Run a s items t = Runs (StepsTo a) s items t
 
 -- which packet it is, and the state after it
-abbrev pub take_step : Agreed → State → Side → List ℕ → Option (Kind × State)
+abbrev pub take_step : Agreed → State → Side → List ℕ → Option (PacketKind × State)
 take_step a s Client p = step a s Client p
-take_step a s Server p = if is_report a p && is_due s then Some (kind.ProgressReport, s) else step a s Server p
+take_step a s Server p = if is_report a p && reports s then Some (kind.ProgressReport, s) else step a s Server p
 
 -- the same of packets among which may be reports
 abbrev pub TakesOne : Agreed → State → Packet → State → Type 0

@@ -2,7 +2,7 @@
 use Rattle.mysql_conversation.specs.Agreements.{Agreed}
 use Rattle.std.specs.Prelude.{◌≡◌, ◌≤◌, ℕ, List, [], ◌∷◌, if◌then◌else◌}
 use Rattle.mysql_conversation.specs.Conversation.{IsConversation}
-use Rattle.mysql_conversation.specs.declared.kind.Opening.{Opening}
+use Rattle.mysql_conversation.specs.declared.packet_kind.InitialPhase.{InitialPhase}
 use Rattle.mysql_conversation.specs.Pipelined.{Numbered, packets, is_client, counted}
 
 abbrev pub from_client : List Numbered → List Numbered
@@ -19,5 +19,5 @@ FollowCommands n [] = Unit {0}
 FollowCommands n (x ∷ xs) = (x.number ≤ counted n x.packet) × FollowCommands (counted n x.packet) xs
 
 -- the packets of each side are those of a conversation, in their order, and none stands before its command
-abbrev pub IsInterleaved : Agreed → Opening → List Numbered → Type 0
+abbrev pub IsInterleaved : Agreed → InitialPhase → List Numbered → Type 0
 IsInterleaved a o items = (others : List Numbered) × IsConversation a o (packets others) × (from_client items ≡ from_client others) × (from_server items ≡ from_server others) × FollowCommands 0 items

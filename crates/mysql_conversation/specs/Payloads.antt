@@ -15,8 +15,8 @@ use Rattle.mysql_prepared.specs.Stmt.{num_columns, num_params}
 use Rattle.mysql_prepared.specs.StmtWithMetadata.{stmt_with_metadata, packet_of, metadata_of}
 use Rattle.mysql_prepared.specs.declared.stmt_with_metadata.StmtPacketWithMetadata.{StmtPacketWithMetadata}
 use Rattle.mysql_conversation.specs.Agreements.{Agreed, deprecates_eof, reports_progress}
-use Rattle.mysql_conversation.specs.declared.kind.Format.{Format}
-use Rattle.mysql_conversation.specs.declared.kind.Format.TheVariants.{Text, Binary}
+use Rattle.mysql_conversation.specs.declared.packet_kind.RowFormat.{RowFormat}
+use Rattle.mysql_conversation.specs.declared.packet_kind.RowFormat.TheVariants.{Text, Binary}
 
 -- more results come
 abbrev pub has_more : StatusFlags → Bool
@@ -83,7 +83,7 @@ IsCount a n follow p =
     × (c : ColumnCount) × (rest : List ℕ) × (column_count.form a).Spells c p rest × (count c ≡ n) × (metadata_follows c ≡ follow)
 
 -- a row of text begins as no end does, and one in binary with 00
-abbrev pub IsRow : Agreed → Format → List ℕ → Type 0
+abbrev pub IsRow : Agreed → RowFormat → List ℕ → Type 0
 IsRow a Text p = looks_like_end (deprecates_eof a) p ≡ false
 IsRow a Binary p = first_is 0 p ≡ true
 

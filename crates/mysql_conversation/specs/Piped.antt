@@ -2,20 +2,20 @@
 use Rattle.std.specs.Prelude.{◌≡◌, ◌⊎◌, ◌≤◌, ◌-◌, ◌^◌, ◌++◌, ◌∷◌, [], ℕ, List, length, true, false, Some}
 use Rattle.std.specs.VecDeque.{deque_capacity, deque_len}
 use Rattle.mysql_conversation.specs.Agreements.{Agreed}
-use Rattle.mysql_conversation.specs.KindName.{name_of}
-use Rattle.mysql_conversation.specs.Machine.{is_due, is_idle}
+use Rattle.mysql_conversation.specs.PacketKindTag.{name_of}
+use Rattle.mysql_conversation.specs.Machine.{is_due, is_rest}
 use Rattle.mysql_conversation.specs.Taken.{packet}
 use Rattle.mysql_conversation.specs.Pipelined.{Numbered, IsPipelinedBeginning}
 use Rattle.mysql_conversation.specs.Standing.{Standing, standing, start, quits, command_of, PipeRun}
-use Rattle.mysql_conversation.specs.declared.kind.Kind.{Kind}
-use Rattle.mysql_conversation.specs.declared.kind.Opening.{Opening}
-use Rattle.mysql_conversation.specs.declared.kind.Side.{Side}
-use Rattle.mysql_conversation.specs.declared.kind.Side.TheVariants.{Client}
-use Rattle.mysql_conversation.specs.declared.kind_name.KindName.{KindName}
+use Rattle.mysql_conversation.specs.declared.packet_kind.PacketKind.{PacketKind}
+use Rattle.mysql_conversation.specs.declared.packet_kind.InitialPhase.{InitialPhase}
+use Rattle.mysql_conversation.specs.declared.packet_kind.Side.{Side}
+use Rattle.mysql_conversation.specs.declared.packet_kind.Side.TheVariants.{Client}
+use Rattle.mysql_conversation.specs.declared.packet_kind_tag.PacketKindTag.{PacketKindTag}
 use Rattle.mysql_conversation.specs.declared.pipeline.Pipeline.{Pipeline}
 use Rattle.mysql_conversation.specs.declared.state.Command.{Command}
 
-abbrev pub place : Side → List ℕ → Kind → ℕ → Numbered
+abbrev pub place : Side → List ℕ → PacketKind → ℕ → Numbered
 place side payload kind n = record { packet = packet side payload kind; number = n }
 
 abbrev pub stands : Pipeline → Standing
@@ -29,7 +29,7 @@ PipeTaken c items = PipeRun c.agreed (start c.opening) items (stands c)
 abbrev pub agreed : Pipeline → Agreed
 agreed c = c.agreed
 
-abbrev pub opening : Pipeline → Opening
+abbrev pub opening : Pipeline → InitialPhase
 opening c = c.opening
 
 abbrev pub limit : Pipeline → ℕ
@@ -48,7 +48,7 @@ CountsNoMore c = c.last ≡ 2 ^ 64 - 1
 
 -- no exchange runs, so that a command that comes is answered next
 abbrev pub IsIdle : Pipeline → Type 0
-IsIdle c = is_idle c.state ≡ true
+IsIdle c = is_rest c.state ≡ true
 
 -- the payload is a command of the client
 abbrev pub IsCommand : Side → List ℕ → Type 0
@@ -66,14 +66,14 @@ capacity c = deque_capacity c.waiting
 abbrev pub HasNoCapacity : Pipeline → Type 0
 HasNoCapacity c = deque_capacity c.waiting ≤ deque_len c.waiting
 
--- nothing of it is changed, but for how many commands there is memory
+-- nothing of it is changed, except for how many commands there is memory
 abbrev pub IsSame : Pipeline → Pipeline → Type 0
 IsSame c d = (d.agreed ≡ c.agreed) × (d.opening ≡ c.opening) × (d.limit ≡ c.limit) × (stands d ≡ stands c)
 
 -- after what was taken the packet comes, of some kind and number
 abbrev pub Comes : Pipeline → Side → List ℕ → Type 0
-Comes c side p = (items : List Numbered) → PipeTaken c items → (k : Kind) × (n : ℕ) × IsPipelinedBeginning c.agreed c.opening (items ++ place side p k n ∷ [])
+Comes c side p = (items : List Numbered) → PipeTaken c items → (k : PacketKind) × (n : ℕ) × IsPipelinedBeginning c.agreed c.opening (items ++ place side p k n ∷ [])
 
 -- some packet of this side, of a kind with this name, goes on with these packets
-abbrev pub GoesOn : Pipeline → Side → KindName → List Numbered → Type 0
-GoesOn c side name items = (payload : List ℕ) × (kind : Kind) × (number : ℕ) × (name_of kind ≡ name) × IsPipelinedBeginning c.agreed c.opening (items ++ place side payload kind number ∷ [])
+abbrev pub GoesOn : Pipeline → Side → PacketKindTag → List Numbered → Type 0
+GoesOn c side name items = (payload : List ℕ) × (kind : PacketKind) × (number : ℕ) × (name_of kind ≡ name) × IsPipelinedBeginning c.agreed c.opening (items ++ place side payload kind number ∷ [])

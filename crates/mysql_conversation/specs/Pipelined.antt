@@ -2,10 +2,10 @@
 use Rattle.mysql_conversation.specs.Agreements.{Agreed}
 use Rattle.std.specs.Prelude.{◌≡◌, ◌⊎◌, ℕ, ◌+◌, List, [], ◌∷◌, ◌++◌, Bool, true, false, not, ◌&&◌, if◌then◌else◌}
 use Rattle.mysql_conversation.specs.Conversation.{Packet, IsConversation, commands, inside, asks}
-use Rattle.mysql_conversation.specs.declared.kind.Opening.{Opening}
-use Rattle.mysql_conversation.specs.declared.kind.Kind.{Kind}
-use Rattle.mysql_conversation.specs.declared.kind.Side.{Side}
-use Rattle.mysql_conversation.specs.declared.kind.Side.TheVariants.{Client, Server}
+use Rattle.mysql_conversation.specs.declared.packet_kind.InitialPhase.{InitialPhase}
+use Rattle.mysql_conversation.specs.declared.packet_kind.PacketKind.{PacketKind}
+use Rattle.mysql_conversation.specs.declared.packet_kind.Side.{Side}
+use Rattle.mysql_conversation.specs.declared.packet_kind.Side.TheVariants.{Client, Server}
 
 -- a packet, and the number of the command whose exchange it belongs to
 pub record Numbered : Type 0 where
@@ -33,7 +33,7 @@ AreNumbered n [] = Unit {0}
 AreNumbered n (x ∷ xs) = (x.number ≡ counted n x.packet) × AreNumbered (counted n x.packet) xs
 
 -- a packet of the server before which a later command may come: it asks the client for nothing, and is inside of an exchange
-abbrev pub passes : Kind → Bool
+abbrev pub passes : PacketKind → Bool
 passes k = not (asks k) && inside k
 
 abbrev pub ArePassed : List Numbered → Type 0
@@ -50,10 +50,10 @@ Early is_asked (x ∷ items) others =
     × Early false items (front ++ back) × (is_asked ≡ false))
 
 -- a conversation, of which commands may come early
-abbrev pub IsPipelined : Agreed → Opening → List Numbered → Type 0
+abbrev pub IsPipelined : Agreed → InitialPhase → List Numbered → Type 0
 IsPipelined a o items = (others : List Numbered) × IsConversation a o (packets others) × AreNumbered 0 others × Early false items others
 
-abbrev pub IsPipelinedBeginning : Agreed → Opening → List Numbered → Type 0
+abbrev pub IsPipelinedBeginning : Agreed → InitialPhase → List Numbered → Type 0
 IsPipelinedBeginning a o items = (more : List Numbered) × IsPipelined a o (items ++ more)
 
 -- a list of packets, numbered

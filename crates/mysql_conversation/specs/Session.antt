@@ -10,17 +10,17 @@ use Rattle.mysql_auth.specs.SslRequest as head
 use Rattle.mysql_auth.specs.declared.handshake.HandshakePacket.{HandshakePacket}
 use Rattle.mysql_auth.specs.declared.ssl_request.SslRequest.{SslRequest}
 use Rattle.mysql_conversation.specs.Agreements.{Agreed, agreed_on, compresses}
-use Rattle.mysql_conversation.specs.KindName.{name_of}
+use Rattle.mysql_conversation.specs.PacketKindTag.{name_of}
 use Rattle.mysql_conversation.specs.Payloads.{first_is}
 use Rattle.mysql_conversation.specs.Piped as pipe
 use Rattle.mysql_conversation.specs.Piped.{PipeTaken, place}
 use Rattle.mysql_conversation.specs.Pipelined.{Numbered, IsPipelined}
-use Rattle.mysql_conversation.specs.declared.kind.Kind.{Kind}
-use Rattle.mysql_conversation.specs.declared.kind.Kind.TheVariants as kind
-use Rattle.mysql_conversation.specs.declared.kind.Opening.TheVariants.{Login}
-use Rattle.mysql_conversation.specs.declared.kind.Side.{Side}
-use Rattle.mysql_conversation.specs.declared.kind.Side.TheVariants.{Client, Server}
-use Rattle.mysql_conversation.specs.declared.kind_name.KindName.{KindName}
+use Rattle.mysql_conversation.specs.declared.packet_kind.PacketKind.{PacketKind}
+use Rattle.mysql_conversation.specs.declared.packet_kind.PacketKind.TheVariants as kind
+use Rattle.mysql_conversation.specs.declared.packet_kind.InitialPhase.TheVariants.{Login}
+use Rattle.mysql_conversation.specs.declared.packet_kind.Side.{Side}
+use Rattle.mysql_conversation.specs.declared.packet_kind.Side.TheVariants.{Client, Server}
+use Rattle.mysql_conversation.specs.declared.packet_kind_tag.PacketKindTag.{PacketKindTag}
 use Rattle.mysql_conversation.specs.declared.pipeline.Pipeline.{Pipeline}
 use Rattle.mysql_conversation.specs.declared.session.Phase.{Phase}
 use Rattle.mysql_conversation.specs.declared.session.Phase.TheVariants as phase
@@ -52,7 +52,7 @@ is_clear_error (b ∷ c ∷ d ∷ hash ∷ p) = b == 0xff && hash == 0x23
 is_clear_error _ = false
 
 -- a packet of no command's exchange, of this side and kind
-abbrev pub IsOf : Side → Kind → Numbered → Type 0
+abbrev pub IsOf : Side → PacketKind → Numbered → Type 0
 IsOf side k x = (x.packet.from ≡ side) × (x.packet.kind ≡ k) × (x.number ≡ 0)
 
 -- the greeting of a server that can do this
@@ -62,7 +62,7 @@ IsGreeting server x = IsOf Server kind.Handshake x × (first_is 0xff x.packet.pa
 
 -- an error in its place
 abbrev pub IsGreetingError : Numbered → Type 0
-IsGreetingError x = IsOf Server kind.UnaskedError x × (first_is 0xff x.packet.payload ≡ true)
+IsGreetingError x = IsOf Server kind.UnsolicitedError x × (first_is 0xff x.packet.payload ≡ true)
 
 -- the payload begins as a login of such a client
 abbrev pub BeginsAs : SslRequest → List ℕ → Type 0
@@ -148,7 +148,7 @@ limit s = limit_in s.limit s.phase
 abbrev pub IsEncrypted : Session → Type 0
 IsEncrypted s = (server : Agreed) × (s.phase ≡ phase.Encrypted server)
 
--- what comes is not ours: in TLS, but for an error that the server sends in clear, where it doesn't go on in TLS
+-- what comes is not ours: in TLS, except for an error that the server sends in clear, where it doesn't go on in TLS
 abbrev pub IsHidden : Session → Side → List ℕ → Type 0
 IsHidden s side p = IsEncrypted s × ((side ≡ Client) ⊎ (is_clear_error p ≡ false))
 
@@ -195,11 +195,11 @@ Continues s p = s.phase ≡ phase.Commands p
 
 -- after what was taken the packet comes, of some kind and number
 abbrev pub Comes : Session → Side → List ℕ → Type 0
-Comes s side p = (items : List Numbered) → SessionTaken s items → (k : Kind) × (n : ℕ) × IsSessionBeginning (items ++ place side p k n ∷ [])
+Comes s side p = (items : List Numbered) → SessionTaken s items → (k : PacketKind) × (n : ℕ) × IsSessionBeginning (items ++ place side p k n ∷ [])
 
 -- some packet of this side, of a kind with this name, goes on with these packets
-abbrev pub GoesOn : Side → KindName → List Numbered → Type 0
-GoesOn side name items = (payload : List ℕ) × (kind : Kind) × (number : ℕ) × (name_of kind ≡ name) × IsSessionBeginning (items ++ place side payload kind number ∷ [])
+abbrev pub GoesOn : Side → PacketKindTag → List Numbered → Type 0
+GoesOn side name items = (payload : List ℕ) × (kind : PacketKind) × (number : ℕ) × (name_of kind ≡ name) × IsSessionBeginning (items ++ place side payload kind number ∷ [])
 
 -- a login is among the packets, and by it both sides agree on this
 abbrev pub IsLoggedInAmong : Agreed → List Numbered → Type 0

@@ -9,9 +9,9 @@ use Rattle.mysql_conversation.specs.Agreements.{Agreed, agreed_on, compresses}
 use Rattle.mysql_conversation.specs.Payloads.{first_is}
 use Rattle.mysql_conversation.specs.Piped.{PipeTaken}
 use Rattle.mysql_conversation.specs.Session.{server_of, client_of, asks_tls, ends_name, is_clear_error, MayLogIn}
-use Rattle.mysql_conversation.specs.declared.kind.Kind.{Kind}
-use Rattle.mysql_conversation.specs.declared.kind.Kind.TheVariants as kind
-use Rattle.mysql_conversation.specs.declared.kind.Opening.TheVariants.{Login}
+use Rattle.mysql_conversation.specs.declared.packet_kind.PacketKind.{PacketKind}
+use Rattle.mysql_conversation.specs.declared.packet_kind.PacketKind.TheVariants as kind
+use Rattle.mysql_conversation.specs.declared.packet_kind.InitialPhase.TheVariants.{Login}
 use Rattle.mysql_conversation.specs.declared.pipeline.Pipeline.{Pipeline}
 use Rattle.mysql_conversation.specs.declared.session.Phase.{Phase}
 use Rattle.mysql_conversation.specs.declared.session.Phase.TheVariants as phase
@@ -42,7 +42,7 @@ abbrev pub IsNoLoginAt : Bool → List ℕ → Option SslRequest → Type 0
 IsNoLoginAt tls p None = Unit {0}
 IsNoLoginAt tls p (Some r) = MayLogIn tls r × (ends_name p ≡ false)
 
-abbrev pub AnsweredAs : Agreed → Bool → List ℕ → Kind → Phase → Type 0
+abbrev pub AnsweredAs : Agreed → Bool → List ℕ → PacketKind → Phase → Type 0
 AnsweredAs server tls p k next =
     ((r : SslRequest) × (login_at p ≡ Some r)
     × (((tls ≡ false) × (asks_tls r ≡ true) × (k ≡ kind.SslRequest) × (next ≡ phase.Encrypted server))
@@ -52,26 +52,26 @@ AnsweredAs server tls p k next =
 -- ---- what a session does with a packet before the conversation
 
 -- an error, after which nothing comes
-abbrev pub refused_by : Bool → Kind → Option (Kind × Phase)
+abbrev pub refused_by : Bool → PacketKind → Option (PacketKind × Phase)
 refused_by true k = Some (k, phase.Refused)
 refused_by false k = None
 
-abbrev pub greeted_by : Option Agreed → Option (Kind × Phase)
+abbrev pub greeted_by : Option Agreed → Option (PacketKind × Phase)
 greeted_by None = None
 greeted_by (Some server) = Some (kind.Handshake, phase.Login server)
 
 -- a packet of the server
-abbrev pub served_before : Phase → List ℕ → Option (Kind × Phase)
-served_before phase.Greeting p = if first_is 0xff p then Some (kind.UnaskedError, phase.Refused) else greeted_by (greeting_at p)
+abbrev pub served_before : Phase → List ℕ → Option (PacketKind × Phase)
+served_before phase.Greeting p = if first_is 0xff p then Some (kind.UnsolicitedError, phase.Refused) else greeted_by (greeting_at p)
 served_before phase.Refused p = None
-served_before (phase.Login server) p = refused_by (first_is 0xff p) kind.UnaskedError
-served_before (phase.Encrypted server) p = refused_by (is_clear_error p) kind.UnaskedError
-served_before (phase.InTls server) p = refused_by (first_is 0xff p) kind.UnaskedError
+served_before (phase.Login server) p = refused_by (first_is 0xff p) kind.UnsolicitedError
+served_before (phase.Encrypted server) p = refused_by (is_clear_error p) kind.UnsolicitedError
+served_before (phase.InTls server) p = refused_by (first_is 0xff p) kind.UnsolicitedError
 served_before phase.NoLogin p = refused_by (first_is 0xff p) kind.Error
 served_before (phase.Commands q) p = None
 
 -- a packet of the client is taken as this kind, and this phase follows
-abbrev pub SentBefore : Phase → List ℕ → Kind → Phase → Type 0
+abbrev pub SentBefore : Phase → List ℕ → PacketKind → Phase → Type 0
 SentBefore (phase.Login server) p k next = AnsweredAs server false p k next
 SentBefore (phase.InTls server) p k next = AnsweredAs server true p k next
 SentBefore ph p k next = ⊥

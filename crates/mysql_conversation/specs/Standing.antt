@@ -3,14 +3,14 @@ use Rattle.mysql_conversation.specs.Runs.{Runs}
 use Rattle.mysql_conversation.specs.Agreements.{Agreed}
 use Rattle.std.specs.Prelude.{◌≡◌, ◌⊎◌, ◌≤◌, ℕ, ◌+◌, ◌-◌, ◌^◌, List, [], ◌∷◌, ◌++◌, length, Bool, true, false, Option, Some, None, ◌&&◌, ◌||◌, if◌then◌else◌}
 use Rattle.mysql_conversation.specs.Conversation.{code_of, answering}
-use Rattle.mysql_conversation.specs.Machine.{take_step, answers, is_idle, is_shut, listens, is_due, entrance}
+use Rattle.mysql_conversation.specs.Machine.{take_step, answers, is_rest, is_shut, listens, is_due, entrance}
 use Rattle.mysql_conversation.specs.Payloads.{asks_cursor}
-use Rattle.mysql_conversation.specs.declared.kind.Opening.{Opening}
+use Rattle.mysql_conversation.specs.declared.packet_kind.InitialPhase.{InitialPhase}
 use Rattle.mysql_conversation.specs.Pipelined.{Numbered}
-use Rattle.mysql_conversation.specs.declared.kind.Kind.{Kind}
-use Rattle.mysql_conversation.specs.declared.kind.Kind.TheVariants as kind
-use Rattle.mysql_conversation.specs.declared.kind.Side.{Side}
-use Rattle.mysql_conversation.specs.declared.kind.Side.TheVariants.{Client, Server}
+use Rattle.mysql_conversation.specs.declared.packet_kind.PacketKind.{PacketKind}
+use Rattle.mysql_conversation.specs.declared.packet_kind.PacketKind.TheVariants as kind
+use Rattle.mysql_conversation.specs.declared.packet_kind.Side.{Side}
+use Rattle.mysql_conversation.specs.declared.packet_kind.Side.TheVariants.{Client, Server}
 use Rattle.mysql_conversation.specs.declared.state.State.{State}
 use Rattle.mysql_conversation.specs.declared.state.Command.{Command}
 use Rattle.mysql_conversation.specs.declared.state.Answer.{Answer}
@@ -37,7 +37,7 @@ known code (Some answer) = Some (record { code = code; answer = answer })
 abbrev pub command_of : List ℕ → Option Command
 command_of p = known (code_of p) (answering (code_of p) (asks_cursor p))
 
-abbrev pub kind_of : Command → Kind
+abbrev pub kind_of : Command → PacketKind
 kind_of c = kind.Command c.code
 
 abbrev pub begin : Command → State
@@ -64,14 +64,14 @@ quits (n ∷ m ∷ q) = quits (m ∷ q)
 -- where an exchange is over, the next begins that waits
 abbrev pub settle : State → ℕ → ℕ → List Waiting → Standing
 settle s i l [] = standing s i l []
-settle s i l (n ∷ q) = if is_idle s then settle (begin n.command) n.number l q else standing s i l (n ∷ q)
+settle s i l (n ∷ q) = if is_rest s then settle (begin n.command) n.number l q else standing s i l (n ∷ q)
 
 -- ---- the steps
 
 abbrev pub push : Standing → Command → Standing
 push w c = standing w.state w.number (w.last + 1) (w.waiting ++ wait c (w.last + 1) ∷ [])
 
-abbrev pub early : Standing → Option Command → Option (Kind × ℕ × Standing)
+abbrev pub early : Standing → Option Command → Option (PacketKind × ℕ × Standing)
 early w None = None
 early w (Some c) = if quits w.waiting then None else Some (kind_of c, w.last + 1, push w c)
 
@@ -80,27 +80,27 @@ abbrev pub IsFullOf : (limit : ℕ) (last : ℕ) → List Waiting → Option Com
 IsFullOf limit last q c = (command : Command) × (c ≡ Some command) × (quits q ≡ false) × ((limit ≤ length q) ⊎ (last ≡ 2 ^ 64 - 1))
 
 -- a packet that is no command stands after all commands that came
-abbrev pub aside : Standing → Option (Kind × State) → Option Command → Option (Kind × ℕ × Standing)
+abbrev pub aside : Standing → Option (PacketKind × State) → Option Command → Option (PacketKind × ℕ × Standing)
 aside w None c = early w c
 aside w (Some (k, m)) c = if waits w.waiting then None else Some (k, w.number, standing m w.number w.last w.waiting)
 
-abbrev pub in_turn : Standing → Option (Kind × State) → Option (Kind × ℕ × Standing)
+abbrev pub in_turn : Standing → Option (PacketKind × State) → Option (PacketKind × ℕ × Standing)
 in_turn w None = None
 in_turn w (Some (k, m)) =
-    if is_idle w.state then Some (k, w.last + 1, standing m (w.last + 1) (w.last + 1) w.waiting)
+    if is_rest w.state then Some (k, w.last + 1, standing m (w.last + 1) (w.last + 1) w.waiting)
     else Some (k, w.number, standing m w.number w.last w.waiting)
 
 -- nothing is asked of the client where its next packets are commands that came, and the connection doesn't end before they are answered
-abbrev pub served : Standing → Option (Kind × State) → Option (Kind × ℕ × Standing)
+abbrev pub served : Standing → Option (PacketKind × State) → Option (PacketKind × ℕ × Standing)
 served w None = None
 served w (Some (k, m)) = if (listens m || is_shut m) && waits w.waiting then None else Some (k, w.number, settle m w.number w.last w.waiting)
 
 -- which packet it is, the number of its exchange, and how it stands after it
-abbrev pub pipe_step : Agreed → Standing → Side → List ℕ → Option (Kind × ℕ × Standing)
+abbrev pub pipe_step : Agreed → Standing → Side → List ℕ → Option (PacketKind × ℕ × Standing)
 pipe_step a w Client p = if is_due w.state then aside w (take_step a w.state Client p) (command_of p) else in_turn w (take_step a w.state Client p)
 pipe_step a w Server p = served w (take_step a w.state Server p)
 
-abbrev pub step_of : Agreed → Standing → Numbered → Option (Kind × ℕ × Standing)
+abbrev pub step_of : Agreed → Standing → Numbered → Option (PacketKind × ℕ × Standing)
 step_of a w x = pipe_step a w x.packet.from x.packet.payload
 
 abbrev pub Steps : Agreed → Standing → Numbered → Standing → Type 0
@@ -109,5 +109,5 @@ Steps a w x m = step_of a w x ≡ Some (x.packet.kind, x.number, m)
 abbrev pub PipeRun : Agreed → Standing → List Numbered → Standing → Type 0
 PipeRun a w items t = Runs (Steps a) w items t
 
-abbrev pub start : Opening → Standing
+abbrev pub start : InitialPhase → Standing
 start o = standing (entrance o) 0 0 []

@@ -1,4 +1,4 @@
-//! What both sides agreed on.
+//! The capabilities that both sides agreed on.
 
 ghost use Rattle.std.specs.Prelude.{◌≡◌};
 ghost use Rattle.mysql_conversation.specs.Agreements as spec;
@@ -7,9 +7,13 @@ use bitflags::Flags;
 use mysql_replies::SessionCapabilities;
 use mysql_wire::{CapabilityFlags, MariadbCapabilities};
 
-/// What is agreed on where a server can do this and a client that: the flags that both have.
+/// Returns what a server and a client with these capabilities agree on: the flags that both have.
 ///
 /// A client that sets `CLIENT_LONG_PASSWORD` has none of MariaDB's own capabilities, whatever its login says.
+///
+/// ```
+/// agreed_on(server, client)
+/// ```
 pub fn agreed_on(server: SessionCapabilities, client: SessionCapabilities) -> SessionCapabilities
     ensures value { result ≡ spec.agreed_on server client }
 {
@@ -32,7 +36,7 @@ pub(crate) fn deprecates_eof(agreed: SessionCapabilities) -> bool
     agreed.mysql.contains(CapabilityFlags::CLIENT_DEPRECATE_EOF)
 }
 
-/// Whether reports of progress may come: `CLIENT_PROGRESS_OBSOLETE`, or MariaDB's own `MARIADB_CLIENT_PROGRESS`.
+/// Whether the server may send progress reports: `CLIENT_PROGRESS_OBSOLETE`, or MariaDB's `MARIADB_CLIENT_PROGRESS`.
 #[inline(always)]
 pub(crate) fn reports_progress(agreed: SessionCapabilities) -> bool
     ensures { result ≡ spec.reports_progress agreed }
@@ -55,7 +59,7 @@ pub(crate) fn asks_factors(agreed: SessionCapabilities) -> bool
         .contains(CapabilityFlags::MULTI_FACTOR_AUTHENTICATION)
 }
 
-/// Whether packets stand in compressed packets once the client is logged in.
+/// Whether packets are compressed after the login.
 #[inline(always)]
 pub(crate) fn compresses(agreed: SessionCapabilities) -> bool
     ensures { result ≡ spec.compresses agreed }

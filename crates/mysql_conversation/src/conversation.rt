@@ -3,23 +3,29 @@
 ghost use Rattle.std.specs.Prelude.{◌≡◌, ◌↔◌, IfOk, IfSome, IfNone, IsSome, OnErr, IsTrue, List, [], ◌∷◌, ◌++◌};
 
 use crate::conversation_state::{ConversationState, numbers_of, state_at};
-use crate::expected::expects;
-use crate::kind::{Kind, Opening, Side, Unexpected};
-use crate::kind_name::KindName;
+use crate::expected::may_receive;
+use crate::packet_kind::{InitialPhase, PacketKind, Side, UnexpectedPacket};
+use crate::packet_kind_tag::PacketKindTag;
 use crate::state::State;
 use crate::step::{entrance, rests, take_step};
 use mysql_replies::SessionCapabilities;
 use std::alloc::Global;
 
-/// Which packets a client and a server exchange that agreed on something: it is fed each payload, and tells which packet it is.
+/// A conversation under agreed capabilities, without pipelined commands: takes each payload and returns its kind.
 ///
-/// It takes no memory. Each command is answered before the next one comes; where commands come before the answers to earlier ones,
-/// [`Pipeline`](crate::Pipeline) tells them apart.
+/// It never allocates. If commands may precede the answers to earlier ones, use a [`Pipeline`](crate::Pipeline).
+///
+/// ```
+/// let mut conversation = Conversation::new(alloc, agreed, InitialPhase::Commands);
+/// conversation.next(Side::Client, query)?;
+/// conversation.next(Side::Server, reply)?;
+/// Ok(conversation.is_idle())
+/// ```
 #[derive(Drop)]
 pub struct Conversation {
     pub(crate) alloc: Global,
     pub(crate) agreed: SessionCapabilities,
-    pub(crate) opening: Opening,
+    pub(crate) opening: InitialPhase,
     pub(crate) state: State,
 }
 
@@ -29,10 +35,10 @@ impl Conversation {
     ghost use Rattle.mysql_conversation.specs.History as history;
     ghost use Rattle.mysql_conversation.specs.History.{Taken, GoesOn};
     ghost use Rattle.mysql_conversation.specs.Taken.{packet};
-    ghost use Rattle.mysql_conversation.specs.declared.kind.Kind as declared;
+    ghost use Rattle.mysql_conversation.specs.declared.packet_kind.PacketKind as declared;
 
-    /// One of which no packet has come. It begins after the login, or between two commands of a connection that is taken up later.
-    pub fn new(alloc: Global, agreed: SessionCapabilities, opening: Opening) -> Self
+    /// Creates a conversation before its first packet. It starts after the login, or between two commands.
+    pub fn new(alloc: Global, agreed: SessionCapabilities, opening: InitialPhase) -> Self
         ensures taken { Taken result [] }
         ensures agreed { history.agreed result ≡ agreed }
         ensures opening { history.opening result ≡ opening }
@@ -45,7 +51,7 @@ impl Conversation {
         }
     }
 
-    /// One that goes on from where another stood, under what both sides agreed on; none where the numbers are of no state.
+    /// Continues a conversation from its state, under the agreed capabilities. Returns `None` if the numbers are of no state.
     pub fn from_state(
         alloc: Global,
         agreed: SessionCapabilities,
@@ -66,7 +72,7 @@ impl Conversation {
         })
     }
 
-    /// Where it stands, in plain numbers.
+    /// Returns the state in plain numbers.
     pub fn state(&self) -> ConversationState
         ensures taken { (items : List Packet) → Taken self.now items → TakenAt (history.agreed self.now) result items }
         ensures opening { result.opening ≡ history.opening self.now }
@@ -77,27 +83,27 @@ impl Conversation {
         numbers_of(self.opening, self.state)
     }
 
-    /// Whether the last exchange is over.
-    pub fn is_at_rest(&self) -> bool
+    /// Whether the last command is answered.
+    pub fn is_idle(&self) -> bool
         ensures { (items : List Packet) → Taken self.now items → IsTrue result ↔ IsConversation (history.agreed self.now) (history.opening self.now) items }
     {
         rests(&self.state)
     }
 
     /// Whether a packet of this kind may come next from this side.
-    pub fn expects(&self, from: Side, name: KindName) -> bool
+    pub fn may_receive(&self, from: Side, name: PacketKindTag) -> bool
         ensures { (items : List Packet) → Taken self.now items → IsTrue result ↔ GoesOn self.now from name items }
     {
-        expects(self.agreed, &self.state, from, name)
+        may_receive(self.agreed, &self.state, from, name)
     }
 
-    /// Which packet it is. A refusal changes nothing.
+    /// Returns the payload's kind. An error changes nothing.
     #[inline]
-    pub fn next(&mut self, from: Side, payload: &[u8]) -> Result<Kind, Unexpected>
+    pub fn next(&mut self, from: Side, payload: &[u8]) -> Result<PacketKind, UnexpectedPacket>
         // What was taken has now this packet, of this kind, at its end.
         ensures taken { IfOk result (λ kind. (items : List Packet) → Taken self.old items → Taken self.new (items ++ packet from payload.now kind ∷ [])) }
         // Of no kind does the packet go on with what was taken.
-        ensures refused { OnErr result ((items : List Packet) (kind : declared.Kind) → Taken self.old items → IsBeginning (history.agreed self.old) (history.opening self.old) (items ++ packet from payload.now kind ∷ []) → ⊥) }
+        ensures refused { OnErr result ((items : List Packet) (kind : declared.PacketKind) → Taken self.old items → IsBeginning (history.agreed self.old) (history.opening self.old) (items ++ packet from payload.now kind ∷ []) → ⊥) }
         ensures err { OnErr result (self.new ≡ self.old) }
         ensures agreed { history.agreed self.new ≡ history.agreed self.old }
         ensures opening { history.opening self.new ≡ history.opening self.old }

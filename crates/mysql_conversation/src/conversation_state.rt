@@ -1,34 +1,62 @@
-//! Where a conversation stands, in plain numbers.
+//! The state of a conversation, in plain numbers.
 
-ghost use Rattle.std.specs.Prelude.{◌≡◌, Some};
+ghost use Rattle.std.specs.Prelude.{◌≡◌, IfSome, List, Some, [], ◌∷◌, ◌++◌};
 ghost use Rattle.mysql_conversation.specs.ConversationState as spec;
 ghost use Rattle.mysql_conversation.specs.ConversationState.{after_at, request_at, state_at};
 
-use crate::kind::Opening;
+use crate::packet_kind::{InitialPhase, PacketKind};
 use crate::state::{After, Request, State};
+use crate::step::row_at;
+use mysql_replies::SessionCapabilities;
 
-/// Where a conversation stands, for those who keep it in numbers of their own, as in a struct of C.
+/// The state of a conversation in plain numbers, to be kept in a struct of C, for example.
 ///
-/// [`Conversation::state`](crate::Conversation::state) gives it, and [`Conversation::from_state`](crate::Conversation::from_state) goes on
-/// from there. The numbers are those of this version of the library alone.
+/// [`Conversation::state`](crate::Conversation::state) returns it, and [`Conversation::from_state`](crate::Conversation::from_state)
+/// continues from it. The numbers are valid for this version of the library only.
 #[derive(Clone, Copy, Debug, PartialEq, Eq)]
 pub struct ConversationState {
-    /// Where it began.
-    pub opening: Opening,
+    /// The phase that it began in.
+    pub opening: InitialPhase,
     /// What comes next.
     pub place: u8,
-    /// What asked for it.
+    /// The request that asked for it.
     pub request: u8,
-    /// What follows definitions.
+    /// What follows the definitions.
     pub after: u8,
-    /// How many definitions come after the next one.
+    /// The number of definitions after the next one.
     pub definitions: u64,
-    /// How many definitions of columns follow those of parameters.
+    /// The number of column definitions after those of parameters.
     pub columns: u64,
 }
 
+impl ConversationState {
+    ghost use Rattle.mysql_conversation.specs.Conversation.{Packet};
+    ghost use Rattle.mysql_conversation.specs.ConversationState.{IsState, TakenAt};
+    ghost use Rattle.mysql_conversation.specs.Taken.{packet};
+    ghost use Rattle.mysql_conversation.specs.declared.packet_kind.Side.TheVariants as side;
+
+    /// Returns the kind of the server's next payload if its first byte says that it is a row. The state stays as it is. Any other payload
+    /// is for [`Conversation::next`](crate::Conversation::next).
+    ///
+    /// ```
+    /// state.row(agreed, payload)
+    /// ```
+    #[inline(always)]
+    pub fn row(&self, agreed: SessionCapabilities, payload: &[u8]) -> Option<PacketKind>
+        ensures taken { IfSome result (λ kind. (items : List Packet) → TakenAt agreed self.now items → TakenAt agreed self.now (items ++ packet side.Server payload.now kind ∷ [])) }
+        ensures state { IfSome result (λ _. IsState self.now) }
+    {
+        // (the place of rows, as `state_at` has it)
+        if self.place != 7 {
+            return None;
+        }
+        let request = request_at(self.request)?;
+        row_at(agreed, &State::Rows(request), payload)
+    }
+}
+
 /// A place at which nothing is counted.
-fn at(opening: Opening, place: u8, request: u8) -> ConversationState
+fn at(opening: InitialPhase, place: u8, request: u8) -> ConversationState
     ensures { result ≡ spec.at opening place request }
 {
     ConversationState {
@@ -52,8 +80,13 @@ fn number_of(request: Request) -> u8
     }
 }
 
-/// A place among definitions, after the next of which so many come.
-fn at_definitions(opening: Opening, place: u8, definitions: u64, after: After) -> ConversationState
+/// The state before a definition that is followed by `definitions` others.
+fn at_definitions(
+    opening: InitialPhase,
+    place: u8,
+    definitions: u64,
+    after: After,
+) -> ConversationState
     ensures opening { result.opening ≡ opening }
     ensures place { result.place ≡ place }
     ensures definitions { result.definitions ≡ definitions }
@@ -90,7 +123,7 @@ fn asked_number(is_login: bool, is_asked: bool) -> u8
 }
 
 /// The numbers of a state.
-pub(crate) fn numbers_of(opening: Opening, state: State) -> ConversationState
+pub(crate) fn numbers_of(opening: InitialPhase, state: State) -> ConversationState
     ensures opening { result.opening ≡ opening }
     ensures state { state_at result ≡ Some state }
     ensures value { result ≡ spec.numbers_of opening state }
@@ -112,7 +145,7 @@ pub(crate) fn numbers_of(opening: Opening, state: State) -> ConversationState
         State::Text => at(opening, 11, 0),
         State::Fields => at(opening, 12, 0),
         State::Events => at(opening, 13, 0),
-        State::Refusal => at(opening, 14, 0),
+        State::SessionError => at(opening, 14, 0),
         State::CloneReply => at(opening, 15, 0),
         State::Clone => at(opening, 16, 0),
         State::Over => at(opening, 17, 0),
@@ -187,7 +220,7 @@ pub(crate) fn state_at(numbers: &ConversationState) -> Option<State>
         11 => Some(State::Text),
         12 => Some(State::Fields),
         13 => Some(State::Events),
-        14 => Some(State::Refusal),
+        14 => Some(State::SessionError),
         15 => Some(State::CloneReply),
         16 => Some(State::Clone),
         17 => Some(State::Over),

@@ -15,11 +15,11 @@ ghost use Rattle.mysql_conversation.specs.Session.{SessionTaken, IsSessionBeginn
 ghost use Rattle.mysql_conversation.specs.declared.pipeline.Pipeline as pipeline;
 ghost use Rattle.mysql_conversation.specs.declared.session.Session as session;
 ghost use Rattle.mysql_conversation.specs.declared.conversation.Conversation as conversation;
-ghost use Rattle.mysql_conversation.specs.declared.kind.Kind as kind;
-ghost use Rattle.mysql_conversation.specs.declared.kind.Opening as start;
-ghost use Rattle.mysql_conversation.specs.declared.kind.Side as side;
+ghost use Rattle.mysql_conversation.specs.declared.packet_kind.PacketKind as kind;
+ghost use Rattle.mysql_conversation.specs.declared.packet_kind.InitialPhase as start;
+ghost use Rattle.mysql_conversation.specs.declared.packet_kind.Side as side;
 
-/// What a conversation has taken is the beginning of one by the grammar.
+/// The packets that a conversation has taken are the beginning of one by the grammar.
 #[tactic(auto, using(crate::proofs::Begun::takes_is_beginning))]
 pub fn what_is_taken_is_a_beginning()
     ensures { (c : conversation.Conversation) (items : List Packet) → Taken c items → IsBeginning (history.agreed c) (history.opening c) items }
@@ -28,34 +28,34 @@ pub fn what_is_taken_is_a_beginning()
 /// After what came before it, a packet is of one kind by the grammar.
 #[tactic(auto, using(crate::proofs::Begun::one_kind))]
 pub fn a_packet_is_of_one_kind()
-    ensures { (a : agreement.Agreed) (o : start.Opening) (items : List Packet) (from : side.Side) (payload : List ℕ) (j k : kind.Kind)
+    ensures { (a : agreement.Agreed) (o : start.InitialPhase) (items : List Packet) (from : side.Side) (payload : List ℕ) (j k : kind.PacketKind)
         → IsBeginning a o (items ++ packet from payload j ∷ []) → IsBeginning a o (items ++ packet from payload k ∷ []) → j ≡ k }
 {}
 
-/// What a pipeline has taken is the beginning of a pipelined conversation.
+/// The packets that a pipeline has taken are the beginning of a pipelined conversation.
 #[tactic(auto, using(crate::proofs::Stood::run_is_beginning))]
 pub fn what_a_pipeline_took_is_a_beginning()
     ensures { (c : pipeline.Pipeline) (items : List Numbered) → PipeTaken c items → IsPipelinedBeginning (piped.agreed c) (piped.opening c) items }
 {}
 
-/// A conversation in which no command comes early is a pipelined one, with the same kinds.
+/// A conversation without pipelined commands is a pipelined one, with the same kinds.
 pub fn a_conversation_is_pipelined()
-    ensures { (a : agreement.Agreed) (o : start.Opening) (items : List Packet) → IsConversation a o items → IsPipelined a o (numbered 0 items) }
+    ensures { (a : agreement.Agreed) (o : start.InitialPhase) (items : List Packet) → IsConversation a o items → IsPipelined a o (numbered 0 items) }
 {}
 
 /// In a pipelined conversation too a packet is of one kind, and of one exchange, after what came before it.
 pub fn a_pipelined_packet_is_of_one_kind()
-    ensures { (a : agreement.Agreed) (o : start.Opening) (items : List Numbered) (from : side.Side) (payload : List ℕ) (j k : kind.Kind) (m n : ℕ)
+    ensures { (a : agreement.Agreed) (o : start.InitialPhase) (items : List Numbered) (from : side.Side) (payload : List ℕ) (j k : kind.PacketKind) (m n : ℕ)
         → IsPipelinedBeginning a o (items ++ place from payload j m ∷ []) → IsPipelinedBeginning a o (items ++ place from payload k n ∷ []) → (j ≡ k) × (m ≡ n) }
 {}
 
-/// In a pipelined conversation the packets of each side are those of a conversation, in their order, and none stands
-/// before the command whose exchange it belongs to.
+/// In a pipelined conversation the packets of each side are those of a conversation, in their order, and none precedes the
+/// command whose exchange it belongs to.
 pub fn a_pipelined_conversation_is_interleaved()
-    ensures { (a : agreement.Agreed) (o : start.Opening) (items : List Numbered) → IsPipelined a o items → IsInterleaved a o items }
+    ensures { (a : agreement.Agreed) (o : start.InitialPhase) (items : List Numbered) → IsPipelined a o items → IsInterleaved a o items }
 {}
 
-/// What a session has taken is the beginning of one.
+/// The packets that a session has taken are the beginning of one.
 #[tactic(auto, using(crate::proofs::SessionEnds::taken_is_beginning))]
 pub fn what_a_session_took_is_a_beginning()
     ensures { (c : session.Session) (items : List Numbered) → SessionTaken c items → IsSessionBeginning items }
@@ -64,6 +64,6 @@ pub fn what_a_session_took_is_a_beginning()
 /// In a session too a packet is of one kind, and of one exchange, after what came before it.
 #[tactic(auto, using(crate::proofs::SessionKinds::session_one_kind))]
 pub fn a_session_packet_is_of_one_kind()
-    ensures { (items : List Numbered) (from : side.Side) (payload : List ℕ) (j k : kind.Kind) (m n : ℕ)
+    ensures { (items : List Numbered) (from : side.Side) (payload : List ℕ) (j k : kind.PacketKind) (m n : ℕ)
         → IsSessionBeginning (items ++ place from payload j m ∷ []) → IsSessionBeginning (items ++ place from payload k n ∷ []) → (j ≡ k) × (m ≡ n) }
 {}

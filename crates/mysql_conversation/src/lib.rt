@@ -1,17 +1,19 @@
 //! Conversations: which packet comes next.
 //!
-//! Which packet a payload is hangs on who sends it, on what both sides agreed on, and on all that came before. [`Conversation`] is fed
-//! each payload of both sides, and tells of which kind it is, exactly where the grammar of the protocol goes on with it. [`Pipeline`]
-//! does the same where a client sends commands before the answers to earlier ones.
+//! A payload's packet type depends on who sends it, on the agreed capabilities, and on everything before it. [`Conversation`] takes each
+//! payload of both sides and returns its kind, exactly if the protocol's grammar allows it next. [`Pipeline`] also allows commands before
+//! the answers to earlier ones, and [`Session`] follows a connection from the server's greeting on.
 #![tactic(auto)]
 
 mod agreed;
+mod command_code;
 mod conversation;
 mod conversation_state;
 mod expected;
-mod kind;
-mod kind_name;
 pub mod laws;
+mod login_state;
+mod packet_kind;
+mod packet_kind_tag;
 mod payload;
 mod pipeline;
 mod results;
@@ -22,7 +24,8 @@ mod step;
 pub use agreed::agreed_on;
 pub use conversation::Conversation;
 pub use conversation_state::ConversationState;
-pub use kind::{Format, Kind, Opening, Side, Unexpected};
-pub use kind_name::KindName;
-pub use pipeline::{Pipeline, Refusal};
+pub use login_state::LoginState;
+pub use packet_kind::{InitialPhase, PacketKind, RowFormat, Side, UnexpectedPacket};
+pub use packet_kind_tag::PacketKindTag;
+pub use pipeline::{Pipeline, SessionError};
 pub use session::Session;

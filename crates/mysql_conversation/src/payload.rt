@@ -1,4 +1,4 @@
-//! What a payload is.
+//! Classifies payloads by their first bytes.
 
 ghost use Rattle.std.specs.Prelude.{◌≡◌, true, false, Some, None, IsTrue};
 ghost use Rattle.mysql_conversation.specs.declared.state.Line.TheVariants.{Row};
@@ -8,7 +8,8 @@ ghost use Rattle.mysql_conversation.specs.Payloads as payloads;
 ghost use Rattle.mysql_conversation.specs.Standing as standing;
 
 use crate::agreed::{asks_factors, deprecates_eof, reports_progress};
-use crate::kind::{Format, Kind};
+use crate::command_code as com;
+use crate::packet_kind::{PacketKind, RowFormat};
 use crate::state::{Answer, Command, Line, Reply, Request};
 use bitflags::Flags;
 use mysql_prepared::StmtPacketWithMetadata;
@@ -45,13 +46,13 @@ pub(crate) fn first_is(byte: u8, payload: &[u8]) -> bool
 
 /// Whether the first byte says that it is a row, among rows.
 #[inline(always)]
-pub(crate) fn is_row_by_first(format: Format, payload: &[u8]) -> bool
+pub(crate) fn is_row_by_first(format: RowFormat, payload: &[u8]) -> bool
     ensures { IsTrue result → (payloads.first_is 0xff payload.now ≡ false) × (payloads.first_is 0xfe payload.now ≡ false) × (spec.row_of format payload.now ≡ Some Row) }
 {
     match payload.first() {
         Some(first) => match format {
-            Format::Text => *first < 0xfe,
-            Format::Binary => *first == 0,
+            RowFormat::Text => *first < 0xfe,
+            RowFormat::Binary => *first == 0,
         },
         None => false,
     }
@@ -223,7 +224,7 @@ fn end_status(
 pub(crate) fn line_of(
     alloc: Global,
     agreed: SessionCapabilities,
-    format: Format,
+    format: RowFormat,
     payload: &[u8],
 ) -> Option<Line>
     ensures { result ≡ spec.line_of agreed format payload.now }
@@ -234,8 +235,8 @@ pub(crate) fn line_of(
         return Some(Line::End(has_more(status)));
     }
     match format {
-        Format::Text => Some(Line::Row),
-        Format::Binary => {
+        RowFormat::Text => Some(Line::Row),
+        RowFormat::Binary => {
             if first_is(0, payload) {
                 Some(Line::Row)
             } else {
@@ -245,56 +246,64 @@ pub(crate) fn line_of(
     }
 }
 
-/// What the server says before a client is logged in, by the first byte.
+/// Classifies a server's packet before the login is done, by the first byte.
 #[inline(always)]
-pub(crate) fn authentication_kind(agreed: SessionCapabilities, payload: &[u8]) -> Kind
+pub(crate) fn authentication_kind(agreed: SessionCapabilities, payload: &[u8]) -> PacketKind
     ensures { result ≡ grammar.authentication_kind agreed payload.now }
 {
     if first_is(0xfe, payload) {
         return if is_one_byte(payload) {
-            Kind::OldAuthSwitch
+            PacketKind::OldAuthSwitch
         } else {
-            Kind::AuthSwitch
+            PacketKind::AuthSwitch
         };
     }
     if first_is(1, payload) {
-        return Kind::AuthMoreData;
+        return PacketKind::AuthMoreData;
     }
     if first_is(2, payload) && asks_factors(agreed) {
-        return Kind::AuthNextFactor;
+        return PacketKind::AuthNextFactor;
     }
-    Kind::AuthPluginData
+    PacketKind::AuthPluginData
 }
 
-/// What answers a command with this first byte, if it is one.
+/// The answer to a command with this first byte, if it is one.
 #[inline(always)]
 fn answering(code: u8, cursor: bool) -> Option<Answer>
     ensures { result ≡ grammar.answering code cursor }
 {
     match code {
-        0x03 | 0x0a => Some(Answer::Results(Request::Query)),
-        0x17 => Some(Answer::Results(if cursor {
+        com::COM_QUERY | com::COM_PROCESS_INFO => Some(Answer::Results(Request::Query)),
+        com::COM_STMT_EXECUTE => Some(Answer::Results(if cursor {
             Request::Cursor
         } else {
             Request::Execution
         })),
-        0xfa => Some(Answer::Results(Request::Execution)),
-        0x16 => Some(Answer::Prepared),
-        0x1c => Some(Answer::Rows),
-        0x19 | 0x18 => Some(Answer::Nothing),
-        0x01 => Some(Answer::Quit),
-        0x0e | 0x02 | 0x1a | 0x1f | 0x05 | 0x06 | 0x07 | 0x0c | 0x15 => {
-            Some(Answer::Acknowledgement(false))
-        }
+        com::COM_STMT_BULK_EXECUTE => Some(Answer::Results(Request::Execution)),
+        com::COM_STMT_PREPARE => Some(Answer::Prepared),
+        com::COM_STMT_FETCH => Some(Answer::Rows),
+        com::COM_STMT_CLOSE | com::COM_STMT_SEND_LONG_DATA => Some(Answer::Nothing),
+        com::COM_QUIT => Some(Answer::Quit),
+        com::COM_PING
+        | com::COM_INIT_DB
+        | com::COM_STMT_RESET
+        | com::COM_RESET_CONNECTION
+        | com::COM_CREATE_DB
+        | com::COM_DROP_DB
+        | com::COM_REFRESH
+        | com::COM_PROCESS_KILL
+        | com::COM_REGISTER_SLAVE => Some(Answer::Acknowledgement(false)),
         // (`my_eof` in MySQL's `dispatch_command`)
-        0x1b | 0x08 | 0x0d => Some(Answer::Acknowledgement(true)),
-        0x09 => Some(Answer::Text),
-        0x04 => Some(Answer::Fields),
-        0x11 => Some(Answer::Authentication),
-        0x12 | 0x1e => Some(Answer::Events),
-        0x20 => Some(Answer::Clone),
-        0xef => None,
-        _ => Some(Answer::Refusal),
+        com::COM_SET_OPTION | com::COM_SHUTDOWN | com::COM_DEBUG => {
+            Some(Answer::Acknowledgement(true))
+        }
+        com::COM_STATISTICS => Some(Answer::Text),
+        com::COM_FIELD_LIST => Some(Answer::Fields),
+        com::COM_CHANGE_USER => Some(Answer::Authentication),
+        com::COM_BINLOG_DUMP | com::COM_BINLOG_DUMP_GTID => Some(Answer::Events),
+        com::COM_CLONE => Some(Answer::Clone),
+        com::SEMI_SYNC_MARK => None,
+        _ => Some(Answer::SessionError),
     }
 }
 

@@ -1,4 +1,4 @@
-//! Commands that come before the answers to earlier ones.
+//! Conversations with pipelined commands.
 
 ghost use Rattle.std.specs.VecDeque.{deque_capacity, deque_len};
 ghost use Rattle.std.specs.Prelude.{true, ◌≡◌, ◌≢◌, ◌↔◌, ◌≤◌, ◌<◌, false, IfOk, IfErr, OnErr, IsTrue, List, [], ◌∷◌, ◌++◌, ℕ, ◌-◌, ◌^◌, ◌⊎◌, length, Some, None, Err};
@@ -7,13 +7,13 @@ ghost use Rattle.mysql_conversation.specs.Standing as spec;
 ghost use Rattle.mysql_conversation.specs.Expected.{pipe_expects};
 ghost use Rattle.mysql_conversation.specs.Piped.{stands};
 
-use crate::expected::{asks, expects, shuts};
-use crate::kind::{Kind, Opening, Side};
-use crate::kind_name::KindName;
+use crate::expected::{asks, may_receive, shuts};
+use crate::packet_kind::{InitialPhase, PacketKind, Side};
+use crate::packet_kind_tag::PacketKindTag;
 use crate::payload::command_of;
 use crate::state::{Answer, Command, State};
 use crate::step::{
-    answers, entrance, is_due, is_idle, is_shut, listens, rests, take_sent, take_step,
+    answers, entrance, is_due, is_rest, is_shut, listens, rests, row_at, take_sent, take_served,
 };
 use mysql_replies::SessionCapabilities;
 use std::alloc::Global;
@@ -26,18 +26,18 @@ pub(crate) struct Waiting {
     pub(crate) number: u64,
 }
 
-/// Why a packet is not taken.
+/// The error of a session or a pipeline: the packet is not taken, and the state is unchanged.
 #[derive(Clone, Copy, Debug, PartialEq, Eq)]
-pub enum Refusal {
-    /// It doesn't come here.
-    Unexpected,
-    /// As many commands wait as may.
+pub enum SessionError {
+    /// The packet may not come next.
+    UnexpectedPacket,
+    /// The command would have to wait, and the limit of waiting commands is reached.
     Full,
-    /// There is no memory for a command that waits.
+    /// An allocation for a command that has to wait failed.
     Memory,
-    /// It goes on in TLS, so that the bytes are not ours: of a session alone.
+    /// The connection continues in TLS, and the payload is not decrypted. Only a session returns it.
     Encrypted,
-    /// Both sides agreed on compression, so that the bytes after the login are not ours: of a session alone.
+    /// Both sides agreed on compression, so the bytes after the login are compressed packets. Only a session returns it.
     Compressed,
 }
 
@@ -63,15 +63,25 @@ fn quits(waiting: &VecDeque<Waiting>) -> bool
     }
 }
 
-/// A conversation in which commands may come before the answers to earlier ones.
+/// A conversation in which commands may precede the answers to earlier ones.
 ///
-/// As many commands wait as its limit, and no more memory is taken than they need: 24 bytes for each. With a limit of 0 it takes none,
-/// and answers early commands by [`Refusal::Full`].
+/// At most `limit` commands wait, each in 24 bytes. With a limit of 0 it does not allocate, and returns [`SessionError::Full`] for a
+/// command that would have to wait.
+///
+/// ```
+/// for reply in replies {
+///     let (kind, command) = pipeline.next(Side::Server, reply)?;
+///     if let PacketKind::Error = kind {
+///         return Ok(command == 2);
+///     }
+/// }
+/// Ok(false)
+/// ```
 #[derive(Drop)]
 pub struct Pipeline {
     pub(crate) alloc: Global,
     pub(crate) agreed: SessionCapabilities,
-    pub(crate) opening: Opening,
+    pub(crate) opening: InitialPhase,
     pub(crate) limit: usize,
     pub(crate) state: State,
     pub(crate) number: u64,
@@ -83,12 +93,17 @@ impl Pipeline {
     ghost use Rattle.mysql_conversation.specs.Pipelined.{Numbered, IsPipelined, IsPipelinedBeginning};
     ghost use Rattle.mysql_conversation.specs.Piped as piped;
     ghost use Rattle.mysql_conversation.specs.Piped.{PipeTaken, place, GoesOn};
-    ghost use Rattle.mysql_conversation.specs.declared.kind.Kind as declared;
-    ghost use Rattle.mysql_conversation.specs.declared.kind.Side.TheVariants as side;
-    ghost use Rattle.mysql_conversation.specs.declared.pipeline.Refusal.TheVariants as refusal;
+    ghost use Rattle.mysql_conversation.specs.declared.packet_kind.PacketKind as declared;
+    ghost use Rattle.mysql_conversation.specs.declared.packet_kind.Side.TheVariants as side;
+    ghost use Rattle.mysql_conversation.specs.declared.pipeline.SessionError.TheVariants as refusal;
 
-    /// One of which no packet has come, where as many commands may wait as the limit.
-    pub fn new(alloc: Global, agreed: SessionCapabilities, opening: Opening, limit: usize) -> Self
+    /// Creates a pipeline before its first packet, in which at most `limit` commands may wait.
+    pub fn new(
+        alloc: Global,
+        agreed: SessionCapabilities,
+        opening: InitialPhase,
+        limit: usize,
+    ) -> Self
         ensures taken { PipeTaken result [] }
         ensures agreed { piped.agreed result ≡ agreed }
         ensures opening { piped.opening result ≡ opening }
@@ -106,39 +121,40 @@ impl Pipeline {
         }
     }
 
-    /// How many commands may wait.
+    /// Returns the number of commands that may wait.
     pub fn limit(&self) -> usize
         ensures { result ≡ piped.limit self.now }
     {
         self.limit
     }
 
-    /// Whether the last exchange is over.
-    pub fn is_at_rest(&self) -> bool
+    /// Whether every command is answered.
+    #[inline]
+    pub fn is_idle(&self) -> bool
         ensures { (items : List Numbered) → PipeTaken self.now items → IsTrue result ↔ IsPipelined (piped.agreed self.now) (piped.opening self.now) items }
     {
         rests(&self.state) && !waits(&self.waiting)
     }
 
-    /// How many commands wait for the server to come to them.
+    /// Returns the number of commands that wait for the server.
     pub fn waiting(&self) -> usize
         ensures { result ≡ piped.waiting self.now }
     {
         self.waiting.len()
     }
 
-    /// Whether a packet of this kind may come next from this side. Of a command it says nothing of the limit.
-    pub fn expects(&self, from: Side, name: KindName) -> bool
+    /// Whether a packet of this kind may come next from this side. For a command the limit is not considered.
+    pub fn may_receive(&self, from: Side, name: PacketKindTag) -> bool
         ensures { (items : List Numbered) → PipeTaken self.now items → IsTrue result ↔ GoesOn self.now from name items }
     {
         self.is_expected(from, name)
     }
 
-    /// The same, by the machine.
-    fn is_expected(&self, from: Side, name: KindName) -> bool
+    /// Whether a packet of this kind may come next, by the state machine.
+    fn is_expected(&self, from: Side, name: PacketKindTag) -> bool
         ensures { result ≡ pipe_expects self.now.agreed (stands self.now) from name }
     {
-        let comes = expects(self.agreed, &self.state, from, name);
+        let comes = may_receive(self.agreed, &self.state, from, name);
         match from {
             Side::Server => {
                 comes && !(waits(&self.waiting) && (asks(name) || shuts(&self.state, name)))
@@ -146,7 +162,7 @@ impl Pipeline {
             Side::Client => {
                 if is_due(&self.state) {
                     (comes && !waits(&self.waiting))
-                        || (matches!(name, KindName::Command) && !quits(&self.waiting))
+                        || (matches!(name, PacketKindTag::Command) && !quits(&self.waiting))
                 } else {
                     comes
                 }
@@ -154,7 +170,7 @@ impl Pipeline {
         }
     }
 
-    /// Where an exchange is over, the next begins that waits.
+    /// Begins the next exchange that waits, if the current one is over.
     fn settle(&mut self)
         ensures settled { stands self.new ≡ spec.settle self.old.state self.old.number self.old.last self.old.waiting.items }
         ensures capacity { piped.capacity self.new ≡ piped.capacity self.old }
@@ -162,7 +178,7 @@ impl Pipeline {
         ensures opening { self.new.opening ≡ self.old.opening }
         ensures limit { self.new.limit ≡ self.old.limit }
     {
-        while is_idle(&self.state) {
+        while is_rest(&self.state) {
             match self.waiting.pop_front() {
                 Some(next) => {
                     self.state = answers(next.command.answer);
@@ -173,12 +189,13 @@ impl Pipeline {
         }
     }
 
-    /// Which packet it is, and the number of the command whose exchange it belongs to: the first is 1.
-    pub fn next(&mut self, from: Side, payload: &[u8]) -> Result<(Kind, u64), Refusal>
+    /// Returns the payload's kind and the number of the command whose exchange it belongs to: the first is 1.
+    #[inline]
+    pub fn next(&mut self, from: Side, payload: &[u8]) -> Result<(PacketKind, u64), SessionError>
         // What was taken has now this packet, of this kind and number, at its end.
         ensures taken { IfOk result (λ x. (items : List Numbered) → PipeTaken self.old items → PipeTaken self.new (items ++ place from payload.now x.0 x.1 ∷ [])) }
         // Of no kind and number does the packet go on with what was taken.
-        ensures refused { IfErr result (λ why. (items : List Numbered) (kind : declared.Kind) (number : ℕ) → why ≡ refusal.Unexpected → PipeTaken self.old items
+        ensures refused { IfErr result (λ why. (items : List Numbered) (kind : declared.PacketKind) (number : ℕ) → why ≡ refusal.UnexpectedPacket → PipeTaken self.old items
             → IsPipelinedBeginning (piped.agreed self.old) (piped.opening self.old) (items ++ place from payload.now kind number ∷ []) → ⊥) }
         // Exactly where a command comes that would have to wait, and as many wait as may; or where 2^64 - 1 commands came.
         ensures full { (result ≡ Err refusal.Full) ↔ piped.IsFull self.old from payload.now }
@@ -189,7 +206,7 @@ impl Pipeline {
         // Where as many commands wait as may, no memory is taken.
         ensures capacity { piped.limit self.old ≤ piped.waiting self.old → piped.capacity self.new ≡ piped.capacity self.old }
         // What is refused as full, or for memory, comes here.
-        ensures comes { IfErr result (λ why. why ≢ refusal.Unexpected → piped.Comes self.old from payload.now) }
+        ensures comes { IfErr result (λ why. why ≢ refusal.UnexpectedPacket → piped.Comes self.old from payload.now) }
         // (the others are of a session alone)
         ensures ours { IfErr result (λ why. (why ≢ refusal.Encrypted) × (why ≢ refusal.Compressed)) }
         ensures err { OnErr result (stands self.new ≡ stands self.old) }
@@ -204,14 +221,15 @@ impl Pipeline {
     }
 
     /// A packet of the client.
-    fn take_client(&mut self, payload: &[u8]) -> Result<(Kind, u64), Refusal>
+    #[inline(never)]
+    fn take_client(&mut self, payload: &[u8]) -> Result<(PacketKind, u64), SessionError>
         ensures taken { IfOk result (λ x. spec.pipe_step self.old.agreed (stands self.old) side.Client payload.now ≡ Some (x.0, x.1, stands self.new)) }
-        ensures refused { IfErr result (λ why. why ≡ refusal.Unexpected → spec.pipe_step self.old.agreed (stands self.old) side.Client payload.now ≡ None) }
+        ensures refused { IfErr result (λ why. why ≡ refusal.UnexpectedPacket → spec.pipe_step self.old.agreed (stands self.old) side.Client payload.now ≡ None) }
         ensures full { (result ≡ Err refusal.Full) ↔ piped.IsFull self.old side.Client payload.now }
         ensures asked { IfErr result (λ why. why ≡ refusal.Memory → piped.IsCommand side.Client payload.now) }
         ensures capacity { self.old.limit ≤ length self.old.waiting.items → piped.capacity self.new ≡ piped.capacity self.old }
         ensures memory { IfErr result (λ why. why ≡ refusal.Memory → piped.MustWait self.old × (length self.old.waiting.items < self.old.limit) × (deque_capacity self.old.waiting ≤ deque_len self.old.waiting)) }
-        ensures comes { IfErr result (λ why. why ≢ refusal.Unexpected → spec.pipe_step self.old.agreed (stands self.old) side.Client payload.now ≢ None) }
+        ensures comes { IfErr result (λ why. why ≢ refusal.UnexpectedPacket → spec.pipe_step self.old.agreed (stands self.old) side.Client payload.now ≢ None) }
         ensures ours { IfErr result (λ why. (why ≢ refusal.Encrypted) × (why ≢ refusal.Compressed)) }
         ensures err { OnErr result (stands self.new ≡ stands self.old) }
         ensures agreed { self.new.agreed ≡ self.old.agreed }
@@ -227,11 +245,11 @@ impl Pipeline {
             };
         }
         let Ok(kind) = taken else {
-            return Err(Refusal::Unexpected);
+            return Err(SessionError::UnexpectedPacket);
         };
-        if is_idle(&self.state) {
+        if is_rest(&self.state) {
             let Some(number) = self.last.checked_add(1) else {
-                return Err(Refusal::Full);
+                return Err(SessionError::Full);
             };
             self.last = number;
             self.number = number;
@@ -240,10 +258,14 @@ impl Pipeline {
         Ok((kind, self.number))
     }
 
-    /// A packet of the client that is no command, while the server is to speak. It stands after all commands that came.
-    fn set_aside(&mut self, kind: Kind, state: State) -> Result<(Kind, u64), Refusal>
+    /// Takes a client's packet that is no command, while the server is to send: it follows all commands so far.
+    fn set_aside(
+        &mut self,
+        kind: PacketKind,
+        state: State,
+    ) -> Result<(PacketKind, u64), SessionError>
         ensures taken { IfOk result (λ x. spec.waits self.old.waiting.items ≡ false × (x.0 ≡ kind) × (x.1 ≡ self.old.number) × (stands self.new ≡ spec.standing state self.old.number self.old.last self.old.waiting.items)) }
-        ensures refused { IfErr result (λ why. (why ≡ refusal.Unexpected) × (spec.waits self.old.waiting.items ≡ true)) }
+        ensures refused { IfErr result (λ why. (why ≡ refusal.UnexpectedPacket) × (spec.waits self.old.waiting.items ≡ true)) }
         ensures capacity { piped.capacity self.new ≡ piped.capacity self.old }
         ensures err { OnErr result (stands self.new ≡ stands self.old) }
         ensures agreed { self.new.agreed ≡ self.old.agreed }
@@ -251,21 +273,21 @@ impl Pipeline {
         ensures limit { self.new.limit ≡ self.old.limit }
     {
         if waits(&self.waiting) {
-            return Err(Refusal::Unexpected);
+            return Err(SessionError::UnexpectedPacket);
         }
         self.state = state;
         Ok((kind, self.number))
     }
 
-    /// A command that comes before the answers to earlier ones.
-    fn push(&mut self, payload: &[u8]) -> Result<(Kind, u64), Refusal>
+    /// Takes a command before the answers to earlier ones.
+    fn push(&mut self, payload: &[u8]) -> Result<(PacketKind, u64), SessionError>
         ensures taken { IfOk result (λ x. spec.early (stands self.old) (spec.command_of payload.now) ≡ Some (x.0, x.1, stands self.new)) }
-        ensures refused { IfErr result (λ why. why ≡ refusal.Unexpected → spec.early (stands self.old) (spec.command_of payload.now) ≡ None) }
+        ensures refused { IfErr result (λ why. why ≡ refusal.UnexpectedPacket → spec.early (stands self.old) (spec.command_of payload.now) ≡ None) }
         ensures full { (result ≡ Err refusal.Full) ↔ spec.IsFullOf self.old.limit self.old.last self.old.waiting.items (spec.command_of payload.now) }
         ensures asked { IfErr result (λ why. why ≡ refusal.Memory → piped.IsCommand side.Client payload.now) }
         ensures capacity { self.old.limit ≤ length self.old.waiting.items → piped.capacity self.new ≡ piped.capacity self.old }
         ensures memory { IfErr result (λ why. why ≡ refusal.Memory → (spec.quits self.old.waiting.items ≡ false) × (length self.old.waiting.items < self.old.limit) × (deque_capacity self.old.waiting ≤ deque_len self.old.waiting)) }
-        ensures comes { IfErr result (λ why. why ≢ refusal.Unexpected → spec.early (stands self.old) (spec.command_of payload.now) ≢ None) }
+        ensures comes { IfErr result (λ why. why ≢ refusal.UnexpectedPacket → spec.early (stands self.old) (spec.command_of payload.now) ≢ None) }
         ensures ours { IfErr result (λ why. (why ≢ refusal.Encrypted) × (why ≢ refusal.Compressed)) }
         ensures err { OnErr result (stands self.new ≡ stands self.old) }
         ensures agreed { self.new.agreed ≡ self.old.agreed }
@@ -273,28 +295,48 @@ impl Pipeline {
         ensures limit { self.new.limit ≡ self.old.limit }
     {
         let Some(command) = command_of(payload) else {
-            return Err(Refusal::Unexpected);
+            return Err(SessionError::UnexpectedPacket);
         };
         if quits(&self.waiting) {
-            return Err(Refusal::Unexpected);
+            return Err(SessionError::UnexpectedPacket);
         }
         if self.waiting.len() >= self.limit {
-            return Err(Refusal::Full);
+            return Err(SessionError::Full);
         }
         let Some(number) = self.last.checked_add(1) else {
-            return Err(Refusal::Full);
+            return Err(SessionError::Full);
         };
         if self.waiting.push_back(Waiting { command, number }).is_err() {
-            return Err(Refusal::Memory);
+            return Err(SessionError::Memory);
         }
         self.last = number;
-        Ok((Kind::Command(command.code), number))
+        Ok((PacketKind::Command(command.code), number))
     }
 
-    /// A packet of the server.
-    fn take_server(&mut self, payload: &[u8]) -> Result<(Kind, u64), Refusal>
+    /// A packet of the server. A row changes nothing.
+    #[inline(always)]
+    #[tactic(auto, using(crate::proofs::PipeSteps::served_stays))]
+    fn take_server(&mut self, payload: &[u8]) -> Result<(PacketKind, u64), SessionError>
         ensures taken { IfOk result (λ x. spec.pipe_step self.old.agreed (stands self.old) side.Server payload.now ≡ Some (x.0, x.1, stands self.new)) }
-        ensures refused { IfErr result (λ why. (why ≡ refusal.Unexpected) × (spec.pipe_step self.old.agreed (stands self.old) side.Server payload.now ≡ None)) }
+        ensures refused { IfErr result (λ why. (why ≡ refusal.UnexpectedPacket) × (spec.pipe_step self.old.agreed (stands self.old) side.Server payload.now ≡ None)) }
+        ensures capacity { piped.capacity self.new ≡ piped.capacity self.old }
+        ensures err { OnErr result (stands self.new ≡ stands self.old) }
+        ensures agreed { self.new.agreed ≡ self.old.agreed }
+        ensures opening { self.new.opening ≡ self.old.opening }
+        ensures limit { self.new.limit ≡ self.old.limit }
+    {
+        match row_at(self.agreed, &self.state, payload) {
+            Some(row) => Ok((row, self.number)),
+            None => self.take_any_served(payload),
+        }
+    }
+
+    /// A packet of the server, whichever it is.
+    // (a call, which a row doesn't pay for)
+    #[inline(never)]
+    fn take_any_served(&mut self, payload: &[u8]) -> Result<(PacketKind, u64), SessionError>
+        ensures taken { IfOk result (λ x. spec.pipe_step self.old.agreed (stands self.old) side.Server payload.now ≡ Some (x.0, x.1, stands self.new)) }
+        ensures refused { IfErr result (λ why. (why ≡ refusal.UnexpectedPacket) × (spec.pipe_step self.old.agreed (stands self.old) side.Server payload.now ≡ None)) }
         ensures capacity { piped.capacity self.new ≡ piped.capacity self.old }
         ensures err { OnErr result (stands self.new ≡ stands self.old) }
         ensures agreed { self.new.agreed ≡ self.old.agreed }
@@ -302,12 +344,12 @@ impl Pipeline {
         ensures limit { self.new.limit ≡ self.old.limit }
     {
         let mut state = self.state;
-        let taken = take_step(self.alloc, self.agreed, &mut state, Side::Server, payload);
+        let taken = take_served(self.alloc, self.agreed, &mut state, payload);
         let Ok(kind) = taken else {
-            return Err(Refusal::Unexpected);
+            return Err(SessionError::UnexpectedPacket);
         };
         if (listens(&state) || is_shut(&state)) && waits(&self.waiting) {
-            return Err(Refusal::Unexpected);
+            return Err(SessionError::UnexpectedPacket);
         }
         let number = self.number;
         self.state = state;

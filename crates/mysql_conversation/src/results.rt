@@ -8,7 +8,7 @@ ghost use Rattle.mysql_conversation.specs.Payloads as payloads;
 ghost use Rattle.mysql_conversation.specs.declared.state.State.TheVariants as spec_state;
 
 use crate::agreed::deprecates_eof;
-use crate::kind::Kind;
+use crate::packet_kind::PacketKind;
 use crate::payload::{first_is, has_more, old_end_of, opens_cursor, statement_at};
 use crate::state::{After, Line, Reply, Request, State, format_of};
 use mysql_prepared::StmtPacketWithMetadata;
@@ -32,7 +32,7 @@ fn enter(after: After) -> State
     }
 }
 
-/// Where so many definitions come.
+/// The state before `count` definitions.
 #[inline(always)]
 fn define(count: u64, after: After) -> State
     ensures { result ≡ spec.define count after }
@@ -43,7 +43,7 @@ fn define(count: u64, after: After) -> State
     }
 }
 
-/// After a definition after which so many come.
+/// The state after a definition that is followed by `left` others.
 #[inline(always)]
 pub(crate) fn less(deprecates: bool, left: u64, after: After) -> State
     ensures { result ≡ spec.less deprecates left after }
@@ -55,7 +55,7 @@ pub(crate) fn less(deprecates: bool, left: u64, after: After) -> State
     }
 }
 
-/// Where a result ends.
+/// The state at the end of a result.
 #[inline(always)]
 fn ended(request: Request, more: bool) -> State
     ensures { result ≡ spec.ended request more }
@@ -81,15 +81,15 @@ fn counted(deprecates: bool, count: u64, follow: bool, after: After) -> State
     }
 }
 
-/// How an end is spelled.
+/// The form of an end.
 #[inline(always)]
-fn ending(deprecates: bool) -> Kind
+fn ending(deprecates: bool) -> PacketKind
     ensures { result ≡ grammar.ending deprecates }
 {
     if deprecates {
-        Kind::OkTerminator
+        PacketKind::OkTerminator
     } else {
-        Kind::Eof
+        PacketKind::Eof
     }
 }
 
@@ -100,40 +100,40 @@ pub(crate) fn reply_step(
     deprecates: bool,
     request: Request,
     reply: Option<Reply>,
-) -> Option<Kind>
+) -> Option<PacketKind>
     ensures some { IfSome result (λ kind. spec.reply_step deprecates request reply ≡ Some (kind, state.new)) }
     ensures none { IfNone result ((spec.reply_step deprecates request reply ≡ None) × (state.new ≡ state.old)) }
 {
     match reply? {
         Reply::Ok(more) => {
             *state = ended(request, more);
-            Some(Kind::Ok)
+            Some(PacketKind::Ok)
         }
         Reply::Infile => {
             *state = State::Infile(request);
-            Some(Kind::LocalInfile)
+            Some(PacketKind::LocalInfile)
         }
         Reply::Columns(count, follow) => {
             *state = counted(deprecates, count, follow, After::Rows(request));
-            Some(Kind::ColumnCount(count, follow))
+            Some(PacketKind::ColumnCount(count, follow))
         }
     }
 }
 
-/// What answers a file.
+/// The answer to a file.
 #[inline(always)]
 pub(crate) fn infile_reply_step(
     state: &mut State,
     request: Request,
     reply: Option<Reply>,
-) -> Option<Kind>
+) -> Option<PacketKind>
     ensures some { IfSome result (λ kind. spec.infile_reply_step request reply ≡ Some (kind, state.new)) }
     ensures none { IfNone result ((spec.infile_reply_step request reply ≡ None) × (state.new ≡ state.old)) }
 {
     match reply? {
         Reply::Ok(more) => {
             *state = ended(request, more);
-            Some(Kind::Ok)
+            Some(PacketKind::Ok)
         }
         _ => None,
     }
@@ -141,7 +141,7 @@ pub(crate) fn infile_reply_step(
 
 /// After the EOF packet of a result's definitions.
 #[inline(always)]
-fn columns_step(state: &mut State, status: StatusFlags, request: Request) -> Kind
+fn columns_step(state: &mut State, status: StatusFlags, request: Request) -> PacketKind
     ensures { spec.columns_step status request ≡ Some (result, state.new) }
 {
     *state = if matches!(request, Request::Cursor) && opens_cursor(status) {
@@ -149,7 +149,7 @@ fn columns_step(state: &mut State, status: StatusFlags, request: Request) -> Kin
     } else {
         State::Rows(request)
     };
-    Kind::Eof
+    PacketKind::Eof
 }
 
 /// The EOF packet after definitions.
@@ -158,7 +158,7 @@ pub(crate) fn definitions_end_step(
     state: &mut State,
     after: After,
     status: Option<StatusFlags>,
-) -> Option<Kind>
+) -> Option<PacketKind>
     ensures some { IfSome result (λ kind. spec.definitions_end_step after status ≡ Some (kind, state.new)) }
     ensures none { IfNone result ((spec.definitions_end_step after status ≡ None) × (state.new ≡ state.old)) }
 {
@@ -167,11 +167,11 @@ pub(crate) fn definitions_end_step(
         After::Rows(request) => Some(columns_step(state, status, request)),
         After::Columns(_) | After::End => {
             *state = enter(after);
-            Some(Kind::Eof)
+            Some(PacketKind::Eof)
         }
         After::Rest => {
             *state = State::Rest;
-            Some(Kind::Eof)
+            Some(PacketKind::Eof)
         }
     }
 }
@@ -183,13 +183,13 @@ pub(crate) fn line_step(
     deprecates: bool,
     request: Request,
     line: Option<Line>,
-) -> Option<Kind>
+) -> Option<PacketKind>
     requires { state.old ≡ spec_state.Rows request }
     ensures some { IfSome result (λ kind. spec.line_step deprecates request line ≡ Some (kind, state.new)) }
     ensures none { IfNone result ((spec.line_step deprecates request line ≡ None) × (state.new ≡ state.old)) }
 {
     match line? {
-        Line::Row => Some(Kind::Row(format_of(request))),
+        Line::Row => Some(PacketKind::Row(format_of(request))),
         Line::End(more) => {
             *state = ended(request, more);
             Some(ending(deprecates))
@@ -197,14 +197,14 @@ pub(crate) fn line_step(
     }
 }
 
-/// A packet of this kind, after which the same may come, or the end.
+/// A packet of this kind, after which another one or the end may come.
 #[inline(always)]
 pub(crate) fn last_step(
     state: &mut State,
     deprecates: bool,
-    kind: Kind,
+    kind: PacketKind,
     line: Option<Line>,
-) -> Option<Kind>
+) -> Option<PacketKind>
     ensures some { IfSome result (λ found. spec.last_step deprecates kind state.old line ≡ Some (found, state.new)) }
     ensures none { IfNone result ((spec.last_step deprecates kind state.old line ≡ None) × (state.new ≡ state.old)) }
 {
@@ -224,17 +224,17 @@ pub(crate) fn event_step(
     agreed: SessionCapabilities,
     state: &mut State,
     payload: &[u8],
-) -> Option<Kind>
+) -> Option<PacketKind>
     requires { state.old ≡ spec_state.Events }
     ensures some { IfSome result (λ kind. spec.event_step (payloads.first_is 0 payload.now) (spec.old_end_of agreed payload.now) ≡ Some (kind, state.new)) }
     ensures none { IfNone result ((spec.event_step (payloads.first_is 0 payload.now) (spec.old_end_of agreed payload.now) ≡ None) × (state.new ≡ state.old)) }
 {
     if first_is(0, payload) {
-        return Some(Kind::BinlogEvent);
+        return Some(PacketKind::BinlogEvent);
     }
     old_end_of(alloc, agreed, payload)?;
     *state = State::Rest;
-    Some(Kind::Eof)
+    Some(PacketKind::Eof)
 }
 
 /// Whether the definitions of a prepared statement follow: they do where no byte says so.
@@ -248,7 +248,7 @@ fn definitions_follow(statement: &StmtPacketWithMetadata) -> bool
     }
 }
 
-/// Where the definitions of so many columns are left out, and EOF packets are not.
+/// The state if the definitions of `columns` columns are omitted, and EOF packets are not.
 #[inline(always)]
 fn column_end(columns: u16) -> State
     ensures { result ≡ spec.column_end columns }
@@ -259,8 +259,8 @@ fn column_end(columns: u16) -> State
     }
 }
 
-/// Where those of so many parameters before them are left out too: an EOF packet comes after the parameters and one after the columns,
-/// where there are any (`THD::send_result_metadata` in MySQL's `sql/sql_class.cc`).
+/// The state if those of `params` parameters are omitted too: an EOF packet follows the parameters and one the columns, if
+/// there are any (`THD::send_result_metadata` in MySQL's `sql/sql_class.cc`).
 #[inline(always)]
 fn param_end(params: u16, columns: u16) -> State
     ensures { result ≡ spec.param_end params columns }
@@ -274,14 +274,14 @@ fn param_end(params: u16, columns: u16) -> State
     }
 }
 
-/// What answers a statement to be prepared.
+/// The answer to a preparation.
 #[inline(always)]
 pub(crate) fn prepared_step(
     alloc: Global,
     agreed: SessionCapabilities,
     state: &mut State,
     payload: &[u8],
-) -> Option<Kind>
+) -> Option<PacketKind>
     ensures some { IfSome result (λ kind. spec.prepared_step (agreements.deprecates_eof agreed) (spec.statement_at agreed payload.now) ≡ Some (kind, state.new)) }
     ensures none { IfNone result ((spec.prepared_step (agreements.deprecates_eof agreed) (spec.statement_at agreed payload.now) ≡ None) × (state.new ≡ state.old)) }
 {
@@ -296,12 +296,12 @@ pub(crate) fn prepared_step(
     } else {
         param_end(params, columns)
     };
-    Some(Kind::PrepareOk(columns, params, follow))
+    Some(PacketKind::PrepareOk(columns, params, follow))
 }
 
 /// An OK packet, after which no more results come.
 #[inline(always)]
-pub(crate) fn last_ok(state: &mut State, next: State, reply: Option<Reply>) -> Option<Kind>
+pub(crate) fn last_ok(state: &mut State, next: State, reply: Option<Reply>) -> Option<PacketKind>
     ensures some { IfSome result (λ kind. spec.last_ok next reply ≡ Some (kind, state.new)) }
     ensures none { IfNone result ((spec.last_ok next reply ≡ None) × (state.new ≡ state.old)) }
 {
@@ -311,7 +311,7 @@ pub(crate) fn last_ok(state: &mut State, next: State, reply: Option<Reply>) -> O
                 return None;
             }
             *state = next;
-            Some(Kind::Ok)
+            Some(PacketKind::Ok)
         }
         _ => None,
     }
@@ -325,7 +325,7 @@ pub(crate) fn acknowledgement_step(
     may_end: bool,
     line: Option<Line>,
     reply: Option<Reply>,
-) -> Option<Kind>
+) -> Option<PacketKind>
     ensures some { IfSome result (λ kind. spec.acknowledgement_step deprecates may_end line reply ≡ Some (kind, state.new)) }
     ensures none { IfNone result ((spec.acknowledgement_step deprecates may_end line reply ≡ None) × (state.new ≡ state.old)) }
 {

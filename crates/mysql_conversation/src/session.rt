@@ -10,17 +10,17 @@ ghost use Rattle.mysql_conversation.specs.SessionSteps.{greeting_at, login_at};
 
 use crate::agreed::{agreed_on, compresses};
 use crate::expected::{is_greeting, is_login, is_login_error};
-use crate::kind::{Kind, Opening, Side};
-use crate::kind_name::KindName;
+use crate::packet_kind::{InitialPhase, PacketKind, Side};
+use crate::packet_kind_tag::PacketKindTag;
 use crate::payload::first_is;
-use crate::pipeline::{Pipeline, Refusal};
+use crate::pipeline::{Pipeline, SessionError};
 use bitflags::Flags;
 use mysql_auth::{HandshakePacketRef, SslRequest};
 use mysql_replies::SessionCapabilities;
 use mysql_wire::{CapabilityFlags, FaultOf, ParseBuf};
 use std::alloc::Global;
 
-/// What comes next in a session, and what the server can do.
+/// The phase of a session, with the capabilities of the server.
 #[derive(Drop)]
 pub(crate) enum Phase {
     /// The greeting, or an error in its place.
@@ -29,17 +29,17 @@ pub(crate) enum Phase {
     Refused,
     /// The login, or a request to go on in TLS.
     Login(SessionCapabilities),
-    /// Nothing that is ours: it goes on in TLS.
+    /// The connection continues in TLS.
     Encrypted(SessionCapabilities),
     /// The login, which the caller has deciphered.
     InTls(SessionCapabilities),
-    /// The error that answers what is no login.
+    /// The error that answers a packet that is no login.
     NoLogin,
     /// The conversation that follows the login.
     Commands(Pipeline),
 }
 
-/// Whether the conversation goes on.
+/// Whether the conversation continues.
 #[inline(always)]
 fn is_commands(phase: &Phase) -> bool
     ensures { result ≡ steps.is_commands phase.now }
@@ -47,17 +47,22 @@ fn is_commands(phase: &Phase) -> bool
     matches!(phase, Phase::Commands(_))
 }
 
-/// A session from the server's greeting on: it is fed each payload of both sides, and tells which packet it is.
+/// A session from the server's greeting on: takes each payload of both sides and returns its kind.
 ///
-/// The greeting and the login say what both sides agreed on; from there on it is a [`Pipeline`].
+/// Greeting and login decide what both sides agree on; after them it is a [`Pipeline`].
+///
+/// ```
+/// let mut session = Session::new(alloc, 16); // up to 16 commands may come before the answers to earlier ones
+/// let (kind, exchange) = session.next(Side::Server, payload)?; // which packet it is, or that none such comes here
+/// ```
 #[derive(Drop)]
 pub struct Session {
-    alloc: Global,
-    limit: usize,
+    pub(crate) alloc: Global,
+    pub(crate) limit: usize,
     pub(crate) phase: Phase,
 }
 
-/// What a server can do, where the payload is its greeting.
+/// The server's capabilities, if the payload is its greeting.
 #[tactic(auto, using(crate::proofs::Faults::faults), unfolding(crate::specs::SessionSteps::greeting_at))]
 fn greeting(alloc: Global, payload: &[u8]) -> Option<SessionCapabilities>
     ensures { result ≡ greeting_at payload.now }
@@ -120,7 +125,7 @@ fn is_clear_error(payload: &[u8]) -> bool
     }
 }
 
-/// What a client can do.
+/// The client's capabilities.
 fn client_of(head: &SslRequest) -> SessionCapabilities
     ensures { result ≡ sessions.client_of head.now }
 {
@@ -138,12 +143,12 @@ impl Session {
     ghost use Rattle.mysql_conversation.specs.SessionSteps.{AnsweredAs, CompressedAt, CompressedBy, SentBefore, is_commands, is_encrypted, sends_none, served_before};
     ghost use Rattle.mysql_conversation.specs.declared.session.Phase.TheVariants as phases;
     ghost use Rattle.mysql_conversation.specs.Agreements as agreement;
-    ghost use Rattle.mysql_conversation.specs.declared.kind.Kind as declared;
-    ghost use Rattle.mysql_conversation.specs.declared.kind.Side.TheVariants as side;
+    ghost use Rattle.mysql_conversation.specs.declared.packet_kind.PacketKind as declared;
+    ghost use Rattle.mysql_conversation.specs.declared.packet_kind.Side.TheVariants as side;
     ghost use Rattle.mysql_conversation.specs.declared.pipeline.Pipeline as pipe;
-    ghost use Rattle.mysql_conversation.specs.declared.pipeline.Refusal.TheVariants as refusal;
+    ghost use Rattle.mysql_conversation.specs.declared.pipeline.SessionError.TheVariants as refusal;
 
-    /// One of which no packet has come, in which as many commands may wait as the limit.
+    /// Creates a session before its first packet, in which at most `limit` commands may wait for the answers to earlier ones.
     pub fn new(alloc: Global, limit: usize) -> Self
         ensures taken { SessionTaken result [] }
         ensures limit { sessions.limit result ≡ limit }
@@ -155,7 +160,7 @@ impl Session {
         }
     }
 
-    /// How many commands may wait.
+    /// Returns the number of commands that may wait.
     pub fn limit(&self) -> usize
         ensures { result ≡ sessions.limit self.now }
     {
@@ -165,7 +170,8 @@ impl Session {
         }
     }
 
-    /// What both sides agreed on, once the client has sent its login.
+    /// Returns what both sides agreed on, once the client has sent its login.
+    #[inline]
     pub fn agreed(&self) -> Option<SessionCapabilities>
         ensures some { IfSome result (λ a. (items : List Numbered) → SessionTaken self.now items → IsLoggedInAmong a items) }
         ensures none { IfNone result ((items : List Numbered) (a : agreement.Agreed) → SessionTaken self.now items → IsLoggedInAmong a items → ⊥) }
@@ -176,23 +182,24 @@ impl Session {
         }
     }
 
-    /// Whether all that was asked for is answered.
-    pub fn is_at_rest(&self) -> bool
+    /// Whether every command is answered, so that the next packet starts an exchange.
+    #[inline]
+    pub fn is_idle(&self) -> bool
         ensures { (items : List Numbered) → SessionTaken self.now items → IsTrue result ↔ IsSession items }
     {
         match &self.phase {
-            Phase::Commands(pipeline) => pipeline.is_at_rest(),
+            Phase::Commands(pipeline) => pipeline.is_idle(),
             Phase::Refused => true,
             _ => false,
         }
     }
 
-    /// Whether a packet of this kind may come next from this side. After a request to go on in TLS it is the login, deciphered.
-    pub fn expects(&self, from: Side, name: KindName) -> bool
+    /// Whether a packet of this kind may come next from this side. After a request for TLS that is the decrypted login.
+    pub fn may_receive(&self, from: Side, name: PacketKindTag) -> bool
         ensures { (items : List Numbered) → SessionTaken self.now items → IsTrue result ↔ GoesOn from name items }
     {
         match &self.phase {
-            Phase::Commands(pipeline) => pipeline.expects(from, name),
+            Phase::Commands(pipeline) => pipeline.may_receive(from, name),
             Phase::Greeting => is_greeting(from, name),
             Phase::Refused => false,
             Phase::NoLogin => is_login_error(from, name),
@@ -202,8 +209,8 @@ impl Session {
         }
     }
 
-    /// Says that what comes is deciphered, after a request to go on in TLS.
-    pub fn decipher(&mut self)
+    /// Continues after a request for TLS: the payloads that follow are decrypted.
+    pub fn tls_established(&mut self)
         ensures stays { (items : List Numbered) → SessionTaken self.old items → SessionTaken self.new items }
         ensures in_tls { IsEncrypted self.new → ⊥ }
         ensures after { self.new.phase ≡ sessions.deciphered_in self.old.phase }
@@ -214,14 +221,15 @@ impl Session {
         }
     }
 
-    /// Which packet it is, and the number of the command whose exchange it belongs to: 0 before the first command.
-    pub fn next(&mut self, from: Side, payload: &[u8]) -> Result<(Kind, u64), Refusal>
+    /// Returns the payload's kind and the number of the command whose exchange it belongs to: 0 before the first command.
+    #[inline]
+    pub fn next(&mut self, from: Side, payload: &[u8]) -> Result<(PacketKind, u64), SessionError>
         // What was taken has now this packet, of this kind and number, at its end.
         ensures taken { IfOk result (λ x. (items : List Numbered) → SessionTaken self.old items → SessionTaken self.new (items ++ place from payload.now x.0 x.1 ∷ [])) }
         // Of no kind and number does the packet go on with what was taken.
-        ensures refused { IfErr result (λ why. (items : List Numbered) (kind : declared.Kind) (number : ℕ) → why ≡ refusal.Unexpected → SessionTaken self.old items
+        ensures refused { IfErr result (λ why. (items : List Numbered) (kind : declared.PacketKind) (number : ℕ) → why ≡ refusal.UnexpectedPacket → SessionTaken self.old items
             → IsSessionBeginning (items ++ place from payload.now kind number ∷ []) → ⊥) }
-        // Exactly where a request to go on in TLS came, and nothing says that what comes is deciphered: but for an error that the
+        // Exactly where a request to go on in TLS came, and nothing says that what comes is deciphered: except for an error that the
         // server sends in clear.
         ensures encrypted { (result ≡ Err refusal.Encrypted) ↔ IsHidden self.old from payload.now }
         ensures tls { IfOk result (λ _. IsEncrypted self.new ↔ AsksForTls self.old from payload.now) }
@@ -247,16 +255,17 @@ impl Session {
         match &mut self.phase {
             Phase::Commands(pipeline) => pipeline.next(from, payload),
             // (there is no other)
-            _ => Err(Refusal::Unexpected),
+            _ => Err(SessionError::UnexpectedPacket),
         }
     }
 
     /// A packet of the server before the conversation.
-    fn served(&mut self, payload: &[u8]) -> Result<(Kind, u64), Refusal>
+    #[inline(never)]
+    fn served(&mut self, payload: &[u8]) -> Result<(PacketKind, u64), SessionError>
         requires before { is_commands self.old.phase ≡ false }
         ensures taken { IfOk result (λ x. (x.1 ≡ 0) × (served_before self.old.phase payload.now ≡ Some (x.0, self.new.phase))) }
-        ensures refused { IfErr result (λ why. why ≡ refusal.Unexpected → (is_encrypted self.old.phase ≡ false) × (served_before self.old.phase payload.now ≡ None)) }
-        ensures ours { IfErr result (λ why. (why ≡ refusal.Unexpected) ⊎ (why ≡ refusal.Encrypted)) }
+        ensures refused { IfErr result (λ why. why ≡ refusal.UnexpectedPacket → (is_encrypted self.old.phase ≡ false) × (served_before self.old.phase payload.now ≡ None)) }
+        ensures ours { IfErr result (λ why. (why ≡ refusal.UnexpectedPacket) ⊎ (why ≡ refusal.Encrypted)) }
         ensures encrypted { (result ≡ Err refusal.Encrypted) ↔ (IsEncrypted self.old × (sessions.is_clear_error payload.now ≡ false)) }
         ensures limit { OnOk result (sessions.limit self.new ≡ self.old.limit) }
         ensures err { OnErr result (self.new ≡ self.old) }
@@ -264,24 +273,28 @@ impl Session {
         match &self.phase {
             Phase::Greeting => self.greeted(payload),
             Phase::Login(_) | Phase::InTls(_) => {
-                self.refused(Kind::UnaskedError, first_is(0xff, payload))
+                self.refused(PacketKind::UnsolicitedError, first_is(0xff, payload))
             }
-            Phase::NoLogin => self.refused(Kind::Error, first_is(0xff, payload)),
+            Phase::NoLogin => self.refused(PacketKind::Error, first_is(0xff, payload)),
             Phase::Encrypted(_) => {
                 if is_clear_error(payload) {
-                    self.refused(Kind::UnaskedError, true)
+                    self.refused(PacketKind::UnsolicitedError, true)
                 } else {
-                    Err(Refusal::Encrypted)
+                    Err(SessionError::Encrypted)
                 }
             }
-            Phase::Refused | Phase::Commands(_) => Err(Refusal::Unexpected),
+            Phase::Refused | Phase::Commands(_) => Err(SessionError::UnexpectedPacket),
         }
     }
 
-    /// An error, where it is one: nothing comes after it.
-    fn refused(&mut self, kind: Kind, is_error: bool) -> Result<(Kind, u64), Refusal>
+    /// An error, if it is one: nothing follows it.
+    fn refused(
+        &mut self,
+        kind: PacketKind,
+        is_error: bool,
+    ) -> Result<(PacketKind, u64), SessionError>
         ensures taken { IfOk result (λ x. (x.1 ≡ 0) × (x.0 ≡ kind) × (is_error ≡ true) × (self.new.phase ≡ phases.Refused)) }
-        ensures refused { IfErr result (λ why. (why ≡ refusal.Unexpected) × (is_error ≡ false)) }
+        ensures refused { IfErr result (λ why. (why ≡ refusal.UnexpectedPacket) × (is_error ≡ false)) }
         ensures limit { self.new.limit ≡ self.old.limit }
         ensures err { OnErr result (self.new ≡ self.old) }
     {
@@ -289,15 +302,16 @@ impl Session {
             self.phase = Phase::Refused;
             Ok((kind, 0))
         } else {
-            Err(Refusal::Unexpected)
+            Err(SessionError::UnexpectedPacket)
         }
     }
 
     /// A packet of the client before the conversation.
-    fn sent(&mut self, payload: &[u8]) -> Result<(Kind, u64), Refusal>
+    #[inline(never)]
+    fn sent(&mut self, payload: &[u8]) -> Result<(PacketKind, u64), SessionError>
         requires before { is_commands self.old.phase ≡ false }
         ensures taken { IfOk result (λ x. (x.1 ≡ 0) × SentBefore self.old.phase payload.now x.0 self.new.phase) }
-        ensures refused { IfErr result (λ why. why ≡ refusal.Unexpected → sends_none self.old.phase ≡ true) }
+        ensures refused { IfErr result (λ why. why ≡ refusal.UnexpectedPacket → sends_none self.old.phase ≡ true) }
         ensures encrypted { (result ≡ Err refusal.Encrypted) ↔ IsEncrypted self.old }
         ensures compressed { (result ≡ Err refusal.Compressed) ↔ CompressedAt self.old.phase payload.now }
         ensures ours { IfErr result (λ why. (why ≢ refusal.Full) × (why ≢ refusal.Memory)) }
@@ -313,40 +327,40 @@ impl Session {
                 let server = *server;
                 self.answered(server, true, payload)
             }
-            Phase::Encrypted(_) => Err(Refusal::Encrypted),
+            Phase::Encrypted(_) => Err(SessionError::Encrypted),
             Phase::Greeting | Phase::Refused | Phase::NoLogin | Phase::Commands(_) => {
-                Err(Refusal::Unexpected)
+                Err(SessionError::UnexpectedPacket)
             }
         }
     }
 
     /// The greeting, or an error in its place.
-    fn greeted(&mut self, payload: &[u8]) -> Result<(Kind, u64), Refusal>
+    fn greeted(&mut self, payload: &[u8]) -> Result<(PacketKind, u64), SessionError>
         ensures taken { IfOk result (λ x. (x.1 ≡ 0) × (served_before phases.Greeting payload.now ≡ Some (x.0, self.new.phase))) }
-        ensures refused { IfErr result (λ why. (why ≡ refusal.Unexpected) × (served_before phases.Greeting payload.now ≡ None)) }
+        ensures refused { IfErr result (λ why. (why ≡ refusal.UnexpectedPacket) × (served_before phases.Greeting payload.now ≡ None)) }
         ensures limit { OnOk result (sessions.limit self.new ≡ self.old.limit) }
         ensures err { OnErr result (self.new ≡ self.old) }
     {
         if first_is(0xff, payload) {
             self.phase = Phase::Refused;
-            return Ok((Kind::UnaskedError, 0));
+            return Ok((PacketKind::UnsolicitedError, 0));
         }
         match greeting(self.alloc, payload) {
             Some(server) => {
                 self.phase = Phase::Login(server);
-                Ok((Kind::Handshake, 0))
+                Ok((PacketKind::Handshake, 0))
             }
-            None => Err(Refusal::Unexpected),
+            None => Err(SessionError::UnexpectedPacket),
         }
     }
 
-    /// The answer to the greeting.
+    /// Takes the answer to the greeting.
     fn answered(
         &mut self,
         server: SessionCapabilities,
         in_tls: bool,
         payload: &[u8],
-    ) -> Result<(Kind, u64), Refusal>
+    ) -> Result<(PacketKind, u64), SessionError>
         ensures taken { IfOk result (λ x. (x.1 ≡ 0) × AnsweredAs server in_tls payload.now x.0 self.new.phase) }
         ensures refused { IfErr result (λ why. why ≡ refusal.Compressed) }
         ensures compressed { (result ≡ Err refusal.Compressed) ↔ CompressedBy server in_tls payload.now }
@@ -355,21 +369,26 @@ impl Session {
     {
         let Some(head) = login(self.alloc, payload) else {
             self.phase = Phase::NoLogin;
-            return Ok((Kind::Login, 0));
+            return Ok((PacketKind::Login, 0));
         };
         if asks_tls(in_tls, &head) {
             self.phase = Phase::Encrypted(server);
-            return Ok((Kind::SslRequest, 0));
+            return Ok((PacketKind::SslRequest, 0));
         }
         if !ends_name(payload) {
             self.phase = Phase::NoLogin;
-            return Ok((Kind::Login, 0));
+            return Ok((PacketKind::Login, 0));
         }
         let agreed = agreed_on(server, client_of(&head));
         if compresses(agreed) {
-            return Err(Refusal::Compressed);
+            return Err(SessionError::Compressed);
         }
-        self.phase = Phase::Commands(Pipeline::new(self.alloc, agreed, Opening::Login, self.limit));
-        Ok((Kind::Login, 0))
+        self.phase = Phase::Commands(Pipeline::new(
+            self.alloc,
+            agreed,
+            InitialPhase::Login,
+            self.limit,
+        ));
+        Ok((PacketKind::Login, 0))
     }
 }

@@ -1,11 +1,11 @@
-//! What comes next.
+//! The states of a conversation.
 
 ghost use Rattle.std.specs.Prelude.{◌≡◌};
 ghost use Rattle.mysql_conversation.specs.Conversation as grammar;
 
-use crate::kind::Format;
+use crate::packet_kind::RowFormat;
 
-/// What asks for results.
+/// The request for results.
 #[derive(Clone, Copy, Debug, PartialEq, Eq)]
 pub(crate) enum Request {
     /// A query.
@@ -16,7 +16,7 @@ pub(crate) enum Request {
     Cursor,
 }
 
-/// What answers a command.
+/// The form of a command's answer.
 #[derive(Clone, Copy, Debug, PartialEq, Eq)]
 pub(crate) enum Answer {
     /// Results.
@@ -37,27 +37,27 @@ pub(crate) enum Answer {
     Events,
     /// Nothing.
     Nothing,
-    /// Nothing, and no command comes any more.
+    /// No answer, and no command may follow.
     Quit,
     /// An OK packet, and then the clone plugin's own protocol.
     Clone,
     /// An error: no server knows the command.
-    Refusal,
+    SessionError,
 }
 
-/// A command: its first byte, and what answers it.
+/// A command: its first byte, and the form of its answer.
 #[derive(Clone, Copy, Debug, PartialEq, Eq)]
 pub(crate) struct Command {
     pub(crate) code: u8,
     pub(crate) answer: Answer,
 }
 
-/// What follows definitions.
+/// What follows the definitions.
 #[derive(Clone, Copy, Debug, PartialEq, Eq)]
 pub(crate) enum After {
     /// Rows.
     Rows(Request),
-    /// The definitions of so many columns.
+    /// The definitions of a given number of columns.
     Columns(u64),
     /// The EOF packet of columns whose definitions are left out.
     End,
@@ -76,15 +76,15 @@ pub(crate) enum State {
     Reply(Request),
     /// A part of a file, or its end.
     Infile(Request),
-    /// What answers a file.
+    /// The answer to a file.
     InfileReply(Request),
-    /// A definition, and so many after it.
+    /// A definition, and this many after it.
     Definitions(u64, After),
     /// The EOF packet after definitions.
     DefinitionsEnd(After),
     /// A row or the end.
     Rows(Request),
-    /// What answers a statement to be prepared.
+    /// The answer to a preparation.
     Prepared,
     /// A row of a cursor, or the end.
     Fetch,
@@ -97,8 +97,8 @@ pub(crate) enum State {
     /// An event, or the end; and acknowledgements of the client.
     Events,
     /// An error.
-    Refusal,
-    /// The OK packet that answers `COM_CLONE`.
+    SessionError,
+    /// The OK packet in the answer to `COM_CLONE`.
     CloneReply,
     /// A packet of the clone plugin's own protocol, of either side.
     Clone,
@@ -108,10 +108,10 @@ pub(crate) enum State {
     Over,
 }
 
-/// What the first packet of a result is, if it is no error.
+/// The first packet of a result, unless it is an error.
 #[derive(Clone, Copy, Debug, PartialEq, Eq)]
 pub(crate) enum Reply {
-    /// An OK packet; whether more results come.
+    /// An OK packet; whether more results follow.
     Ok(bool),
     /// A request for a file.
     Infile,
@@ -119,22 +119,22 @@ pub(crate) enum Reply {
     Columns(u64, bool),
 }
 
-/// What a packet among rows is, if it is no error.
+/// A packet among rows, unless it is an error.
 #[derive(Clone, Copy, Debug, PartialEq, Eq)]
 pub(crate) enum Line {
     /// A row.
     Row,
-    /// The end; whether more results come.
+    /// The end; whether more results follow.
     End(bool),
 }
 
-/// How the rows that a request asks for are spelled.
+/// The format of the rows that a request asks for.
 #[inline(always)]
-pub(crate) fn format_of(request: Request) -> Format
+pub(crate) fn format_of(request: Request) -> RowFormat
     ensures { result ≡ grammar.format_of request }
 {
     match request {
-        Request::Query => Format::Text,
-        Request::Execution | Request::Cursor => Format::Binary,
+        Request::Query => RowFormat::Text,
+        Request::Execution | Request::Cursor => RowFormat::Binary,
     }
 }

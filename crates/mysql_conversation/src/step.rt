@@ -1,12 +1,13 @@
 //! The machine: the kind of a packet, and the state after it.
 
-ghost use Rattle.std.specs.Prelude.{◌≡◌, IfSome, IfNone, IfOk, OnErr, Some, None};
+ghost use Rattle.std.specs.Prelude.{false, ◌≡◌, IfSome, IfNone, IfOk, OnErr, Some, None};
 ghost use Rattle.mysql_conversation.specs.Machine as spec;
 ghost use Rattle.mysql_conversation.specs.declared.state.State.TheVariants as spec_state;
-ghost use Rattle.mysql_conversation.specs.declared.kind.Side.TheVariants.{Client, Server};
+ghost use Rattle.mysql_conversation.specs.declared.packet_kind.Side.TheVariants.{Client, Server};
 
 use crate::agreed::deprecates_eof;
-use crate::kind::{Format, Kind, Opening, Side, Unexpected};
+use crate::command_code::SEMI_SYNC_MARK;
+use crate::packet_kind::{InitialPhase, PacketKind, RowFormat, Side, UnexpectedPacket};
 use crate::payload::{
     authentication_kind, command_of, first_is, has_more, is_report, is_row_by_first, line_of,
     ok_status, old_end_of, reply_of,
@@ -19,18 +20,18 @@ use crate::state::{Answer, Request, State, format_of};
 use mysql_replies::SessionCapabilities;
 use std::alloc::Global;
 
-/// Where a conversation begins.
+/// The first state of a conversation.
 #[inline(always)]
-pub(crate) fn entrance(opening: Opening) -> State
+pub(crate) fn entrance(opening: InitialPhase) -> State
     ensures { result ≡ spec.entrance opening }
 {
     match opening {
-        Opening::Login => State::Authentication(true, false),
-        Opening::Commands => State::Rest,
+        InitialPhase::Login => State::Authentication(true, false),
+        InitialPhase::Commands => State::Rest,
     }
 }
 
-/// Where an answer begins.
+/// The first state of an answer.
 #[inline(always)]
 pub(crate) fn answers(answer: Answer) -> State
     ensures { result ≡ spec.answers answer }
@@ -47,46 +48,46 @@ pub(crate) fn answers(answer: Answer) -> State
         Answer::Nothing => State::Rest,
         Answer::Quit => State::Quit,
         Answer::Clone => State::CloneReply,
-        Answer::Refusal => State::Refusal,
+        Answer::SessionError => State::SessionError,
     }
 }
 
 /// A command.
 #[inline(always)]
 #[tactic(auto, using(crate::proofs::Turns::rest_command))]
-fn command_step(state: &mut State, payload: &[u8]) -> Option<Kind>
+fn command_step(state: &mut State, payload: &[u8]) -> Option<PacketKind>
     ensures some { IfSome result (λ kind. spec.command_step payload.now ≡ Some (kind, state.new)) }
     ensures none { IfNone result ((spec.command_step payload.now ≡ None) × (state.new ≡ state.old)) }
 {
     let command = command_of(payload)?;
     *state = answers(command.answer);
-    Some(Kind::Command(command.code))
+    Some(PacketKind::Command(command.code))
 }
 
 /// A part of a file, or its end.
 #[inline(always)]
-fn infile_step(state: &mut State, request: Request, payload: &[u8]) -> Option<Kind>
+fn infile_step(state: &mut State, request: Request, payload: &[u8]) -> Option<PacketKind>
     requires { state.old ≡ spec_state.Infile request }
     ensures some { IfSome result (λ kind. spec.infile_step request payload.now ≡ Some (kind, state.new)) }
     ensures none { IfNone result ((spec.infile_step request payload.now ≡ None) × (state.new ≡ state.old)) }
 {
     if payload.is_empty() {
         *state = State::InfileReply(request);
-        Some(Kind::InfileEnd)
+        Some(PacketKind::InfileEnd)
     } else {
-        Some(Kind::InfileContent)
+        Some(PacketKind::InfileContent)
     }
 }
 
-/// What the client answers while it logs in.
+/// Takes a client's answer during the login.
 #[inline(always)]
-fn answer_step(state: &mut State, is_login: bool, asked: bool) -> Option<Kind>
+fn answer_step(state: &mut State, is_login: bool, asked: bool) -> Option<PacketKind>
     ensures some { IfSome result (λ kind. spec.answer_step is_login asked ≡ Some (kind, state.new)) }
     ensures none { IfNone result ((spec.answer_step is_login asked ≡ None) × (state.new ≡ state.old)) }
 {
     if asked {
         *state = State::Authentication(is_login, false);
-        Some(Kind::AuthData)
+        Some(PacketKind::AuthData)
     } else {
         None
     }
@@ -94,13 +95,13 @@ fn answer_step(state: &mut State, is_login: bool, asked: bool) -> Option<Kind>
 
 /// An acknowledgement of an event.
 #[inline(always)]
-fn ack_step(state: &State, payload: &[u8]) -> Option<Kind>
+fn ack_step(state: &State, payload: &[u8]) -> Option<PacketKind>
     requires { state.now ≡ spec_state.Events }
     ensures some { IfSome result (λ kind. spec.ack_step payload.now ≡ Some (kind, state.now)) }
     ensures none { IfNone result (spec.ack_step payload.now ≡ None) }
 {
-    if first_is(0xef, payload) {
-        Some(Kind::SemiSyncAck)
+    if first_is(SEMI_SYNC_MARK, payload) {
+        Some(PacketKind::SemiSyncAck)
     } else {
         None
     }
@@ -108,7 +109,7 @@ fn ack_step(state: &State, payload: &[u8]) -> Option<Kind>
 
 /// A packet of the client.
 #[inline(always)]
-fn client_step(state: &mut State, payload: &[u8]) -> Option<Kind>
+fn client_step(state: &mut State, payload: &[u8]) -> Option<PacketKind>
     ensures some { IfSome result (λ kind. spec.client_step state.old payload.now ≡ Some (kind, state.new)) }
     ensures none { IfNone result ((spec.client_step state.old payload.now ≡ None) × (state.new ≡ state.old)) }
 {
@@ -117,12 +118,12 @@ fn client_step(state: &mut State, payload: &[u8]) -> Option<Kind>
         State::Authentication(is_login, asked) => answer_step(state, is_login, asked),
         State::Infile(request) => infile_step(state, request, payload),
         State::Events => ack_step(state, payload),
-        State::Clone => Some(Kind::Clone),
+        State::Clone => Some(PacketKind::Clone),
         _ => None,
     }
 }
 
-/// What the server says while a client logs in, if it is no error.
+/// Takes a server's packet during the login, unless it is an error.
 #[inline(always)]
 fn authentication_step(
     alloc: Global,
@@ -130,7 +131,7 @@ fn authentication_step(
     state: &mut State,
     is_login: bool,
     payload: &[u8],
-) -> Option<Kind>
+) -> Option<PacketKind>
     ensures some { IfSome result (λ kind. spec.authentication_step agreed is_login payload.now (spec.ok_status agreed payload.now) ≡ Some (kind, state.new)) }
     ensures none { IfNone result ((spec.authentication_step agreed is_login payload.now (spec.ok_status agreed payload.now) ≡ None) × (state.new ≡ state.old)) }
 {
@@ -139,7 +140,7 @@ fn authentication_step(
             return None;
         }
         *state = State::Rest;
-        return Some(Kind::Ok);
+        return Some(PacketKind::Ok);
     }
     *state = State::Authentication(is_login, true);
     Some(authentication_kind(agreed, payload))
@@ -152,13 +153,13 @@ fn serve(
     agreed: SessionCapabilities,
     state: &mut State,
     payload: &[u8],
-) -> Option<Kind>
+) -> Option<PacketKind>
     ensures some { IfSome result (λ kind. spec.serve agreed state.old payload.now ≡ Some (kind, state.new)) }
     ensures none { IfNone result ((spec.serve agreed state.old payload.now ≡ None) × (state.new ≡ state.old)) }
 {
     let deprecates = deprecates_eof(agreed);
     match *state {
-        State::Rest | State::Infile(_) | State::Refusal | State::Quit | State::Over => None,
+        State::Rest | State::Infile(_) | State::SessionError | State::Quit | State::Over => None,
         State::Authentication(is_login, _) => {
             authentication_step(alloc, agreed, state, is_login, payload)
         }
@@ -170,7 +171,7 @@ fn serve(
         }
         State::Definitions(left, after) => {
             *state = less(deprecates, left, after);
-            Some(Kind::Column)
+            Some(PacketKind::Column)
         }
         State::DefinitionsEnd(after) => {
             definitions_end_step(state, after, old_end_of(alloc, agreed, payload))
@@ -185,41 +186,41 @@ fn serve(
         State::Fetch => last_step(
             state,
             deprecates,
-            Kind::Row(Format::Binary),
-            line_of(alloc, agreed, Format::Binary, payload),
+            PacketKind::Row(RowFormat::Binary),
+            line_of(alloc, agreed, RowFormat::Binary, payload),
         ),
         State::Acknowledgement(may_end) => acknowledgement_step(
             state,
             deprecates,
             may_end,
-            line_of(alloc, agreed, Format::Text, payload),
+            line_of(alloc, agreed, RowFormat::Text, payload),
             reply_of(alloc, agreed, payload),
         ),
         State::Text => {
             *state = State::Rest;
-            Some(Kind::Statistics)
+            Some(PacketKind::Statistics)
         }
         State::Fields => last_step(
             state,
             deprecates,
-            Kind::FieldListColumn,
-            line_of(alloc, agreed, Format::Text, payload),
+            PacketKind::FieldListColumn,
+            line_of(alloc, agreed, RowFormat::Text, payload),
         ),
         State::Events => event_step(alloc, agreed, state, payload),
         State::CloneReply => last_ok(state, State::Clone, reply_of(alloc, agreed, payload)),
-        State::Clone => Some(Kind::Clone),
+        State::Clone => Some(PacketKind::Clone),
     }
 }
 
 /// Whether no exchange runs, and a command may come.
 #[inline(always)]
-pub(crate) fn is_idle(state: &State) -> bool
-    ensures { result ≡ spec.is_idle state.now }
+pub(crate) fn is_rest(state: &State) -> bool
+    ensures { result ≡ spec.is_rest state.now }
 {
     matches!(state, State::Rest)
 }
 
-/// Whether no command comes any more.
+/// Whether no command may follow.
 #[inline(always)]
 pub(crate) fn is_shut(state: &State) -> bool
     ensures { result ≡ spec.is_shut state.now }
@@ -250,7 +251,7 @@ pub(crate) fn listens(state: &State) -> bool
     }
 }
 
-/// Whether the server is to speak, and a packet of the client is not its answer.
+/// Whether the server is to send, and a packet of the client is not its answer.
 #[inline(always)]
 pub(crate) fn is_due(state: &State) -> bool
     ensures { result ≡ spec.is_due state.now }
@@ -262,26 +263,34 @@ pub(crate) fn is_due(state: &State) -> bool
     }
 }
 
+/// Whether a progress report may come: while a command is answered, and the client is not asked for anything.
+#[inline(always)]
+pub(crate) fn reports(state: &State) -> bool
+    ensures { result ≡ spec.reports state.now }
+{
+    is_due(state) && !matches!(state, State::Authentication(true, _))
+}
+
 /// An error: in an exchange, of a login, which ends the connection, or in none, which does too.
 #[inline(always)]
-fn error_step(state: &mut State) -> Option<Kind>
+fn error_step(state: &mut State) -> Option<PacketKind>
     ensures some { IfSome result (λ kind. spec.error_step state.old ≡ Some (kind, state.new)) }
     ensures none { IfNone result ((spec.error_step state.old ≡ None) × (state.new ≡ state.old)) }
 {
     match *state {
         State::Over => None,
-        State::Clone => Some(Kind::Clone),
+        State::Clone => Some(PacketKind::Clone),
         State::Rest | State::Quit => {
             *state = State::Over;
-            Some(Kind::UnaskedError)
+            Some(PacketKind::UnsolicitedError)
         }
         State::Authentication(true, _) => {
             *state = State::Over;
-            Some(Kind::Error)
+            Some(PacketKind::Error)
         }
         _ => {
             *state = State::Rest;
-            Some(Kind::Error)
+            Some(PacketKind::Error)
         }
     }
 }
@@ -294,15 +303,15 @@ fn server_step(
     agreed: SessionCapabilities,
     state: &mut State,
     payload: &[u8],
-) -> Option<Kind>
+) -> Option<PacketKind>
     ensures some { IfSome result (λ kind. spec.take_step agreed state.old Server payload.now ≡ Some (kind, state.new)) }
     ensures none { IfNone result ((spec.take_step agreed state.old Server payload.now ≡ None) × (state.new ≡ state.old)) }
 {
     if first_is(0xff, payload) {
         if is_report(agreed, payload) {
             return match state {
-                State::Clone => Some(Kind::Clone),
-                _ if is_due(state) => Some(Kind::ProgressReport),
+                State::Clone => Some(PacketKind::Clone),
+                _ if reports(state) => Some(PacketKind::ProgressReport),
                 _ => None,
             };
         }
@@ -311,61 +320,79 @@ fn server_step(
     serve(alloc, agreed, state, payload)
 }
 
-/// Which packet of the server it is; the state is then the one after it.
+/// Classifies a packet of the server, and moves to the state after it.
 // (a call, which a row doesn't pay for)
 #[inline(never)]
-fn take_served(
+pub(crate) fn take_served(
     alloc: Global,
     agreed: SessionCapabilities,
     state: &mut State,
     payload: &[u8],
-) -> Result<Kind, Unexpected>
+) -> Result<PacketKind, UnexpectedPacket>
     ensures ok { IfOk result (λ kind. spec.take_step agreed state.old Server payload.now ≡ Some (kind, state.new)) }
     ensures err { OnErr result ((spec.take_step agreed state.old Server payload.now ≡ None) × (state.new ≡ state.old)) }
 {
     match server_step(alloc, agreed, state, payload) {
         Some(kind) => Ok(kind),
-        None => Err(Unexpected),
+        None => Err(UnexpectedPacket),
     }
 }
 
-/// Which packet of the client it is; the state is then the one after it.
+/// Classifies a packet of the client, and moves to the state after it.
 #[inline(never)]
 pub(crate) fn take_sent(
     agreed: SessionCapabilities,
     state: &mut State,
     payload: &[u8],
-) -> Result<Kind, Unexpected>
+) -> Result<PacketKind, UnexpectedPacket>
     ensures ok { IfOk result (λ kind. spec.take_step agreed state.old Client payload.now ≡ Some (kind, state.new)) }
     ensures err { OnErr result ((spec.take_step agreed state.old Client payload.now ≡ None) × (state.new ≡ state.old)) }
 {
     match client_step(state, payload) {
         Some(kind) => Ok(kind),
-        None => Err(Unexpected),
+        None => Err(UnexpectedPacket),
     }
 }
 
-/// Which packet it is; the state is then the one after it. Rows are known here, by their first byte.
+/// The row that a packet of the server is, if its first byte says so. The state stays.
 #[inline(always)]
 #[tactic(auto, using(crate::proofs::Begun::no_report))]
+pub(crate) fn row_at(
+    agreed: SessionCapabilities,
+    state: &State,
+    payload: &[u8],
+) -> Option<PacketKind>
+    ensures some { IfSome result (λ kind. spec.take_step agreed state.now Server payload.now ≡ Some (kind, state.now)) }
+    ensures quiet { IfSome result (λ _. (spec.listens state.now ≡ false) × (spec.is_shut state.now ≡ false) × (spec.is_rest state.now ≡ false)) }
+{
+    let State::Rows(request) = *state else {
+        return None;
+    };
+    let format = format_of(request);
+    if is_row_by_first(format, payload) {
+        Some(PacketKind::Row(format))
+    } else {
+        None
+    }
+}
+
+/// Classifies a packet, and moves to the state after it. Rows are recognized here, by their first byte.
+#[inline(always)]
 pub(crate) fn take_step(
     alloc: Global,
     agreed: SessionCapabilities,
     state: &mut State,
     from: Side,
     payload: &[u8],
-) -> Result<Kind, Unexpected>
+) -> Result<PacketKind, UnexpectedPacket>
     ensures ok { IfOk result (λ kind. spec.take_step agreed state.old from payload.now ≡ Some (kind, state.new)) }
     ensures err { OnErr result ((spec.take_step agreed state.old from payload.now ≡ None) × (state.new ≡ state.old)) }
 {
     match from {
         Side::Client => take_sent(agreed, state, payload),
         Side::Server => {
-            if let State::Rows(request) = *state {
-                let format = format_of(request);
-                if is_row_by_first(format, payload) {
-                    return Ok(Kind::Row(format));
-                }
+            if let Some(row) = row_at(agreed, state, payload) {
+                return Ok(row);
             }
             take_served(alloc, agreed, state, payload)
         }

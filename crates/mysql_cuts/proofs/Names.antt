@@ -15,7 +15,7 @@ pub record Names (k : Packing ℕ) (types : Bool) (start : ℕ) (rows : List ℕ
   pub whole : rows_in parts ≡ rows
   pub fits : FitsFrom k types parts
 
--- a packer has come to place i of the rows: so many parts are closed, and so many rows are in the open one, which has this capacity
+-- a packer has come to place i of the rows: this many parts are closed, and a given number of rows are in the open one, which has this capacity
 pub record Counts (k : Packing ℕ) (rows : List ℕ) (i closed inside : ℕ) (capacity : Option ℕ) : Type 0 where
   pub full : List (List ℕ)
   pub part : List ℕ

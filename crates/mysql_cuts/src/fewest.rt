@@ -58,7 +58,7 @@ fn names_fitting(rule: BulkRule, limit: u64, arity: usize, sizes: &[u64], ends: 
     start == sizes.len()
 }
 
-/// What is left of the capacity of a request of this many rows after one more row, if that one fits.
+/// Returns the remaining capacity of a request of `rows` rows after one more row, or `None` if that row doesn't fit.
 fn capacity_after(rule: BulkRule, capacity: Option<u64>, rows: usize, size: u64) -> Option<u64>
     ensures { MatchOption result (WithinRows rule.max_rows (rows + 1) → IfSome capacity (λ had. had < size)) (λ left. WithinRows rule.max_rows (rows + 1) × (capacity ≡ Some (left + size))) }
 {
@@ -99,10 +99,10 @@ fn fewest_parts(rule: BulkRule, limit: u64, arity: usize, sizes: &[u64]) -> Opti
 
 /// Whether `ends` names a fitting cut of the rows, and no fitting cut has fewer requests.
 ///
-/// `limit` is the most bytes that a request may have, `arity` the number of values of a row, and `sizes` holds the bytes
-/// of each row: one and its own for each value. `ends` names the cut by the number of rows up to the end of each
-/// request, so `[2, 5]` is two requests of two and three rows. Any numbers may be handed in: a sum past `u64::MAX` is
-/// past every limit, and ends that name no cut are no fewest cut. It takes no memory.
+/// `limit` is the maximum length of a request in bytes, `arity` the number of values of a row, and `sizes` holds the bytes of
+/// each row: one and its own for each value. `ends` describes the cut by the number of rows up to the end of each request, so
+/// `[2, 5]` is two requests of two and three rows. Any numbers are valid: a sum above `u64::MAX` exceeds every limit, and ends
+/// that describe no cut return false. It takes no memory.
 pub fn cut_is_fewest(
     rule: BulkRule,
     limit: u64,

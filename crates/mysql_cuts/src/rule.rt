@@ -1,8 +1,8 @@
-//! Which requests send types, and how many rows one may have.
+//! Which requests send types, and the maximum number of rows of a request.
 
 ghost use Rattle.std.specs.Prelude.{◌≡◌, None, false};
 
-/// When types are sent, and how many rows a request may have.
+/// When types are sent, and the maximum number of rows of a request.
 #[derive(Clone, Copy, Debug, PartialEq, Eq)]
 pub struct BulkRule {
     /// Types are sent in every request, and not in the first alone.

@@ -131,9 +131,3 @@ length_by_bytes (a ∷ []) e = absurd (omega arith)
 length_by_bytes (a ∷ b ∷ []) e = absurd (omega arith)
 length_by_bytes (a ∷ b ∷ c ∷ []) e = absurd (omega arith)
 length_by_bytes (a ∷ b ∷ c ∷ d ∷ xs) e = refl
-
--- what stands whole in one frame
-pub whole_facts : (size number : ℕ) (payload : List ℕ) (after : ℕ) (bytes rest : List ℕ) → FramedIn size 0 number payload after bytes rest
-    → (length_in bytes ≡ length payload) × (get_or bytes 3 0 ≡ number) × (4 + length payload ≤ length bytes) × (length payload < size)
-whole_facts size number payload after bytes rest h =
-    (ap length_in h.1 ∙ length_in_header (length payload) number (payload ++ rest), ap (λ b. get_or b 3 0) h.1, omega (arith, ap length h.1, length-append payload rest), h.0)

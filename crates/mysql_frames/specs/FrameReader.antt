@@ -20,7 +20,7 @@ AllLonger limit number bytes = (payload : List ℕ) (after : ℕ) (rest : List �
 abbrev pub BeginsInOrder : ReaderState → List ℕ → Type 0
 BeginsInOrder reader bytes = (len : ℕ) × (others : List ℕ) × (len ≤ reader.limit) × (bytes ≡ header len reader.number ++ others)
 
--- Among the bytes held is a header, after so many full frames in order and within the limit: it has this length and number, where `after` comes. Then other bytes.
+-- Among the bytes held is a header, after a given number of full frames in order and within the limit: it has this length and number, where `after` comes. Then other bytes.
 pub record HoldsHeader (reader : ReaderState) (full after len number : ℕ) (others : List ℕ) : Type 0 where
   pub before : FullFrames most full reader.number after reader.held (header len number ++ others)
   pub within : full * most ≤ reader.limit

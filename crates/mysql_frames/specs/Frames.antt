@@ -5,7 +5,7 @@ use Rattle.std.specs.Prelude.{◌≡◌, ℕ, ◌+◌, ◌/◌, ◌%◌, ◌<◌
 abbrev pub most : ℕ
 most = 16777215
 
--- what stands before so many bytes of a payload: the length in three bytes, the low ones first, and the frame's number
+-- what stands before a given number of bytes of a payload: the length in three bytes, the low ones first, and the frame's number
 abbrev pub header : ℕ → ℕ → List ℕ
 header len number = (len % 256) ∷ (len / 256 % 256) ∷ (len / 65536) ∷ number ∷ []
 
@@ -17,7 +17,7 @@ next number = (number + 1) % 256
 abbrev pub IsFrame : ℕ → List ℕ → List ℕ → List ℕ → Type 0
 IsFrame number content bytes rest = (length content ≤ most) × (bytes ≡ header (length content) number ++ (content ++ rest))
 
--- Where a frame has `size` bytes of a payload at most: the bytes are so many full frames and a shorter one, maybe of nothing, with this payload, counted from a number on, and
+-- Where a frame has `size` bytes of a payload at most: the bytes are a given number of full frames and a shorter one, maybe of nothing, with this payload, counted from a number on, and
 -- then the rest. The frame after them would have the number `after`.
 abbrev pub FramedIn : ℕ → ℕ → ℕ → List ℕ → ℕ → List ℕ → List ℕ → Type 0
 FramedIn size zero number payload after bytes rest =
@@ -26,7 +26,7 @@ FramedIn size (suc full) number payload after bytes rest =
     (chunk : List ℕ) × (more : List ℕ) × (mid : List ℕ)
     × (length chunk ≡ size) × (payload ≡ chunk ++ more) × (bytes ≡ header size number ++ (chunk ++ mid)) × FramedIn size full (next number) more after mid rest
 
--- the bytes are so many full frames of a payload, counted from a number on, and then the rest, whose first frame would have the number `after`
+-- the bytes are a given number of full frames of a payload, counted from a number on, and then the rest, whose first frame would have the number `after`
 abbrev pub FullFrames : ℕ → ℕ → ℕ → ℕ → List ℕ → List ℕ → Type 0
 FullFrames size zero number after bytes rest = (number ≡ after) × (bytes ≡ rest)
 FullFrames size (suc full) number after bytes rest =

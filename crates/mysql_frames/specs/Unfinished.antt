@@ -5,7 +5,7 @@ use Rattle.mysql_frames.specs.FrameReader.{ReaderState}
 use Rattle.mysql_frames.specs.Frames.{most, header, next}
 use Rattle.mysql_frames.specs.declared.unfinished.Unfinished.{Unfinished}
 
--- the bytes of so many full frames of a payload, of the next frame's header, and of what is there of that frame
+-- the bytes of a given number of full frames of a payload, of the next frame's header, and of what is there of that frame
 abbrev pub raw : ℕ → ℕ → ℕ → List ℕ → List ℕ → List ℕ
 raw size zero number payload head = head ++ payload
 raw size (suc full) number payload head = header size number ++ (take size payload ++ raw size full (next number) (drop size payload) head)
@@ -18,7 +18,7 @@ held r = raw most r.full r.first r.payload.items r.head.items
 abbrev pub state_of : Unfinished → ReaderState
 state_of u = record { held = held u; number = u.first; limit = u.limit }
 
--- the number of the frame after so many
+-- the number of the frame after this many
 abbrev pub number_of : ℕ → ℕ → ℕ
 number_of full first = (first + full) % 256
 
@@ -31,18 +31,18 @@ pub record IsReading (r : Unfinished) : Type 0 where
   pub within : length r.head.items ≡ 4 → length r.payload.items ≤ r.full * most + length_in r.head.items
   pub bounded : length r.payload.items ≤ r.limit
 
--- a whole header of a frame of so many bytes is there, which is the one that comes
+-- a whole header of a frame of a given number of bytes is there, which is the one that comes
 pub record IsHeader (r : Unfinished) (len : ℕ) : Type 0 where
   pub head : r.head.items ≡ header len (number_of r.full r.first)
   pub below : r.full * most + len ≤ r.limit
   pub no_longer : len ≤ most
 
--- a whole frame of so many bytes is there
+-- a whole frame of a given number of bytes is there
 pub record HasFrame (r : Unfinished) (len : ℕ) : Type 0 where
   pub header : IsHeader r len
   pub body : length r.payload.items ≡ r.full * most + len
 
--- memory of this capacity is too small for the payload with the frame that comes, of so many bytes; and for what is there of it with the larger of the input and 65536 bytes
+-- memory of this capacity is too small for the payload with the frame that comes, of a given number of bytes; and for what is there of it with the larger of the input and 65536 bytes
 pub record LacksCapacity (capacity : ℕ) (r : Unfinished) (len : ℕ) (input : List ℕ) : Type 0 where
   pub frame : capacity < r.full * most + len
   pub comes : capacity < length r.payload.items + max 65536 (length input)

@@ -1,21 +1,21 @@
-//! What can be wrong with frames.
+//! Errors of frames.
 
 ghost use Rattle.std.specs.Prelude.{◌≡◌};
 
 use std::alloc::AllocError;
 use thiserror::Error;
 
-/// Why no payload is handed out. No byte is lost: what the reader holds and what is left of the input are the same bytes as before the
-/// call, and it expects the same number. The reader may have taken some of the input.
+/// The error of a frame reader. No byte is lost: the bytes held and the rest of the input are, together, those before the call, and the
+/// expected number is the same. The reader may have taken part of the input.
 #[derive(Clone, Copy, Debug, PartialEq, Eq, Error)]
 pub enum FrameError {
-    /// Memory was refused for a payload that is joined from pieces or frames. The call may be made again, with what is left of the input.
-    #[error("memory was refused for a payload")]
+    /// An allocation failed for a payload that is joined from pieces or frames. Repeat the call with the rest of the input.
+    #[error("out of memory for a payload")]
     Memory,
-    /// A frame has another sequence number than the one that comes: whatever follows, no payload's frames begin so.
+    /// A frame has another sequence number than the expected one.
     #[error("packets are out of order")]
     OutOfOrder,
-    /// The payload is longer than the limit, as its headers say.
+    /// The payload exceeds the limit, according to its headers.
     #[error("a payload is longer than the limit")]
     TooLong,
 }

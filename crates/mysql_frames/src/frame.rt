@@ -5,17 +5,22 @@ ghost use Rattle.mysql_frames.specs.Frames.{IsFrame, most};
 
 use crate::header::{HEADER_LEN, MAX_FRAME_LEN, length_in};
 
-/// A frame, of which the content stays where it is.
+/// A frame that borrows its content.
+///
+/// ```
+/// let (frame, _rest) = next_frame(bytes)?;
+/// Some(frame.content)
+/// ```
 #[derive(Clone, Copy, Debug, PartialEq, Eq)]
 pub struct Frame<'a> {
-    /// Its sequence number.
+    /// The sequence number of the frame.
     pub sequence_id: u8,
-    /// What it has of a payload.
+    /// The part of the payload that the frame carries.
     pub content: &'a [u8],
 }
 
 impl<'a> Frame<'a> {
-    /// Whether its payload ends with it: a full frame is followed by another one, maybe of nothing.
+    /// Whether the payload ends with this frame: a full frame is followed by another, which may be empty.
     #[inline]
     pub fn is_last(&self) -> bool
         ensures value { IsTrue result ↔ (length self.now.content.now < most) }
@@ -24,10 +29,14 @@ impl<'a> Frame<'a> {
     }
 }
 
-/// The frame that the bytes begin with, and the bytes after it; none where it is not whole.
+/// Returns the frame at the front of the bytes and the bytes after it, or `None` if it is incomplete.
 ///
-/// It takes no memory. A payload is the contents of its frames, up to the one that is its last; [`FrameReader`](crate::FrameReader) joins
-/// them.
+/// It does not allocate. A payload is the contents of its frames up to the last one; [`FrameReader`](crate::FrameReader) joins them.
+///
+/// ```
+/// let (frame, _rest) = next_frame(bytes)?;
+/// Some(frame.content)
+/// ```
 #[inline]
 pub fn next_frame(bytes: &[u8]) -> Option<(Frame<'_>, &[u8])>
     ensures there { IfSome result (λ x. IsFrame x.0.sequence_id x.0.content.now bytes.now x.1.now) }

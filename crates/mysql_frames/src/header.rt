@@ -4,10 +4,10 @@ ghost use Rattle.std.specs.Prelude.{◌≡◌, ◌+◌, ◌≤◌, ◌<◌, ◌+
 ghost use Rattle.mysql_frames.specs.FrameHeader.{length_in};
 ghost use Rattle.mysql_frames.specs.Frames as spec;
 
-/// How many bytes of a payload stand in one frame, at most.
+/// The largest number of payload bytes in one frame.
 pub const MAX_FRAME_LEN: usize = 0xff_ffff;
 
-/// How many bytes a header takes.
+/// The length of a header in bytes.
 pub(crate) const HEADER_LEN: usize = 4;
 
 /// The length that a header says.
@@ -21,9 +21,13 @@ pub(crate) fn length_in(head: &[u8]) -> usize
     head[0] as usize + 256 * (head[1] as usize) + 65536 * (head[2] as usize)
 }
 
-/// The sequence number of the frame that the bytes begin with, once its header is there.
+/// Returns the sequence number of the frame at the front of the bytes, once its header is complete.
 ///
-/// Who takes up the capture of a connection amid it begins with the number that comes.
+/// A capture that starts in the middle of a connection starts with this number.
+///
+/// ```
+/// Some(sequence_id_at(bytes)?.wrapping_add(1))
+/// ```
 #[inline]
 pub fn sequence_id_at(bytes: &[u8]) -> Option<u8>
     ensures value { IfSome result (λ number. number ≡ slice_index bytes.now 3) }
@@ -32,7 +36,7 @@ pub fn sequence_id_at(bytes: &[u8]) -> Option<u8>
     bytes.get(HEADER_LEN - 1).copied()
 }
 
-/// Appends the header of a frame of so many bytes, for which there is capacity.
+/// Appends the header of a frame of a given number of bytes, for which there is capacity.
 #[inline(always)]
 pub(crate) fn push_header(out: &mut Vec<u8>, len: usize, number: u8)
     requires len { len ≤ 0xffffff }

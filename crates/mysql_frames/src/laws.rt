@@ -4,15 +4,14 @@ ghost use Rattle.std.specs.Prelude.{◌≡◌, ℕ, List, [], ◌∷◌, ◌++�
 ghost use Rattle.mysql_frames.specs.Frames.{Framed, Stream};
 ghost use Rattle.mysql_frames.specs.FrameReader.{NoneWhole, ReaderState, ShowsOutOfOrder, ShowsTooLong};
 
-/// Up to a rest in which there is no payload, bytes are the frames of one list of payloads: so it doesn't matter in which
-/// pieces they come.
+/// Bytes that end with an incomplete payload are the frames of exactly one list of payloads, whatever pieces they arrive in.
 #[tactic(auto, using(crate::proofs::Streams::stream_once))]
 pub fn a_stream_is_one_list_of_payloads()
     ensures { (number : ℕ) (ps qs : List (List ℕ)) (a b : ℕ) (bytes r s : List ℕ)
         → Stream number ps a bytes r → Stream number qs b bytes s → NoneWhole a r → NoneWhole b s → (ps ≡ qs) × (a ≡ b) × (r ≡ s) }
 {}
 
-/// A payload whose frames follow, as more bytes come, is one more of the stream.
+/// If more bytes complete a payload, the stream has one payload more.
 #[tactic(auto, using(crate::proofs::Streams::stream_more, crate::proofs::Streams::stream_then))]
 pub fn a_stream_goes_on()
     ensures bytes { (number : ℕ) (payloads : List (List ℕ)) (after : ℕ) (bytes rest more : List ℕ) → Stream number payloads after bytes rest → Stream number payloads after (bytes ++ more) (rest ++ more) }

@@ -1,12 +1,12 @@
-//! Frames: how payloads stand in the stream of bytes between a client and a server.
+//! Frames: how payloads are transmitted in the byte stream between a client and a server.
 //!
-//! A payload is sent in frames of at most 16,777,215 bytes, each after a header of four: its length in three, little-endian, and the
-//! sequence number. A payload of 16,777,215 bytes or more goes on in the next frame, and ends with a shorter one, which may be empty.
-//! The protocol's pages call a frame a packet, as they call what is sent in it.
+//! A payload is sent in frames of at most 16,777,215 bytes. Each has a header of four bytes: the length in three, little-endian, and the
+//! sequence number. A payload of 16,777,215 bytes or more continues in the next frame, and ends with a shorter one, which may be empty.
+//! The protocol's pages call both a frame and its payload a packet.
 //!
-//! [`FrameReader`] takes a stream in any pieces and hands out its payloads; [`write_packet`] and [`write_frames`] append frames to a
-//! buffer. There is no IO in it, and both count numbers on: they begin anew at 0 with each command of a client, and go on from side to
-//! side within its exchange, so whoever drives them says by [`FrameReader::expect`] which number comes.
+//! [`FrameReader`] takes a stream in pieces of any size and returns its payloads; [`write_packet`] and [`write_frames`] append frames to a
+//! buffer. None of them does I/O. Sequence numbers restart at 0 with each command of a client and continue from side to side within its
+//! exchange, so the caller sets the expected number with [`FrameReader::expect`].
 #![tactic(auto)]
 
 mod error;

@@ -1,4 +1,4 @@
-//! Payloads out of a stream of bytes that comes in any pieces.
+//! Payloads from a byte stream that arrives in pieces of any size.
 
 ghost use Rattle.std.specs.Prelude.{◌≡◌, ◌↔◌, ◌≤◌, ◌<◌, ◌⊎◌, [], ◌++◌, length, slice_index, IfOk, OnErr, IfSome, IfNone, IsTrue, IsErrOf, IsOk, List, ℕ, ◌+◌, ◌*◌, ◌/◌};
 ghost use Rattle.std.specs.Cow.{cow_slice_items};
@@ -11,13 +11,22 @@ use std::alloc::Global;
 use std::borrow::CowSlice;
 use std::marker::Model;
 
-/// Takes a stream of bytes in any pieces, and hands out its payloads.
+/// Finds payloads in a byte stream that arrives in pieces of any size.
 ///
-/// Which pieces a stream comes in changes nothing: up to its last whole payload it is the frames of one list of payloads
-/// ([`a_stream_is_one_list_of_payloads`](crate::laws::a_stream_is_one_list_of_payloads)), and these are handed out.
+/// The pieces make no difference: a stream has one list of payloads, however it is cut
+/// ([`a_stream_is_one_list_of_payloads`](crate::laws::a_stream_is_one_list_of_payloads)).
 ///
-/// In a clause it is the bytes that it holds of a payload that is not whole, the sequence number of that payload's first frame, and the
-/// limit of payloads.
+/// In a clause it is the bytes held of an incomplete payload, the sequence number of that payload's first frame, and the limit of a
+/// payload's length.
+///
+/// ```
+/// let mut frames = FrameReader::new(alloc, 1 << 24);
+/// if let Some(payload) = frames.read(&mut input)? {
+///     // the next payload of a stream, whose bytes come in any pieces
+///     session(out, alloc, payload.as_slice())?;
+///     frames.recycle(payload);
+/// }
+/// ```
 #[derive(Drop)]
 pub struct FrameReader {
     unfinished: Unfinished,
@@ -35,7 +44,7 @@ impl Model for FrameReader {
 }
 
 impl FrameReader {
-    /// A reader of a stream of which no byte has come, for payloads of at most `limit` bytes. The first frame has the number 0.
+    /// Creates a reader at the start of a stream, for payloads of at most `limit` bytes. It expects sequence number 0.
     pub fn new(alloc: Global, limit: usize) -> Self
         ensures held { result.held ≡ [] }
         ensures number { result.number ≡ 0 }
@@ -46,10 +55,10 @@ impl FrameReader {
         }
     }
 
-    /// Says which number the next frame has. What is held of a payload that is not whole is let go.
+    /// Sets the sequence number of the next frame. An incomplete payload is dropped.
     ///
-    /// Numbers begin anew at 0 with each command, and both sides count them on within its exchange: after a packet was sent, the
-    /// answer's number is the one that [`write_packet`](crate::write_packet) gave.
+    /// Numbers restart at 0 with each command, and continue from side to side within its exchange: the reply to a packet has the
+    /// number that [`write_packet`](crate::write_packet) returned.
     pub fn expect(&mut self, number: u8)
         ensures held { self.new.held ≡ [] }
         ensures number { self.new.number ≡ number }
@@ -58,22 +67,22 @@ impl FrameReader {
         self.unfinished.expect(number);
     }
 
-    /// Says that the next frame has the number that it was sent with, where its header is not there yet: what is held of it and the
-    /// input, which is what comes next, have that. It takes nothing of the input.
+    /// Expects the sequence number of the next frame, which is read from its header in the bytes held and the input. If the
+    /// header is incomplete, nothing changes. No input is consumed.
     ///
-    /// Who watches a connection calls it before each [`read`](Self::read), since each command begins the numbers anew.
+    /// A proxy or recorder calls it before each [`read`](Self::read), since the numbers restart with each command.
     #[inline]
-    pub fn expect_as_sent(&mut self, input: &[u8])
+    pub fn resync_sequence(&mut self, input: &[u8])
         ensures held { self.new.held ≡ self.old.held }
         ensures number { length self.old.held < 4 → 4 ≤ length (self.old.held ++ input.now) → self.new.number ≡ slice_index (self.old.held ++ input.now) 3 }
         // In the middle of a payload, and where the header is not there even with the input, the number stays.
         ensures same { (4 ≤ length self.old.held) ⊎ (length (self.old.held ++ input.now) < 4) → self.new.number ≡ self.old.number }
         ensures limit { self.new.limit ≡ self.old.limit }
     {
-        self.unfinished.expect_as_sent(input);
+        self.unfinished.resync_sequence(input);
     }
 
-    /// The sequence number of the payload's first frame: of the next one that comes, where nothing is held.
+    /// Returns the sequence number of the first frame of the payload that is being read, or of the next one.
     #[inline]
     pub fn number(&self) -> u8
         ensures { result ≡ self.now.number }
@@ -81,7 +90,7 @@ impl FrameReader {
         self.unfinished.first
     }
 
-    /// Whether no byte of the next payload has come.
+    /// Whether no byte of the next payload has been read.
     #[inline(always)]
     pub fn is_between(&self) -> bool
         ensures { IsTrue result ↔ (self.now.held ≡ []) }
@@ -89,19 +98,23 @@ impl FrameReader {
         self.unfinished.is_between()
     }
 
-    /// Takes the input up to the end of the next payload, and hands that out; or takes all of the input, where the payload is not
-    /// whole yet.
+    /// Returns the next payload, and takes the input up to its end; or takes all of the input and returns `None` if the payload is
+    /// incomplete.
     ///
-    /// A payload that lies whole in one frame of the input is handed out where it lies, and takes no memory. Any other is joined in the
-    /// reader's own memory, which [`give_back`](Self::give_back) takes back. A refusal loses nothing: the call may be made again.
+    /// A payload in a single frame of the input is borrowed from the input, without allocating. Any other is joined in the reader's own
+    /// buffer, which [`recycle`](Self::recycle) takes back. An error loses no byte, and the call can be repeated.
     ///
-    /// `OutOfOrder` and `TooLong` are returned as soon as the header that shows them is complete, and a frame out of order is never `TooLong`.
+    /// # Errors
+    ///
+    /// `OutOfOrder` if a frame has an unexpected sequence number, `TooLong` if the payload exceeds the limit: each as soon as
+    /// the header that shows it is complete, and `OutOfOrder` first. `Memory` if joining needs memory and the allocation fails.
     ///
     /// ```
-    /// let mut input = bytes_that_came;
-    /// while let Some(payload) = reader.read(&mut input)? {
-    ///     // .. a packet
-    ///     reader.give_back(payload);
+    /// let mut frames = FrameReader::new(alloc, 1 << 24);
+    /// if let Some(payload) = frames.read(&mut input)? {
+    ///     // the next payload of a stream, whose bytes come in any pieces
+    ///     session(out, alloc, payload.as_slice())?;
+    ///     frames.recycle(payload);
     /// }
     /// ```
     #[inline]
@@ -137,9 +150,9 @@ impl FrameReader {
         self.unfinished.read(input)
     }
 
-    /// Takes back the memory of a payload that was handed out, so that payloads to come are joined there.
+    /// Takes back the buffer of a returned payload, to join later payloads in it.
     #[inline(always)]
-    pub fn give_back(&mut self, payload: CowSlice<'_, u8>)
+    pub fn recycle(&mut self, payload: CowSlice<'_, u8>)
         ensures { self.new ≡ self.old }
     {
         if let CowSlice::Owned(buffer) = payload {

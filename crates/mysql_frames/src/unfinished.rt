@@ -11,10 +11,10 @@ use std::alloc::{AllocError, Global};
 use std::borrow::CowSlice;
 use std::mem;
 
-/// How many bytes memory is taken for before they come, at most.
+/// The most memory that is reserved for bytes that haven't arrived.
 const AT_ONCE: usize = 65536;
 
-/// Moves what is missing from the input's front to the end of `into`, as far as it is there.
+/// Moves up to `missing` bytes from the front of the input to the end of `into`.
 fn fill(into: &mut Vec<u8>, input: &mut &[u8], missing: usize) -> Result<bool, AllocError>
     ensures moved { (moved : List ℕ) × (into.new.items ≡ into.old.items ++ moved) × (input.old.now ≡ moved ++ input.new.now) }
     ensures done { IfOk result (λ done. (IsTrue done → length into.new.items ≡ length into.old.items + missing)
@@ -38,7 +38,7 @@ fn fill(into: &mut Vec<u8>, input: &mut &[u8], missing: usize) -> Result<bool, A
     Ok(front.len() == missing)
 }
 
-/// Moves what is missing of a header from the input's front to the end of `into`, as far as it is there.
+/// Moves the rest of a header from the front of the input to the end of `into`, or as much of it as there is.
 fn fill_header(into: &mut ArrayVec<u8, HEADER_LEN>, input: &mut &[u8]) -> bool
     requires { length into.old.items ≤ 4 }
     ensures moved { (moved : List ℕ) × (into.new.items ≡ into.old.items ++ moved) × (input.old.now ≡ moved ++ input.new.now) }
@@ -52,7 +52,7 @@ fn fill_header(into: &mut ArrayVec<u8, HEADER_LEN>, input: &mut &[u8]) -> bool
     front.len() == missing
 }
 
-/// A payload that lies whole in one frame at the front of the input, and what follows it.
+/// A payload in a single frame at the front of the input, and the input after it.
 #[inline(always)]
 fn whole_at(limit: usize, number: u8, input: &[u8]) -> Option<(&[u8], &[u8])>
     ensures framed { IfSome result (λ found. spec.Framed number found.0.now (spec.next number) input.now found.1.now) }
@@ -70,18 +70,18 @@ fn whole_at(limit: usize, number: u8, input: &[u8]) -> Option<(&[u8], &[u8])>
     Some(input[HEADER_LEN..].split_at(len))
 }
 
-/// The frames of a payload, as far as they came. No header is kept but that of the frame that is not whole.
+/// A payload whose frames haven't all arrived. Of the headers, only an incomplete one is kept.
 #[derive(Drop)]
 pub struct Unfinished {
     alloc: Global,
     pub(crate) limit: usize,
     /// The number of the payload's first frame.
     pub(crate) first: u8,
-    /// How many full frames of the payload were read.
+    /// The number of full frames that were read.
     full: usize,
-    /// What is there of the next frame's header.
+    /// The bytes of an incomplete header.
     head: ArrayVec<u8, HEADER_LEN>,
-    /// What is there of the payload.
+    /// The bytes of the payload so far.
     payload: Vec<u8>,
 }
 
@@ -89,7 +89,7 @@ impl Unfinished {
     ghost use Rattle.mysql_frames.specs.FrameReader.{AllLonger, BeginsInOrder, HandsOut, HoldsAll, Keeps, LacksPart, NoneWhole, ShowsNoFault, ShowsOutOfOrder, ShowsTooLong};
     ghost use Rattle.mysql_frames.specs.Unfinished.{HasFrame, IsHeader, IsReading, LacksCapacity, held, number_of, state_of};
 
-    /// Nothing has come. The first frame has the number 0.
+    /// No byte has arrived. The first frame has the number 0.
     pub(crate) fn new(alloc: Global, limit: usize) -> Self
         ensures reading { IsReading result }
         ensures held { held result ≡ [] }
@@ -119,8 +119,8 @@ impl Unfinished {
         self.payload.clear();
     }
 
-    /// The next frame has the number that its header says, as far as what came of it and the input have that.
-    pub(crate) fn expect_as_sent(&mut self, input: &[u8])
+    /// Takes the next frame's number from its header, if the bytes held and the input have it.
+    pub(crate) fn resync_sequence(&mut self, input: &[u8])
         requires { IsReading self.old }
         ensures reading { IsReading self.new }
         ensures held { held self.new ≡ held self.old }
@@ -143,7 +143,7 @@ impl Unfinished {
         self.first.wrapping_add((self.full % 256) as u8)
     }
 
-    /// Whether no byte has come.
+    /// Whether no byte has arrived.
     #[inline(always)]
     #[tactic(auto, using(crate::proofs::Held::nothing_held, crate::proofs::Held::held_nothing))]
     pub(crate) fn is_between(&self) -> bool
@@ -153,7 +153,7 @@ impl Unfinished {
         self.full == 0 && self.head.is_empty()
     }
 
-    /// Goes on with a header as far as the input has it. Whether it is whole.
+    /// Continues a header from the input. Returns whether it is complete.
     fn fill_head(&mut self, input: &mut &[u8]) -> bool
         requires { IsReading self.old }
         ensures reading { IsReading self.new }
@@ -170,7 +170,7 @@ impl Unfinished {
         fill_header(&mut self.head, input)
     }
 
-    /// The length of the frame with this header, which is the one that comes.
+    /// The length in this header, which is that of the next frame.
     fn length(&self) -> Result<usize, FrameError>
         requires reading { IsReading self.now }
         requires whole { length self.now.head.items ≡ 4 }
@@ -193,7 +193,7 @@ impl Unfinished {
         Ok(len)
     }
 
-    /// Goes on with a frame of so many bytes as far as the input has it. Whether it is whole.
+    /// Continues a frame of `len` bytes from the input. Returns whether it is complete.
     fn fill_body(&mut self, input: &mut &[u8], len: usize) -> Result<bool, AllocError>
         requires reading { IsReading self.old }
         requires header { IsHeader self.old len }
@@ -213,7 +213,7 @@ impl Unfinished {
         fill(&mut self.payload, input, missing)
     }
 
-    /// Goes on with a frame as far as the input has it. `Some` of its length: the frame is whole.
+    /// Continues a frame from the input. Returns its length once it is complete.
     fn frame(&mut self, input: &mut &[u8]) -> Result<Option<usize>, FrameError>
         requires { IsReading self.old }
         ensures reading { IsReading self.new }
@@ -302,7 +302,7 @@ impl Unfinished {
         }
     }
 
-    /// The same, and a payload that lies whole in one frame of the input is handed out there.
+    /// Reads the next payload. One that arrives in a single frame of the input is returned in place.
     #[inline]
     #[tactic(auto, using(crate::proofs::Shown::held_bounded))]
     pub(crate) fn read<'a>(
@@ -340,7 +340,7 @@ impl Unfinished {
         }
     }
 
-    /// Keeps a block of memory for payloads to come, where it has none in use.
+    /// Keeps a block of memory for later payloads, if none is in use.
     #[inline(never)]
     pub(crate) fn keep(&mut self, buffer: Vec<u8>)
         requires { IsReading self.old }

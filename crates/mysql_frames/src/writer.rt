@@ -30,7 +30,7 @@ fn push_frame(out: &mut Vec<u8>, number: u8, part: &[u8])
     *out = taken;
 }
 
-/// The same as [`write_frames`], of a payload of any length.
+/// Writes a payload of any length in frames, as [`write_frames`] does.
 #[inline(never)]
 fn write_long(out: &mut Vec<u8>, number: u8, payload: &[u8]) -> Result<u8, AllocError>
     ensures framed { IfOk result (λ after. AppendsFrames number payload.now after out.old.items out.new.items) }
@@ -52,9 +52,14 @@ fn write_long(out: &mut Vec<u8>, number: u8, payload: &[u8]) -> Result<u8, Alloc
     Ok(number.wrapping_add(1))
 }
 
-/// Appends the frames of a payload, of which the first has this number, and answers the number after them.
+/// Appends a payload in frames, starting with this sequence number, and returns the number after the last one.
 ///
-/// The buffer grows once, and never shrinks. A refusal leaves it as it was, its capacity too, and comes only where that lacks.
+/// The buffer grows at most once and never shrinks. On an error it is unchanged, including its capacity; an error occurs only
+/// if the capacity is too small.
+///
+/// ```
+/// Ok(write_frames(out, number, payload)?)
+/// ```
 #[inline]
 pub fn write_frames(out: &mut Vec<u8>, number: u8, payload: &[u8]) -> Result<u8, AllocError>
     ensures framed { IfOk result (λ after. AppendsFrames number payload.now after out.old.items out.new.items) }
@@ -71,7 +76,7 @@ pub fn write_frames(out: &mut Vec<u8>, number: u8, payload: &[u8]) -> Result<u8,
     Ok(number.wrapping_add(1))
 }
 
-/// The same as [`write_packet`], of a packet that takes several frames: it is written apart first.
+/// Writes a packet that needs several frames, as [`write_packet`] does: it is serialized apart first.
 #[inline(never)]
 fn write_long_packet<P: MySerialize>(
     out: &mut Vec<u8>,
@@ -88,10 +93,14 @@ fn write_long_packet<P: MySerialize>(
     write_long(out, number, payload.as_slice())
 }
 
-/// Appends a packet in its frames, of which the first has this number, and answers the number after them.
+/// Appends a packet in frames, starting with this sequence number, and returns the number after the last one.
 ///
-/// The packet is written after its header, where it stays: nothing is copied, unless it takes several frames. The buffer grows once, and
-/// never shrinks. A refusal leaves it as it was, its capacity too; a packet of one frame is refused only where the buffer lacks capacity.
+/// A packet that fits in one frame is written in place, without a copy. The buffer grows at most once and never shrinks. On an
+/// error it is unchanged, including its capacity; for a packet of one frame, an error occurs only if the capacity is too small.
+///
+/// ```
+/// Ok(write_packet(out, number, packet)?)
+/// ```
 #[inline]
 #[tactic(auto, unfolding(mysql_wire::specs::Writing::saturated))]
 pub fn write_packet<P: MySerialize>(

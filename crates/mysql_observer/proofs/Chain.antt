@@ -5,11 +5,11 @@ use Rattle.mysql_conversation.specs.Agreements.{Agreed}
 use Rattle.mysql_conversation.specs.Pipelined.{Numbered, is_client, is_command}
 use Rattle.mysql_conversation.specs.Conversation.{commands}
 use Rattle.mysql_conversation.specs.Session.{Before, IsLoggedIn, IsLoggedInAmong}
-use Rattle.mysql_conversation.specs.declared.kind.Kind.TheVariants as kind
+use Rattle.mysql_conversation.specs.declared.packet_kind.PacketKind.TheVariants as kind
 use Rattle.mysql_conversation.specs.declared.session.Phase.TheVariants as phase
 use Rattle.mysql_conversation.proofs.Sessions.{more_of, logs_in_later}
 use Rattle.mysql_statements.specs.declared.limits.StatementLimits.{StatementLimits}
-use Rattle.mysql_statements.specs.declared.limits.EarlyLimits.{EarlyLimits}
+use Rattle.mysql_statements.specs.declared.limits.PipelinedLimits.{PipelinedLimits}
 use Rattle.mysql_observer.specs.Observed.{IsTrackedAs, AreTracked}
 use Rattle.mysql_observer.specs.Order.{Step, items_of, step_after, after_steps, AreEarlyAfter}
 use Rattle.mysql_observer.specs.PacketContext.{IsEarly}
@@ -47,10 +47,10 @@ and_false false e = absurd cc
 no_command : (a : Agreed) (front : List Numbered) (x : Numbered) → IsLoggedIn a front x → is_command x.packet ≡ true → ⊥
 no_command a front x l e = and_false (is_client x.packet.from) (subst (λ k. (is_client x.packet.from && commands k) ≡ true) l.4.0.1 e)
 
-login_changes_nothing : (a : Agreed) (n : ℕ) (p : List ℕ) (limits : StatementLimits) (waiting : EarlyLimits) → tracked_after true false a kind.Login n p (nothing limits waiting) ≡ nothing limits waiting
+login_changes_nothing : (a : Agreed) (n : ℕ) (p : List ℕ) (limits : StatementLimits) (waiting : PipelinedLimits) → tracked_after true false a kind.Login n p (nothing limits waiting) ≡ nothing limits waiting
 login_changes_nothing a n p limits waiting = refl
 
-at_login : (a : Agreed) (front : List Numbered) (x : Numbered) (limits : StatementLimits) (waiting : EarlyLimits) (next : Tracked) (early : Bool) → IsLoggedIn a front x → IsEarly early front x
+at_login : (a : Agreed) (front : List Numbered) (x : Numbered) (limits : StatementLimits) (waiting : PipelinedLimits) (next : Tracked) (early : Bool) → IsLoggedIn a front x → IsEarly early front x
     → IsTrackedAs true early front x (nothing limits waiting) next → next ≡ nothing limits waiting
 at_login a front x limits waiting next true l e h = absurd (no_command a front x l e.0)
 at_login a front x limits waiting next false l e (inl h) =
@@ -59,14 +59,14 @@ at_login a front x limits waiting next false l e (inr h) = absurd (h.0 a (front,
 
 -- ---- before it
 
-before_login : (items : List Numbered) (x : Numbered) (limits : StatementLimits) (waiting : EarlyLimits) (next : Tracked) (early : Bool) → ((a : Agreed) → IsLoggedInAmong a (items ++ x ∷ []) → ⊥)
+before_login : (items : List Numbered) (x : Numbered) (limits : StatementLimits) (waiting : PipelinedLimits) (next : Tracked) (early : Bool) → ((a : Agreed) → IsLoggedInAmong a (items ++ x ∷ []) → ⊥)
     → IsTrackedAs true early items x (nothing limits waiting) next → next ≡ nothing limits waiting
 before_login items x limits waiting next early none (inl h) = absurd (none h.0 h.1)
 before_login items x limits waiting next early none (inr h) = h.1
 
 -- ---- all of it
 
-chain_by : (a : Agreed) (server : Agreed) (tls : Bool) (front : List Numbered) (x : Numbered) (rest : List Numbered) (limits : StatementLimits) (waiting : EarlyLimits) (f : Tracked)
+chain_by : (a : Agreed) (server : Agreed) (tls : Bool) (front : List Numbered) (x : Numbered) (rest : List Numbered) (limits : StatementLimits) (waiting : PipelinedLimits) (f : Tracked)
     → Before server tls front → IsLoggedIn a front x → AreTracked [] (front ++ x ∷ rest) (nothing limits waiting) f
     → (steps : List Step) × (items_of steps ≡ rest) × AreEarlyAfter (front ++ x ∷ []) steps × (f ≡ after_steps a steps (nothing limits waiting))
 chain_by a server false front x rest limits waiting f b l h =
@@ -92,7 +92,7 @@ chain_by a server true front x rest limits waiting f b l h =
     let r = tracked_after_login a (u ∷ v ∷ []) x [] rest (nothing limits waiting) f l' (subst (λ t. AreTracked (u ∷ v ∷ x ∷ []) rest t f) e3 i.2) in
     (r.0, r.1, subst (λ fs. AreEarlyAfter (fs ++ x ∷ []) r.0) (sym b.2) r.2, r.3)
 
-pub chain_of_steps : (a : Agreed) (front : List Numbered) (x : Numbered) (rest : List Numbered) (limits : StatementLimits) (waiting : EarlyLimits) (f : Tracked)
+pub chain_of_steps : (a : Agreed) (front : List Numbered) (x : Numbered) (rest : List Numbered) (limits : StatementLimits) (waiting : PipelinedLimits) (f : Tracked)
     → IsLoggedIn a front x → AreTracked [] (front ++ x ∷ rest) (nothing limits waiting) f
     → (steps : List Step) × (items_of steps ≡ rest) × AreEarlyAfter (front ++ x ∷ []) steps × (f ≡ after_steps a steps (nothing limits waiting))
 chain_of_steps a front x rest limits waiting f l h = chain_by a l.0 l.2 front x rest limits waiting f l.3 l h

@@ -10,7 +10,7 @@ use Rattle.mysql_conversation.specs.Agreements.{Agreed, deprecates_eof}
 use Rattle.mysql_conversation.specs.Conversation.{ending}
 use Rattle.mysql_conversation.specs.Payloads.{IsOk, IsEnd, IsOldEnd, EndsWith, SpelledWith, terminator_form, old_end_form, IsCount, IsPrepared}
 use Rattle.mysql_conversation.specs.SessionSteps.{greeting_in, greeting_at}
-use Rattle.mysql_conversation.specs.declared.kind.Kind.TheVariants as kind
+use Rattle.mysql_conversation.specs.declared.packet_kind.PacketKind.TheVariants as kind
 use Rattle.mysql_observer.specs.Read.{IsRead}
 use Rattle.mysql_observer.specs.declared.read_context.ReadContext.{ReadContext}
 use Rattle.mysql_observer.specs.declared.server.ServerPacket.TheVariants as variant

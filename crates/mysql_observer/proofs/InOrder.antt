@@ -5,7 +5,7 @@ use Rattle.std.proofs.lemmas.List.{append-nil}
 use Rattle.mysql_conversation.specs.Agreements.{Agreed}
 use Rattle.mysql_conversation.specs.Pipelined.{Numbered}
 use Rattle.mysql_statements.specs.After.{after}
-use Rattle.mysql_statements.specs.Early.{Command, has_place, command}
+use Rattle.mysql_statements.specs.PipelinedCommands.{Command, has_place, command}
 use Rattle.mysql_statements.specs.Table.{Table}
 use Rattle.mysql_observer.specs.Tracked.{Tracked, command_taken, table_served, left_waiting, tracked_after, taken, held}
 use Rattle.mysql_observer.specs.Order.{up_to, tables_after, Step, items_of, IsCommand, IsNext, at_after, at_last, AreOrderly, step_after, after_steps, HavePlaces}

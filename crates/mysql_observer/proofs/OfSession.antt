@@ -3,7 +3,7 @@ use Rattle.std.proofs.Common.{Bool, true, false, List, [], ◌∷◌, ◌++◌, 
 use Rattle.mysql_conversation.specs.Agreements.{Agreed}
 use Rattle.mysql_conversation.specs.Pipelined.{Numbered}
 use Rattle.mysql_conversation.specs.Session.{IsSession, IsSessionBeginning, IsLoggedIn}
-use Rattle.mysql_conversation.specs.declared.kind.Opening.TheVariants.{Login}
+use Rattle.mysql_conversation.specs.declared.packet_kind.InitialPhase.TheVariants.{Login}
 use Rattle.mysql_conversation.specs.Standing.{Steps, start}
 use Rattle.mysql_conversation.proofs.Runs.{part}
 use Rattle.mysql_conversation.proofs.Sessions.{session_rest, more_of}

@@ -3,12 +3,12 @@ use Rattle.std.proofs.Common.{◌≡◌, ◌⊎◌, ℕ, ◌+◌, ◌<◌, ◌�
 use Rattle.std.proofs.lemmas.Bool.{cases_Bool}
 use Rattle.mysql_conversation.specs.Agreements.{Agreed}
 use Rattle.mysql_conversation.specs.Conversation.{commands, answering, code_of}
-use Rattle.mysql_conversation.specs.Machine.{take_step, rests, is_idle, is_due}
+use Rattle.mysql_conversation.specs.Machine.{take_step, rests, is_rest, is_due}
 use Rattle.mysql_conversation.specs.Pipelined.{Numbered, is_client, is_command}
 use Rattle.mysql_conversation.specs.Standing.{Standing, standing, known, command_of, kind_of, begin, wait, settle, push, pipe_step, Steps, PipeRun}
-use Rattle.mysql_conversation.specs.declared.kind.Kind.{Kind}
-use Rattle.mysql_conversation.specs.declared.kind.Kind.TheVariants as kind
-use Rattle.mysql_conversation.specs.declared.kind.Side.TheVariants.{Client, Server}
+use Rattle.mysql_conversation.specs.declared.packet_kind.PacketKind.{PacketKind}
+use Rattle.mysql_conversation.specs.declared.packet_kind.PacketKind.TheVariants as kind
+use Rattle.mysql_conversation.specs.declared.packet_kind.Side.TheVariants.{Client, Server}
 use Rattle.mysql_conversation.specs.declared.state.State.{State}
 use Rattle.mysql_conversation.specs.declared.state.Answer.{Answer}
 use Rattle.mysql_conversation.specs.declared.state.Command.{Command}
@@ -20,7 +20,7 @@ use Rattle.mysql_conversation.proofs.States.{Turn, turn, due_runs, running_idle,
 use Rattle.mysql_conversation.proofs.Turns.{kind_is_command}
 use Rattle.mysql_conversation.specs.Pipelined.{IsPipelined}
 use Rattle.mysql_conversation.specs.Standing.{start}
-use Rattle.mysql_conversation.specs.declared.kind.Opening.{Opening}
+use Rattle.mysql_conversation.specs.declared.packet_kind.InitialPhase.{InitialPhase}
 use Rattle.mysql_conversation.proofs.Runs.{join, once}
 use Rattle.mysql_conversation.proofs.Stood.{pipelined_runs}
 use Rattle.mysql_conversation.proofs.Stood.{one_standing}
@@ -41,7 +41,7 @@ ascend_more i l (n ∷ q) c h = (h.0, ascend_more n.number l q c h.1)
 
 settle_up : (m : State) (i l : ℕ) (q : List Waiting) → AscendTo i q l → (i ≤ (settle m i l q).number) × AscendTo (settle m i l q).number (settle m i l q).waiting l
 settle_up m i l [] h = (omega arith, h)
-settle_up m i l (n ∷ q) h = elim (cases_Bool (is_idle m)) [
+settle_up m i l (n ∷ q) h = elim (cases_Bool (is_rest m)) [
   | inl e ↦ rw e (let r = settle_up (begin n.command) n.number l q h.1 in let k = r.0 in let j = h.0 in (omega (arith, k, j), r.1))
   | inr e ↦ rw e (omega arith, h)
 ]
@@ -112,7 +112,7 @@ known_code : (code : ℕ) (r : Option Answer) (c : Command) → known code r ≡
 known_code code None c e = absurd cc
 known_code code (Some a) c e = ap (λ (o : Command). o.code) (some_is e)
 
-command_in : (p : List ℕ) (c : Command) (k : Kind) → command_of p ≡ Some c → kind_of c ≡ k → k ≡ kind.Command (code_of p)
+command_in : (p : List ℕ) (c : Command) (k : PacketKind) → command_of p ≡ Some c → kind_of c ≡ k → k ≡ kind.Command (code_of p)
 command_in p c k e h = sym h ∙ ap (λ n. kind.Command n) (sym (known_code (code_of p) (answering (code_of p) (asks_cursor p)) c e))
 
 -- the exchange of a command begins, or it waits
@@ -207,21 +207,21 @@ are_orderly d at last w t (s ∷ ss) h l f =
 
 -- ---- by the grammar
 
-early_flag : (a : Agreed) (o : Opening) (b : Bool) (before : List Numbered) (x : Numbered) → IsEarlyIn a o b before x → b ≡ true → is_command x.packet ≡ true
+early_flag : (a : Agreed) (o : InitialPhase) (b : Bool) (before : List Numbered) (x : Numbered) → IsEarlyIn a o b before x → b ≡ true → is_command x.packet ≡ true
 early_flag a o true before x h e = h.0
 early_flag a o false before x h e = absurd cc
 
-turn_flag : (a : Agreed) (o : Opening) (b : Bool) (before : List Numbered) (x : Numbered) (w : Standing) → IsEarlyIn a o b before x → (IsPipelined a o before → Over w)
+turn_flag : (a : Agreed) (o : InitialPhase) (b : Bool) (before : List Numbered) (x : Numbered) (w : Standing) → IsEarlyIn a o b before x → (IsPipelined a o before → Over w)
     → b ≡ false → (is_command x.packet ≡ false) ⊎ Over w
 turn_flag a o true before x w h f e = absurd cc
 turn_flag a o false before x w (inl c) f e = inl c
 turn_flag a o false before x w (inr p) f e = inr (f p)
 
-is_over : (a : Agreed) (o : Opening) (before : List Numbered) (w : Standing) → PipeRun a (start o) before w → IsPipelined a o before → Over w
+is_over : (a : Agreed) (o : InitialPhase) (before : List Numbered) (w : Standing) → PipeRun a (start o) before w → IsPipelined a o before → Over w
 is_over a o before w run p =
     let r = pipelined_runs a o before p in subst (λ t. Over t) (once (Steps a) (one_standing a) (start o) before r.0 w r.1 run) r.2
 
-flagged : (a : Agreed) (o : Opening) (before : List Numbered) (w t : Standing) (steps : List Step) → PipeRun a (start o) before w → PipeRun a w (items_of steps) t → AreEarly a o before steps
+flagged : (a : Agreed) (o : InitialPhase) (before : List Numbered) (w t : Standing) (steps : List Step) → PipeRun a (start o) before w → PipeRun a w (items_of steps) t → AreEarly a o before steps
     → AreFlagged a w steps t
 flagged a o before w t [] run r h = r
 flagged a o before w t (s ∷ ss) run r h = (
@@ -231,6 +231,6 @@ flagged a o before w t (s ∷ ss) run r h = (
   flagged a o (before ++ s.item ∷ []) r.0 t ss (join (Steps a) (start o) before w (s.item ∷ []) r.0 run (r.0, r.1, refl)) r.2 h.1,
 )
 
-pub pipeline_orderly : (a : Agreed) (o : Opening) (steps : List Step) (t : Standing) → PipeRun a (start o) (items_of steps) t → AreEarly a o [] steps → AreOrderly 0 0 steps
+pub pipeline_orderly : (a : Agreed) (o : InitialPhase) (steps : List Step) (t : Standing) → PipeRun a (start o) (items_of steps) t → AreEarly a o [] steps → AreOrderly 0 0 steps
 pipeline_orderly a o steps t r h =
     are_orderly a 0 0 (start o) t steps (record { from = omega arith; ascend = omega arith; sound = ((λ d. refl), tt) }) refl (flagged a o [] (start o) t steps refl r h)

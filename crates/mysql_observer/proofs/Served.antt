@@ -2,7 +2,7 @@
 use Rattle.std.proofs.Common.{◌≡◌, ℕ, ◌<◌, ◌≤◌, Bool, true, false, nat_le, List, [], ◌∷◌, refl, sym, ap, ◌∙◌, arith, if◌then◌else◌}
 use Rattle.std.proofs.lemmas.Bool.{le-leb, leb-true}
 use Rattle.mysql_conversation.specs.Agreements.{Agreed}
-use Rattle.mysql_statements.specs.Early.{Command, FirstIsLater}
+use Rattle.mysql_statements.specs.PipelinedCommands.{Command, FirstIsLater}
 use Rattle.mysql_statements.specs.Table.{Table}
 use Rattle.mysql_observer.specs.Tracked.{command_taken, table_served, left_waiting}
 

@@ -4,10 +4,10 @@ use Rattle.std.specs.List.{filter}
 use Rattle.mysql_conversation.specs.Agreements.{Agreed}
 use Rattle.mysql_conversation.specs.Conversation.{code_of}
 use Rattle.mysql_conversation.specs.Pipelined.{Numbered, is_command, IsPipelined}
-use Rattle.mysql_conversation.specs.declared.kind.Kind.TheVariants as kind
-use Rattle.mysql_conversation.specs.declared.kind.Opening.{Opening}
+use Rattle.mysql_conversation.specs.declared.packet_kind.PacketKind.TheVariants as kind
+use Rattle.mysql_conversation.specs.declared.packet_kind.InitialPhase.{InitialPhase}
 use Rattle.mysql_statements.specs.After.{after}
-use Rattle.mysql_statements.specs.Early.{has_place}
+use Rattle.mysql_statements.specs.PipelinedCommands.{has_place}
 use Rattle.mysql_statements.specs.Table.{Table}
 use Rattle.mysql_observer.specs.PacketContext.{IsEarly}
 use Rattle.mysql_observer.specs.Tracked.{Tracked, tracked_after}
@@ -41,7 +41,7 @@ items_of (s ∷ ss) = s.item ∷ items_of ss
 abbrev pub IsCommand : Numbered → Type 0
 IsCommand x = x.packet.kind ≡ kind.Command (code_of x.packet.payload)
 
--- Where the server is at an exchange, and so many commands came: a command that comes early is the next one, and another packet is of an
+-- Where the server is at an exchange, and a given number of commands came: a command that comes early is the next one, and another packet is of an
 -- exchange to which the server has come, or comes.
 abbrev pub IsNext : (is_early : Bool) → (at last : ℕ) → Numbered → Type 0
 IsNext true at last x = (x.number ≡ last + 1) × IsCommand x
@@ -76,12 +76,12 @@ HavePlaces a (s ∷ ss) f = (s.is_early ≡ true → IsTrue (has_place f.early s
 -- ---- which commands come early
 
 -- a command that comes before all that was asked for is answered
-abbrev pub IsEarlyIn : Agreed → Opening → Bool → List Numbered → Numbered → Type 0
+abbrev pub IsEarlyIn : Agreed → InitialPhase → Bool → List Numbered → Numbered → Type 0
 IsEarlyIn a o true items x = (is_command x.packet ≡ true) × (IsPipelined a o items → ⊥)
 IsEarlyIn a o false items x = (is_command x.packet ≡ false) ⊎ IsPipelined a o items
 
 -- so it is of each of these, after those before it
-abbrev pub AreEarly : Agreed → Opening → List Numbered → List Step → Type 0
+abbrev pub AreEarly : Agreed → InitialPhase → List Numbered → List Step → Type 0
 AreEarly a o items [] = Unit {0}
 AreEarly a o items (s ∷ ss) = IsEarlyIn a o s.is_early items s.item × AreEarly a o (items ++ s.item ∷ []) ss
 

@@ -10,9 +10,8 @@ use Rattle.mysql_prepared.specs.ExecuteRead.{ParamsLeft, TypedParam, IsExecution
 use Rattle.mysql_prepared.specs.declared.execute_head.ComStmtExecuteHead.{ComStmtExecuteHead}
 use Rattle.mysql_prepared.specs.declared.execute_view.BoundParam.{BoundParam}
 use Rattle.mysql_conversation.specs.Agreements.{Agreed}
-use Rattle.mysql_conversation.specs.declared.kind.Format.TheVariants.{Binary}
-use Rattle.mysql_conversation.specs.declared.kind.Kind.{Kind}
-use Rattle.mysql_conversation.specs.declared.kind.Kind.TheVariants as kind
+use Rattle.mysql_conversation.specs.declared.packet_kind.PacketKind.{PacketKind}
+use Rattle.mysql_conversation.specs.declared.packet_kind.PacketKind.TheVariants as kind
 use Rattle.mysql_wire.specs.Flags.{CapabilityFlags}
 use Rattle.mysql_observer.specs.Client.{client_packet}
 use Rattle.mysql_observer.specs.Context.{agreed_or_none}
@@ -20,43 +19,32 @@ use Rattle.mysql_observer.specs.Server.{server_packet}
 use Rattle.mysql_observer.specs.declared.read_context.ReadContext.{ReadContext}
 use Rattle.mysql_statements.specs.declared.row_column.RowColumn.{RowColumn}
 use Rattle.mysql_conversation.specs.Pipelined.{Numbered}
-use Rattle.mysql_statements.specs.Table.{columns_of_rows}
 use Rattle.mysql_observer.specs.PacketContext.{IsContext, type_of, unsigned}
 use Rattle.mysql_observer.specs.Tracked.{Tracked, Params, is_execution}
 use Rattle.mysql_observer.specs.declared.execution.Known.{Known}
-use Rattle.mysql_observer.specs.declared.record.ServerRecord.{ServerRecord}
-use Rattle.mysql_observer.specs.declared.record.ServerRecord.TheVariants as by_server
+use Rattle.mysql_observer.specs.declared.server.ServerPacket.{ServerPacket}
 use Rattle.mysql_observer.specs.declared.record.ClientRecord.{ClientRecord}
 use Rattle.mysql_observer.specs.declared.record.ClientRecord.TheVariants as by_client
 
 -- ---- of the server
 
--- a binary row whose columns are not known
-abbrev pub is_untyped : Option (List RowColumn) → Kind → Bool
-is_untyped None (kind.Row Binary) = true
-is_untyped _ _ = false
-
--- what its kind's grammar reads under the context that the packets define, the last of which it is; of a binary row whose columns are
--- not known the bytes
-abbrev pub IsServerRecord : List Numbered → Tracked → Kind → List ℕ → ServerRecord → Type 0
-IsServerRecord items f k p (by_server.Packet x) =
-    (is_untyped (columns_of_rows f.table) k ≡ false)
-    × (c : ReadContext RowColumn) × IsContext items f k p c × (rest : List ℕ) × ((server_packet type_of unsigned c k).reads p ≡ Ok (x, rest))
-IsServerRecord items f k p (by_server.Untyped bytes) = (is_untyped (columns_of_rows f.table) k ≡ true) × (bytes.now ≡ p)
+-- what its kind's grammar reads under the context that the packets define, the last of which it is
+abbrev pub IsServerPacket : List Numbered → Tracked → PacketKind → List ℕ → ServerPacket RowColumn → Type 0
+IsServerPacket items f k p x = (c : ReadContext RowColumn) × IsContext items f k p c × (rest : List ℕ) × ((server_packet type_of unsigned c k).reads p ≡ Ok (x, rest))
 
 -- the fault of that grammar
-abbrev pub IsServerFault : List Numbered → Tracked → Kind → List ℕ → FaultOf → Type 0
+abbrev pub IsServerFault : List Numbered → Tracked → PacketKind → List ℕ → FaultOf → Type 0
 IsServerFault items f k p e = (c : ReadContext RowColumn) × IsContext items f k p c × Faults false e ((server_packet type_of unsigned c k).reads p)
 
 -- ---- of the client
 
 -- it is an execution, after the login
-abbrev pub has_params : Option Agreed → Kind → Bool
+abbrev pub has_params : Option Agreed → PacketKind → Bool
 has_params None k = false
 has_params (Some a) k = is_execution k
 
 -- its parameters, where its statement is known
-abbrev pub known_params : Option Agreed → Option Params → Kind → Option Params
+abbrev pub known_params : Option Agreed → Option Params → PacketKind → Option Params
 known_params agreed ps k = if has_params agreed k then ps else None
 
 abbrev pub params_in : Known → Option Params
@@ -78,12 +66,12 @@ abbrev pub is_typed : Params → ParamsLeft → Bool
 is_typed ps view = view.sends_types || ps.is_bound || view.left == 0
 
 -- what its kind's grammar reads
-abbrev pub IsPlain : Option Agreed → Kind → List ℕ → ClientRecord → Type 0
+abbrev pub IsPlain : Option Agreed → PacketKind → List ℕ → ClientRecord → Type 0
 IsPlain agreed k p (by_client.Packet x) = (rest : List ℕ) × ((client_packet agreed k).reads p ≡ Ok (x, rest))
 IsPlain agreed k p (by_client.Execution head view) = ⊥
 
 -- what its kind's grammar reads; of an execution whose statement and types are known its parameters
-abbrev pub IsClientRecord : Option Agreed → Option Params → Kind → List ℕ → ClientRecord → Type 0
+abbrev pub IsClientRecord : Option Agreed → Option Params → PacketKind → List ℕ → ClientRecord → Type 0
 IsClientRecord agreed None k p (by_client.Packet x) = (rest : List ℕ) × ((client_packet agreed k).reads p ≡ Ok (x, rest))
 IsClientRecord agreed None k p (by_client.Execution head view) = ⊥
 IsClientRecord agreed (Some ps) k p (by_client.Packet x) =
@@ -91,6 +79,6 @@ IsClientRecord agreed (Some ps) k p (by_client.Packet x) =
 IsClientRecord agreed (Some ps) k p (by_client.Execution head view) = Stands (agreed_or_none agreed).mysql ps.params p head view × (is_typed ps view ≡ true)
 
 -- the fault of that grammar
-abbrev pub IsClientFault : Option Agreed → Option Params → Kind → List ℕ → FaultOf → Type 0
+abbrev pub IsClientFault : Option Agreed → Option Params → PacketKind → List ℕ → FaultOf → Type 0
 IsClientFault agreed None k p e = Faults false e ((client_packet agreed k).reads p)
 IsClientFault agreed (Some ps) k p e = Faults false e ((client_packet agreed k).reads p) ⊎ Faults false e ((execution (agreed_or_none agreed).mysql ps.params).reads p)

@@ -1,5 +1,5 @@
 -- A packet of the server: which grammar reads it, by its kind.
-use Rattle.std.specs.Prelude.{ℕ, Bool, List, Option, Some, None}
+use Rattle.std.specs.Prelude.{ℕ, Bool, List, Option, Some, None, option_copied}
 use Rattle.mysql_wire.specs.declared.codes.column_type.ColumnType.{ColumnType}
 use Rattle.mysql_wire.specs.Form.{Form, ◌>>=◌, all_left, map}
 use Rattle.mysql_wire.specs.Skip.{skip}
@@ -26,9 +26,9 @@ use Rattle.mysql_replies.specs.declared.ok_kind.ResultSetTerminator.{ResultSetTe
 use Rattle.mysql_replies.specs.declared.ok_packet.OkPacket.{OkPacket}
 use Rattle.mysql_replies.specs.declared.progress_report.ProgressReport.{ProgressReport}
 use Rattle.mysql_replies.specs.declared.session_capabilities.SessionCapabilities.{SessionCapabilities}
-use Rattle.mysql_conversation.specs.declared.kind.Format.TheVariants.{Text, Binary}
-use Rattle.mysql_conversation.specs.declared.kind.Kind.{Kind}
-use Rattle.mysql_conversation.specs.declared.kind.Kind.TheVariants as kind
+use Rattle.mysql_conversation.specs.declared.packet_kind.RowFormat.TheVariants.{Text, Binary}
+use Rattle.mysql_conversation.specs.declared.packet_kind.PacketKind.{PacketKind}
+use Rattle.mysql_conversation.specs.declared.packet_kind.PacketKind.TheVariants as kind
 use Rattle.mysql_observer.specs.Context.{agreed_or_none, other_side}
 use Rattle.mysql_observer.specs.declared.read_context.ReadContext.{ReadContext}
 use Rattle.mysql_observer.specs.declared.server.ServerPacket.{ServerPacket}
@@ -51,7 +51,7 @@ report_form = skip 3 >>= (λ head. progress_report.form tt)
 
 -- ---- rows, whose values are read later: each has all bytes that are left, and of a binary row the front alone is read
 
--- so many values of text
+-- a given number of values of text
 abbrev pub text_row : ℕ → Form RowLeft
 text_row columns = map (text_row_left columns) all_left
 
@@ -62,10 +62,15 @@ module _ {C : Type 0} (type_of : C → ColumnType) (unsigned : C → Bool) where
     nulls ← row_front type_of unsigned 2 columns
     map (row_left (ref_cell type_of unsigned nulls.bytes 2) 0 columns) all_left
 
+  -- a binary row under its columns; where these are unknown, the whole payload
+  abbrev pub row_under : Option (List C) → Form (ServerPacket C)
+  row_under None = map variant.UntypedRow all_left
+  row_under (Some columns) = map variant.BinaryRow (binary_row columns)
+
   -- in place of the greeting the error has a state where its bytes begin with one
-  abbrev pub unasked_error : Option SessionCapabilities → Form (ServerPacket C)
-  unasked_error None = map variant.GreetingError (greeting_error.form tt)
-  unasked_error (Some agreed) = map variant.UnaskedError (err_packet.form agreed.mysql)
+  abbrev pub unsolicited_error : Option SessionCapabilities → Form (ServerPacket C)
+  unsolicited_error None = map variant.GreetingError (greeting_error.form tt)
+  unsolicited_error (Some agreed) = map variant.UnsolicitedError (err_packet.form agreed.mysql)
 
   -- and so has one that answers what is no login
   abbrev pub asked_error : Option SessionCapabilities → Form (ServerPacket C)
@@ -74,7 +79,7 @@ module _ {C : Type 0} (type_of : C → ColumnType) (unsigned : C → Bool) where
 
   -- ---- by the kind
 
-  abbrev pub server_packet : ReadContext C → Kind → Form (ServerPacket C)
+  abbrev pub server_packet : ReadContext C → PacketKind → Form (ServerPacket C)
   server_packet c kind.Handshake = map variant.Handshake (handshake.form tt)
   server_packet c kind.AuthSwitch = map variant.AuthSwitch (auth_switch_request.form tt)
   server_packet c kind.OldAuthSwitch = map variant.OldAuthSwitch (old_auth_switch_request.form tt)
@@ -83,7 +88,7 @@ module _ {C : Type 0} (type_of : C → ColumnType) (unsigned : C → Bool) where
   server_packet c kind.AuthPluginData = map variant.AuthPluginData all_left
   server_packet c kind.Ok = map variant.Ok (ok_form (agreed_or_none c.agreed))
   server_packet c kind.Error = asked_error c.agreed
-  server_packet c kind.UnaskedError = unasked_error c.agreed
+  server_packet c kind.UnsolicitedError = unsolicited_error c.agreed
   server_packet c kind.ProgressReport = map variant.ProgressReport report_form
   server_packet c kind.LocalInfile = map variant.LocalInfile (local_infile.form tt)
   server_packet c (kind.ColumnCount n follow) = map variant.ColumnCount (column_count.form (agreed_or_none c.agreed))
@@ -92,7 +97,7 @@ module _ {C : Type 0} (type_of : C → ColumnType) (unsigned : C → Bool) where
   server_packet c kind.Eof = map variant.Eof (eof_form (agreed_or_none c.agreed))
   server_packet c kind.OkTerminator = map variant.OkTerminator (ok_terminator_form (agreed_or_none c.agreed))
   server_packet c (kind.Row Text) = map variant.TextRow (text_row c.column_count)
-  server_packet c (kind.Row Binary) = map variant.BinaryRow (binary_row c.columns.now)
+  server_packet c (kind.Row Binary) = row_under (option_copied c.columns)
   server_packet c (kind.PrepareOk columns params follow) = map variant.PrepareOk (stmt_with_metadata.form (agreed_or_none c.agreed).mysql)
   server_packet c kind.Statistics = map variant.Statistics all_left
   server_packet c kind.Clone = map variant.Clone all_left

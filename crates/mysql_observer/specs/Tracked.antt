@@ -3,16 +3,16 @@ use Rattle.std.specs.Prelude.{◌≡◌, ℕ, ◌==◌, nat_le, Bool, true, fals
 use Rattle.mysql_prepared.specs.declared.execute_view.BoundParam.{BoundParam}
 use Rattle.mysql_conversation.specs.Agreements.{Agreed}
 use Rattle.mysql_conversation.specs.Conversation.{code_of}
-use Rattle.mysql_conversation.specs.declared.kind.Kind.{Kind}
-use Rattle.mysql_conversation.specs.declared.kind.Kind.TheVariants as kind
+use Rattle.mysql_conversation.specs.declared.packet_kind.PacketKind.{PacketKind}
+use Rattle.mysql_conversation.specs.declared.packet_kind.PacketKind.TheVariants as kind
 use Rattle.mysql_statements.specs.After.{after}
 use Rattle.mysql_statements.specs.Bounds.{takes_memory}
-use Rattle.mysql_statements.specs.Early.{Command, Queue, has_place, none_waits}
-use Rattle.mysql_statements.specs.Early as early
+use Rattle.mysql_statements.specs.PipelinedCommands.{Command, Queue, has_place, none_waits}
+use Rattle.mysql_statements.specs.PipelinedCommands as early
 use Rattle.mysql_statements.specs.Kept.{Kept}
 use Rattle.mysql_statements.specs.Packets.{number_at}
 use Rattle.mysql_statements.specs.declared.limits.StatementLimits.{StatementLimits}
-use Rattle.mysql_statements.specs.declared.limits.EarlyLimits.{EarlyLimits}
+use Rattle.mysql_statements.specs.declared.limits.PipelinedLimits.{PipelinedLimits}
 use Rattle.mysql_statements.specs.Table.{Table, cleared, empty, statement_of}
 
 -- the parameters of an execution, as they are known before it, and whether an earlier execution gave them types
@@ -46,12 +46,12 @@ served a n f = record f { table = table_served a n f.early.commands f.table; ear
 
 -- ---- the parameters of an execution, before it is taken
 
-abbrev pub is_execution : Kind → Bool
+abbrev pub is_execution : PacketKind → Bool
 is_execution (kind.Command code) = code == 0x17
 is_execution _ = false
 
 -- a row says nothing of later packets
-abbrev pub is_row : Kind → Bool
+abbrev pub is_row : PacketKind → Bool
 is_row (kind.Row format) = true
 is_row _ = false
 
@@ -60,7 +60,7 @@ statement_at None t = None
 statement_at (Some id) t = statement_of id t
 
 -- the statement that a packet executes
-abbrev pub executed_by : Kind → List ℕ → Table → Option Kept
+abbrev pub executed_by : PacketKind → List ℕ → Table → Option Kept
 executed_by k p t = if is_execution k then statement_at (number_at p) t else None
 
 abbrev pub params_of : Option Kept → Option Params
@@ -84,29 +84,29 @@ held memory n p f =
     else record { table = cleared f.table; early = f.early; lost = Some n; params = None }
 
 -- another packet comes after the commands up to its exchange
-abbrev pub taken : (memory : Bool) → Agreed → Kind → ℕ → List ℕ → Tracked → Tracked
+abbrev pub taken : (memory : Bool) → Agreed → PacketKind → ℕ → List ℕ → Tracked → Tracked
 taken memory a k n p f =
     if is_lost f.lost n then record f { params = None }
     else record (served a n f) { params = params_kept memory (executed_by k p (served a n f).table); table = after memory a k p (served a n f).table }
 
 -- what is known after a packet
-abbrev pub tracked_after : (memory is_early : Bool) → Agreed → Kind → ℕ → List ℕ → Tracked → Tracked
+abbrev pub tracked_after : (memory is_early : Bool) → Agreed → PacketKind → ℕ → List ℕ → Tracked → Tracked
 tracked_after memory true a k n p f = held memory n p f
 tracked_after memory false a k n p f = taken memory a k n p f
 
 -- ---- memory
 
 -- the packet has something kept: a command that waits, a statement, the definition of a column, or the parameters of an execution
-abbrev pub asks_memory : (is_early : Bool) → Agreed → Kind → ℕ → List ℕ → Tracked → Bool
+abbrev pub asks_memory : (is_early : Bool) → Agreed → PacketKind → ℕ → List ℕ → Tracked → Bool
 asks_memory true a k n p f = has_place f.early p
 asks_memory false a k n p f =
     not (is_lost f.lost n) && (if is_execution k then is_some (executed_by k p (served a n f).table) else takes_memory a k p (served a n f).table)
 
 -- what is known now, where this is agreed on: before the login nothing is kept
-abbrev pub KeptIn : Option Agreed → (is_early : Bool) → Kind → ℕ → List ℕ → (memory : Bool) → Tracked → Tracked → Type 0
+abbrev pub KeptIn : Option Agreed → (is_early : Bool) → PacketKind → ℕ → List ℕ → (memory : Bool) → Tracked → Tracked → Type 0
 KeptIn (Some a) is_early k n p memory old new = (new ≡ tracked_after memory is_early a k n p old) × (memory ≡ false → IsTrue (asks_memory is_early a k n p old))
 KeptIn None is_early k n p memory old new = (new ≡ record old { params = None }) × (memory ≡ true)
 
 -- nothing is known
-abbrev pub nothing : StatementLimits → EarlyLimits → Tracked
+abbrev pub nothing : StatementLimits → PipelinedLimits → Tracked
 nothing limits waiting = record { table = empty limits; early = none_waits waiting; lost = None; params = None }

@@ -11,7 +11,7 @@ pub enum ClientPacket<'a> {
     SslRequest(SslRequest),
     /// The response to the greeting.
     Login(HandshakeResponseRef<'a>),
-    /// What the client answers a plugin of the server: the whole payload.
+    /// The client's data for a plugin of the server: the whole payload.
     AuthData(BytesRef<'a>),
     /// A command.
     Command(Command<'a>),

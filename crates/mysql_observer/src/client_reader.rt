@@ -7,7 +7,7 @@ ghost use Rattle.mysql_observer.specs.Client as spec;
 
 use crate::client::ClientPacket;
 use crate::read_context::agreed_or_none;
-use mysql_conversation::Kind;
+use mysql_conversation::PacketKind;
 use mysql_replies::SessionCapabilities;
 use mysql_wire::{FaultOf, ParseBuf};
 use std::alloc::Global;
@@ -15,32 +15,35 @@ use std::alloc::Global;
 /// The packet of this kind.
 fn read_of_kind<'s, 'a>(
     agreed: Option<SessionCapabilities>,
-    kind: Kind,
+    kind: PacketKind,
     buf: &mut ParseBuf<'a>,
 ) -> Result<ClientPacket<'a>, FaultOf<'s>>
     ensures value { Answers false result buf.new ((spec.client_packet agreed kind).reads buf.old) }
 {
     match kind {
-        Kind::SslRequest => Ok(ClientPacket::SslRequest(buf.parse(())?)),
-        Kind::Login => Ok(ClientPacket::Login(buf.parse(())?)),
-        Kind::AuthData => Ok(ClientPacket::AuthData(buf.parse(())?)),
-        Kind::Command(_) => Ok(ClientPacket::Command(buf.parse(agreed_or_none(agreed).mysql)?)),
-        Kind::InfileContent => Ok(ClientPacket::InfileContent(buf.parse(())?)),
-        Kind::InfileEnd => Ok(ClientPacket::InfileEnd),
-        Kind::SemiSyncAck => Ok(ClientPacket::SemiSyncAck(buf.parse(())?)),
-        Kind::Clone => Ok(ClientPacket::Clone(buf.parse(())?)),
+        PacketKind::SslRequest => Ok(ClientPacket::SslRequest(buf.parse(())?)),
+        PacketKind::Login => Ok(ClientPacket::Login(buf.parse(())?)),
+        PacketKind::AuthData => Ok(ClientPacket::AuthData(buf.parse(())?)),
+        PacketKind::Command(_) => Ok(ClientPacket::Command(buf.parse(
+            agreed_or_none(agreed).mysql,
+        )?)),
+        PacketKind::InfileContent => Ok(ClientPacket::InfileContent(buf.parse(())?)),
+        PacketKind::InfileEnd => Ok(ClientPacket::InfileEnd),
+        PacketKind::SemiSyncAck => Ok(ClientPacket::SemiSyncAck(buf.parse(())?)),
+        PacketKind::Clone => Ok(ClientPacket::Clone(buf.parse(())?)),
         _ => Err(FaultOf::InvalidInput("A kind of the server's packets")),
     }
 }
 
-/// Reads the packet of this kind from the front of the bytes, under what both sides agreed on: none before the login, as
-/// [`Session::agreed`](mysql_conversation::Session::agreed) answers it. What follows the record is left.
+/// Reads the packet of this kind from the front of the bytes, under the agreed capabilities: none before the login, as
+/// [`Session::agreed`](mysql_conversation::Session::agreed) returns them. Bytes after the record stay.
 ///
-/// A fault is that of the kind's reader. A kind of the server's packets is `InvalidInput`. After a refusal the bytes are as they were. No
-/// memory is taken, so that none is `Memory`.
+/// The fault is that of the kind's reader. A kind of the server's packets is `InvalidInput`. After an error the bytes are
+/// unchanged. It takes no memory, and never returns `Memory`.
+#[inline(always)]
 pub fn read_client_packet<'s, 'a>(
     agreed: Option<SessionCapabilities>,
-    kind: Kind,
+    kind: PacketKind,
     buf: &mut ParseBuf<'a>,
 ) -> Result<ClientPacket<'a>, FaultOf<'s>>
     ensures value { Answers false result buf.new ((spec.client_packet agreed kind).reads buf.old) }
@@ -53,10 +56,11 @@ pub fn read_client_packet<'s, 'a>(
 }
 
 /// The packet that a payload of this kind is, as [`read_client_packet`] reads it. Bytes may follow it.
+#[inline(always)]
 pub fn client_packet<'s, 'a>(
     alloc: Global,
     agreed: Option<SessionCapabilities>,
-    kind: Kind,
+    kind: PacketKind,
     payload: &'a [u8],
 ) -> Result<ClientPacket<'a>, FaultOf<'s>>
     ensures packet { IfOk result (λ packet. (rest : List ℕ) × (spec.client_packet agreed kind).reads payload.now ≡ Ok (packet, rest)) }

@@ -7,7 +7,7 @@ ghost use Rattle.mysql_observer.specs.Event as spec;
 use mysql_wire::{FaultOf, LeU32, ParseBuf, RawInt, Skip};
 use std::alloc::Global;
 
-/// The second byte, and the size that the event says it has, where the header stands before it.
+/// The second byte, and the size in the event if the header precedes it.
 #[derive(Drop)]
 pub(crate) struct Marks {
     mark: u8,
@@ -35,7 +35,7 @@ fn read_marks<'s>(buf: &mut ParseBuf<'_>) -> Result<Marks, FaultOf<'s>>
     })
 }
 
-/// Whether the header stands before the event of this payload.
+/// Whether the header precedes the event of this payload.
 #[tactic(auto, using(crate::proofs::Refused::header_fault), unfolding(crate::specs::Event::has_header))]
 pub(crate) fn has_header(alloc: Global, payload: &[u8]) -> bool
     ensures { result ≡ spec.has_header payload.now }

@@ -8,7 +8,7 @@ ghost use Rattle.mysql_observer.specs.Records as spec;
 use crate::client_reader::client_packet;
 use crate::read_context::agreed_or_none;
 use crate::record::ClientRecord;
-use mysql_conversation::Kind;
+use mysql_conversation::PacketKind;
 use mysql_prepared::{BoundParam, ComStmtExecuteHead, ExecuteParamsView};
 use mysql_replies::SessionCapabilities;
 use mysql_wire::{CapabilityFlags, FaultOf, ParseBuf};
@@ -19,11 +19,11 @@ use std::alloc::Global;
 pub(crate) struct Known<'o> {
     pub(crate) params: &'o [BoundParam],
     pub(crate) is_bound: bool,
-    /// Whether they are known. Where they are not, there are none here.
+    /// Whether they are known. If they aren't, the list is empty.
     pub(crate) is_known: bool,
 }
 
-/// What stands before the parameters, and the bytes after it.
+/// The fields before the parameters, and the bytes after them.
 fn read_head<'a, 's>(buf: &mut ParseBuf<'a>) -> Result<ComStmtExecuteHead, FaultOf<'s>>
     ensures value { Answers false result buf.new ((execute_head.form tt).reads buf.old) }
 {
@@ -31,6 +31,7 @@ fn read_head<'a, 's>(buf: &mut ParseBuf<'a>) -> Result<ComStmtExecuteHead, Fault
 }
 
 /// The execution of a payload, for the parameters of its statement.
+#[inline(never)]
 pub(crate) fn read_execution<'a, 'o, 's>(
     alloc: Global,
     capabilities: CapabilityFlags,
@@ -47,10 +48,11 @@ pub(crate) fn read_execution<'a, 'o, 's>(
 }
 
 /// The record of a packet of the client; of an execution whose statement and types are known, its parameters.
+#[inline(always)]
 pub(crate) fn read_client<'a, 'o, 's>(
     alloc: Global,
     agreed: Option<SessionCapabilities>,
-    kind: Kind,
+    kind: PacketKind,
     known: Known<'o>,
     payload: &'a [u8],
 ) -> Result<ClientRecord<'a, 'o>, FaultOf<'s>>

@@ -1,26 +1,16 @@
-//! What a payload holds, once it is found of which kind it is: the record that stands in the packet.
+//! The records of a connection's packets.
 //!
-//! [`server_packet`] and [`client_packet`] are passed the kind that a [`Session`](mysql_conversation::Session) answers, and read the
-//! payload by the reader of that kind. Texts and values stay in the payload, and no memory is taken. A payload that its reader refuses
-//! is that reader's fault; the session goes on as the kind says.
-//!
-//! A server's stream, whose rows of text are read value by value:
+//! [`server_packet`] and [`client_packet`] take the kind that a [`Session`](mysql_conversation::Session) returned, and read the payload
+//! with the reader of that kind. Records borrow from the payload and do not allocate. If the reader refuses a payload, its fault is
+//! returned, and the session continues as the kind says. An [`Observer`] does both and keeps the context.
 //!
 //! ```
-//! let mut column_count = 0;
-//! while let Some(payload) = frames.read(&mut input)? {
-//!     let (kind, _command) = session.next(Side::Server, payload.as_slice())?;
-//!     let context = ReadContext::<Column> { agreed: session.agreed(), column_count, columns: &[], semi_sync: false };
-//!     match server_packet(alloc, &context, kind, payload.as_slice())? {
-//!         ServerPacket::ColumnCount(packet) => column_count = packet.count() as usize,
-//!         ServerPacket::TextRow(mut row) => {
-//!             while let Some(value) = row.next_value()? { .. } // NULL, or bytes where they lie in the packet
-//!         }
-//!         ServerPacket::Error(packet) => { .. } // it ends what the command asked for
-//!         _ => {}
-//!     }
-//!     frames.give_back(payload);
-//! }
+//! let kind = observer.next(Side::Server, payload)?.kind;
+//! let packet = observer.server_packet(kind, payload)?;
+//! Ok(matches!(
+//!     &packet,
+//!     ServerPacket::TextRow(_) | ServerPacket::BinaryRow(_)
+//! ))
 //! ```
 #![tactic(auto)]
 
@@ -46,6 +36,6 @@ pub use limits::ObserverLimits;
 pub use observed_packet::ObservedPacket;
 pub use observer::Observer;
 pub use read_context::ReadContext;
-pub use record::{ClientRecord, ServerRecord};
+pub use record::ClientRecord;
 pub use server::ServerPacket;
 pub use server_reader::{read_server_packet, server_packet};

@@ -1,15 +1,17 @@
-//! How much an observer keeps.
+//! The limits of an observer.
 
-use mysql_statements::{EarlyLimits, StatementLimits};
+use mysql_statements::{PipelinedLimits, StatementLimits};
 
-/// How much an [`Observer`](crate::Observer) keeps at most.
+/// The limits of what an [`Observer`](crate::Observer) keeps.
 #[derive(Clone, Copy, Debug, PartialEq, Eq)]
 pub struct ObserverLimits {
-    /// How many commands may wait for the answers to earlier ones.
+    /// The number of pipelined commands.
     pub waiting: usize,
     /// Prepared statements.
     pub statements: StatementLimits,
-    /// The commands that came early and are kept until the server comes to them. Between two packets of the server these may be twice as many
-    /// as those that wait.
-    pub early: EarlyLimits,
+    /// The pipelined commands that are kept until the server reaches them. Between two packets of the server there may be twice
+    /// as many of these as of those that wait.
+    pub early: PipelinedLimits,
+    /// The number of columns of a result whose types are kept.
+    pub columns: usize,
 }

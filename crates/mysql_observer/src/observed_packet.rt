@@ -1,14 +1,14 @@
-//! Which packet a payload is.
+//! The kind and the exchange of an observed packet.
 
-use mysql_conversation::Kind;
+use mysql_conversation::PacketKind;
 
-/// Which packet a payload is.
+/// The kind and the exchange of an observed packet.
 #[derive(Clone, Copy, Debug, PartialEq, Eq)]
 pub struct ObservedPacket {
-    /// Its kind.
-    pub kind: Kind,
+    /// The kind of the packet.
+    pub kind: PacketKind,
     /// The number of the command whose exchange it belongs to: 0 before the first command.
     pub exchange: u64,
-    /// Whether there was memory for what it says of later packets. Where there was none, their values are unknown.
+    /// Whether there was memory to keep what later packets need. If not, their values, or the types of a result's columns, are unknown.
     pub has_memory: bool,
 }

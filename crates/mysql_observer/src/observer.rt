@@ -1,8 +1,9 @@
-//! A connection that is observed.
+//! An observer of a connection.
 
-ghost use Rattle.std.specs.Prelude.{◌&&◌, Option, IfSome, IfNone, ◌≡◌, ◌↔◌, ◌⊎◌, ◌≤◌, ◌<◌, ◌∷◌, ◌++◌, [], IfOk, IfErr, OnErr, IsTrue, List, ℕ, true, false, None, Some};
+ghost use Rattle.std.specs.Prelude.{◌&&◌, Option, option_copied, IfSome, IfNone, ◌≡◌, ◌↔◌, ◌⊎◌, ◌≤◌, ◌<◌, ◌∷◌, ◌++◌, [], IfOk, IfErr, OnErr, IsTrue, List, ℕ, true, false, None, Some, Err};
 ghost use Rattle.mysql_conversation.specs.Session as sessions;
-ghost use Rattle.mysql_statements.specs.Early as early;
+ghost use Rattle.mysql_statements.specs.PipelinedCommands as early;
+ghost use Rattle.mysql_statements.specs.ResultColumns as results;
 ghost use Rattle.mysql_statements.specs.Table as tables;
 ghost use Rattle.mysql_observer.specs.Tracked as spec;
 
@@ -10,24 +11,26 @@ use crate::event::has_header;
 use crate::execution::{Known, read_client};
 use crate::limits::ObserverLimits;
 use crate::observed_packet::ObservedPacket;
-use crate::packets::{count_after, has_params, is_binary_row, is_early, is_event};
+use crate::packets::{are_both, count_after, has_params, is_early, is_event};
 use crate::read_context::ReadContext;
-use crate::record::{ClientRecord, ServerRecord};
+use crate::record::ClientRecord;
+use crate::server::ServerPacket;
 use crate::server_reader::server_packet;
 use crate::tracked::Tracked;
-use mysql_conversation::{Kind, KindName, Refusal, Session, Side};
+use mysql_conversation::{PacketKind, PacketKindTag, RowFormat, Session, SessionError, Side};
 use mysql_replies::SessionCapabilities;
-use mysql_statements::RowColumn;
+use mysql_statements::{ResultColumns, RowColumn};
 use mysql_wire::FaultOf;
 use std::alloc::Global;
 
-/// A connection from its greeting on: it is passed each payload of both sides, and says which packet it is, and what it holds.
+/// Observes a connection from its greeting on: takes each payload of both sides, and returns its kind and its record.
 #[derive(Drop)]
 pub struct Observer {
     alloc: Global,
     session: Session,
     tracked: Tracked,
     count: u64,
+    columns: ResultColumns,
 }
 
 impl Observer {
@@ -35,76 +38,83 @@ impl Observer {
     ghost use Rattle.mysql_conversation.specs.Piped as piped;
     ghost use Rattle.mysql_conversation.specs.Piped.{place};
     ghost use Rattle.mysql_conversation.specs.Session.{GoesOn, IsSession, IsSessionBeginning};
-    ghost use Rattle.mysql_conversation.specs.declared.kind.Kind as declared;
+    ghost use Rattle.mysql_conversation.specs.declared.packet_kind.PacketKind as declared;
     ghost use Rattle.mysql_conversation.specs.Agreements as agreement;
-    ghost use Rattle.mysql_conversation.specs.declared.kind.Side.TheVariants as side;
+    ghost use Rattle.mysql_conversation.specs.declared.packet_kind.Side.TheVariants as side;
     ghost use Rattle.mysql_conversation.specs.declared.pipeline.Pipeline as pipe;
-    ghost use Rattle.mysql_conversation.specs.declared.pipeline.Refusal.TheVariants as refusal;
+    ghost use Rattle.mysql_conversation.specs.declared.pipeline.SessionError.TheVariants as refusal;
     ghost use Rattle.mysql_observer.specs.PacketContext as context;
     ghost use Rattle.mysql_observer.specs.Event as events;
     ghost use Rattle.mysql_observer.specs.Records as records;
     ghost use Rattle.mysql_observer.specs.Observed as observed;
-    ghost use Rattle.mysql_observer.specs.Observed.{Observed, Tracks};
+    ghost use Rattle.mysql_observer.specs.Observed.{Knows, Observed};
 
-    /// One that was passed no packet.
+    /// Creates an observer before the first packet, with these limits.
     pub fn new(alloc: Global, limits: ObserverLimits) -> Self
         ensures observed { Observed result [] }
         ensures tracked { observed.tracked result ≡ record { table = tables.empty limits.statements; early = early.none_waits limits.early; lost = None; params = None } }
+        ensures columns { observed.result_columns result ≡ results.unknown limits.columns }
     {
         Observer {
             alloc,
             session: Session::new(alloc, limits.waiting),
             tracked: Tracked::none(alloc, limits),
             count: 0,
+            columns: ResultColumns::new(alloc, limits.columns),
         }
     }
 
-    /// Whether all that was asked for is answered.
-    pub fn is_at_rest(&self) -> bool
+    /// Whether every command is answered.
+    pub fn is_idle(&self) -> bool
         ensures { (items : List Numbered) → Observed self.now items → IsTrue result ↔ IsSession items }
     {
-        self.session.is_at_rest()
+        self.session.is_idle()
     }
 
-    /// What both sides agreed on, once the client has logged in.
+    /// Returns what both sides agreed on, once the client has sent its login.
     pub fn agreed(&self) -> Option<SessionCapabilities>
         ensures { (items : List Numbered) → Observed self.now items → context.IsAgreed items result }
     {
         self.agreed_in_session()
     }
 
-    /// Whether a packet of this kind may come next of this side.
-    pub fn expects(&self, from: Side, name: KindName) -> bool
+    /// Whether a packet of this kind may come next from this side.
+    pub fn may_receive(&self, from: Side, name: PacketKindTag) -> bool
         ensures { (items : List Numbered) → Observed self.now items → IsTrue result ↔ GoesOn from name items }
     {
-        self.session.expects(from, name)
+        self.session.may_receive(from, name)
     }
 
-    /// Says that what comes is deciphered, after a request to go on in TLS.
-    pub fn decipher(&mut self)
+    /// Continues after a request for TLS: the payloads that follow are decrypted.
+    pub fn tls_established(&mut self)
         ensures stays { (items : List Numbered) → Observed self.old items → Observed self.new items }
         ensures in_tls { observed.IsEncrypted self.new → ⊥ }
         ensures tracked { observed.tracked self.new ≡ observed.tracked self.old }
+        ensures columns { observed.result_columns self.new ≡ observed.result_columns self.old }
     {
-        self.session.decipher();
+        self.session.tls_established();
     }
 
     /// Which packet it is.
-    pub fn next(&mut self, from: Side, payload: &[u8]) -> Result<ObservedPacket, Refusal>
+    #[inline(always)]
+    pub fn next(&mut self, from: Side, payload: &[u8]) -> Result<ObservedPacket, SessionError>
         // What was taken has now this packet, of this kind and exchange, at its end.
         ensures taken { IfOk result (λ x. (items : List Numbered) → Observed self.old items → Observed self.new (items ++ place from payload.now x.kind x.exchange ∷ [])) }
         // What it says of later packets is known, where there was memory for it.
-        ensures knows { IfOk result (λ x. (items : List Numbered) → Observed self.old items → Tracks x.has_memory items (place from payload.now x.kind x.exchange) (observed.tracked self.old) (observed.tracked self.new)) }
+        ensures knows { IfOk result (λ x. (items : List Numbered) → Observed self.old items → Knows x.has_memory items (place from payload.now x.kind x.exchange) self.old self.new) }
         // Of no kind and exchange does the packet go on with what was taken.
-        ensures refused { IfErr result (λ why. (items : List Numbered) (kind : declared.Kind) (number : ℕ) → why ≡ refusal.Unexpected → Observed self.old items
+        ensures refused { IfErr result (λ why. (items : List Numbered) (kind : declared.PacketKind) (number : ℕ) → why ≡ refusal.UnexpectedPacket → Observed self.old items
             → IsSessionBeginning (items ++ place from payload.now kind number ∷ []) → ⊥) }
-        // A request to go on in TLS came, and nothing says that what comes is deciphered.
-        ensures encrypted { IfErr result (λ why. why ≡ refusal.Encrypted → observed.IsEncrypted self.old) }
-        // It is a login, by which both sides agree on compression.
-        ensures compressed { IfErr result (λ why. why ≡ refusal.Compressed → observed.AgreesOnCompression self.old from payload.now) }
-        // As many commands wait as may; or 2^64 - 1 commands came.
-        ensures full { IfErr result (λ why. why ≡ refusal.Full → (p : pipe.Pipeline) × observed.Continues self.old p × piped.IsFull p from payload.now) }
+        // Exactly after a request for TLS, until `tls_established` says that what comes is decrypted: except for an error that the server sends
+        // in clear.
+        ensures encrypted { (result ≡ Err refusal.Encrypted) ↔ observed.IsHidden self.old from payload.now }
+        ensures tls { IfOk result (λ _. observed.IsEncrypted self.new ↔ observed.AsksForTls self.old from payload.now) }
+        // Exactly of a login by which both sides agree on compression.
+        ensures compressed { (result ≡ Err refusal.Compressed) ↔ observed.AgreesOnCompression self.old from payload.now }
+        // Exactly of a command, if as many wait as may, or 2^64 - 1 commands came.
+        ensures full { (result ≡ Err refusal.Full) ↔ ((p : pipe.Pipeline) × observed.Continues self.old p × piped.IsFull p from payload.now) }
         // There is no memory for a command that waits, as it may.
+        ensures asked { IfErr result (λ why. why ≡ refusal.Memory → piped.IsCommand from payload.now) }
         ensures memory { IfErr result (λ why. why ≡ refusal.Memory → (p : pipe.Pipeline) × observed.Continues self.old p × (from ≡ side.Client) × piped.MustWait p × (piped.waiting p < piped.limit p) × piped.HasNoCapacity p) }
         // What is refused so comes here.
         ensures comes { IfErr result (λ why. (why ≡ refusal.Full) ⊎ (why ≡ refusal.Memory) → observed.Comes self.old from payload.now) }
@@ -113,13 +123,15 @@ impl Observer {
         ensures same { OnErr result (observed.tracked self.new ≡ observed.tracked self.old) }
         ensures unchanged { OnErr result (observed.IsSame self.old self.new) }
     {
-        let is_between = self.session.is_at_rest();
+        let is_between = self.session.is_idle();
         match self.session.next(from, payload) {
             Ok((kind, exchange)) => {
                 let is_early = is_early(is_between, from, kind, payload);
                 self.count = count_after(kind, self.count);
                 let agreed = self.session.agreed();
-                let has_memory = self.keep(agreed, is_early, kind, exchange, payload);
+                let is_kept = self.keep(agreed, is_early, kind, exchange, payload);
+                let is_defined = self.define(agreed, kind, payload);
+                let has_memory = are_both(is_kept, is_defined);
                 Ok(ObservedPacket {
                     kind,
                     exchange,
@@ -131,16 +143,18 @@ impl Observer {
     }
 
     /// Keeps what a packet says of later ones. Whether there was memory for it.
+    #[inline(always)]
     fn keep(
         &mut self,
         agreed: Option<SessionCapabilities>,
         is_early: bool,
-        kind: Kind,
+        kind: PacketKind,
         exchange: u64,
         payload: &[u8],
     ) -> bool
         ensures session { self.new.session ≡ self.old.session }
         ensures count { self.new.count ≡ self.old.count }
+        ensures columns { self.new.columns ≡ self.old.columns }
         ensures tracked { spec.KeptIn agreed is_early kind exchange payload.now result self.old.tracked self.new.tracked }
     {
         let Some(agreed) = agreed else {
@@ -154,75 +168,98 @@ impl Observer {
         }
     }
 
-    /// The packet of the server that came last, of the kind that it has.
+    /// Keeps what a packet says of the columns of a result. Whether there was memory for it.
+    #[inline(always)]
+    fn define(
+        &mut self,
+        agreed: Option<SessionCapabilities>,
+        kind: PacketKind,
+        payload: &[u8],
+    ) -> bool
+        ensures session { self.new.session ≡ self.old.session }
+        ensures count { self.new.count ≡ self.old.count }
+        ensures tracked { self.new.tracked ≡ self.old.tracked }
+        ensures columns { context.DefinedIn agreed kind payload.now result self.old.columns self.new.columns }
+    {
+        match agreed {
+            Some(agreed) => self.columns.take(agreed, kind, payload).is_ok(),
+            None => true,
+        }
+    }
+
+    /// Returns the columns of the result that came last, in order, if all of their definitions came and are kept.
     ///
-    /// What its reader refuses is that reader's fault; the connection goes on as the kind says.
+    /// A value of a row of text is converted by the type and the sign of its column. There are none if the definitions were left out, one of them can't
+    /// be read, there are more than [`ObserverLimits::columns`](crate::ObserverLimits::columns), or there was no memory for them; nor after an error, and after a statement is prepared.
+    ///
+    /// ```
+    /// observer.result_columns().unwrap_or(&[])
+    /// ```
+    pub fn result_columns(&self) -> Option<&[RowColumn]>
+        ensures some { IfSome result (λ columns. results.known (observed.result_columns self.now) ≡ Some columns.now) }
+        ensures none { IfNone result (results.known (observed.result_columns self.now) ≡ None) }
+    {
+        self.columns.columns()
+    }
+
+    /// Returns the record of the server's packet that was passed last, of the kind that [`next`](Self::next) returned.
+    ///
+    /// If the kind's reader refuses the payload, its fault is returned; the connection continues as the kind says.
+    #[inline(always)]
     pub fn server_packet<'s, 'a, 'o>(
         &'o self,
-        kind: Kind,
+        kind: PacketKind,
         payload: &'a [u8],
-    ) -> Result<ServerRecord<'a, 'o>, FaultOf<'s>>
-        ensures packet { IfOk result (λ r. (items : List Numbered) → Observed self.now items → records.IsServerRecord items (observed.tracked self.now) kind payload.now r) }
+    ) -> Result<ServerPacket<'a, 'o, RowColumn>, FaultOf<'s>>
+        ensures packet { IfOk result (λ p. (items : List Numbered) → Observed self.now items → records.IsServerPacket items (observed.tracked self.now) kind payload.now p) }
         ensures fault { IfErr result (λ e. (items : List Numbered) → Observed self.now items → records.IsServerFault items (observed.tracked self.now) kind payload.now e) }
     {
-        if self.is_untyped(kind) {
-            return Ok(ServerRecord::Untyped(payload));
-        }
         let context = self.context(kind, payload);
-        match server_packet(self.alloc, &context, kind, payload) {
-            Ok(packet) => Ok(ServerRecord::Packet(packet)),
-            Err(fault) => Err(fault),
-        }
+        server_packet(self.alloc, &context, kind, payload)
     }
 
-    /// Whether it is a binary row whose columns are not known.
-    fn is_untyped(&self, kind: Kind) -> bool
-        ensures { result ≡ records.is_untyped (tables.columns_of_rows (observed.tracked self.now).table) kind }
-    {
-        match self.tracked.columns() {
-            Some(_) => false,
-            None => is_binary_row(kind),
-        }
-    }
-
-    /// What the packets so far say, as far as the last is read by it.
-    fn context(&self, kind: Kind, payload: &[u8]) -> ReadContext<'_, RowColumn>
+    /// The context from the packets so far.
+    #[inline(always)]
+    fn context(&self, kind: PacketKind, payload: &[u8]) -> ReadContext<'_, RowColumn>
         ensures agreed { (items : List Numbered) → sessions.SessionTaken self.now.session items → context.IsAgreed items result.agreed }
         ensures count { result.column_count ≡ self.now.count }
-        ensures columns { context.AreColumns (tables.columns_of_rows (observed.tracked self.now).table) result.columns.now }
+        ensures columns { option_copied result.columns ≡ context.columns_for kind (tables.columns_of_rows (observed.tracked self.now).table) }
         ensures semi_sync { result.semi_sync ≡ (context.is_event kind && events.has_header payload.now) }
     {
         ReadContext {
             agreed: self.agreed_in_session(),
             column_count: self.count as usize,
-            columns: self.columns(),
+            columns: self.columns(kind),
             semi_sync: is_event(kind) && has_header(self.alloc, payload),
         }
     }
 
-    /// What both sides agreed on, by the session.
+    /// The agreed capabilities, by the session.
+    #[inline(always)]
     fn agreed_in_session(&self) -> Option<SessionCapabilities>
         ensures { (items : List Numbered) → sessions.SessionTaken self.now.session items → context.IsAgreed items result }
     {
         self.session.agreed()
     }
 
-    /// The columns of binary rows, where they are known.
-    fn columns(&self) -> &[RowColumn]
-        ensures { context.AreColumns (tables.columns_of_rows (observed.tracked self.now).table) result.now }
+    /// The columns of a packet of this kind, which is a binary row, where they are known.
+    #[inline(always)]
+    fn columns(&self, kind: PacketKind) -> Option<&[RowColumn]>
+        ensures { option_copied result ≡ context.columns_for kind (tables.columns_of_rows (observed.tracked self.now).table) }
     {
-        match self.tracked.columns() {
-            Some(columns) => columns,
-            None => &[],
+        match kind {
+            PacketKind::Row(RowFormat::Binary) => self.tracked.columns(),
+            _ => None,
         }
     }
 
-    /// The packet of the client that came last, of the kind that it has.
+    /// Returns the record of the client's packet that was passed last, of the kind that [`next`](Self::next) returned.
     ///
-    /// What its reader refuses is that reader's fault; the connection goes on as the kind says.
+    /// If the kind's reader refuses the payload, its fault is returned; the connection continues as the kind says.
+    #[inline(always)]
     pub fn client_packet<'s, 'a, 'o>(
         &'o self,
-        kind: Kind,
+        kind: PacketKind,
         payload: &'a [u8],
     ) -> Result<ClientRecord<'a, 'o>, FaultOf<'s>>
         ensures packet { IfOk result (λ r. (items : List Numbered) → Observed self.now items → (agreed : Option agreement.Agreed) × context.IsAgreed items agreed
@@ -241,7 +278,8 @@ impl Observer {
     }
 
     /// The parameters of an execution, where its statement is known.
-    fn known_params(&self, agreed: Option<SessionCapabilities>, kind: Kind) -> Known<'_>
+    #[inline(always)]
+    fn known_params(&self, agreed: Option<SessionCapabilities>, kind: PacketKind) -> Known<'_>
         ensures { records.params_in result ≡ records.known_params agreed (observed.tracked self.now).params kind }
     {
         let known = self.tracked.params();

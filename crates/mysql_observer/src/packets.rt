@@ -1,6 +1,6 @@
-//! What packets say of statements.
+//! What packets say about statements.
 
-ghost use Rattle.std.specs.Prelude.{◌≡◌, ◌&&◌, not, false, None};
+ghost use Rattle.std.specs.Prelude.{◌≡◌, ◌&&◌, not, false};
 ghost use Rattle.mysql_wire.specs.Reading.{Answers};
 ghost use Rattle.mysql_conversation.specs.Pipelined.{is_command as is_command_packet};
 ghost use Rattle.mysql_conversation.specs.Taken.{packet};
@@ -9,7 +9,7 @@ ghost use Rattle.mysql_observer.specs.PacketContext as context;
 ghost use Rattle.mysql_observer.specs.Tracked as spec;
 ghost use Rattle.mysql_observer.specs.Records as records;
 
-use mysql_conversation::{Format, Kind, Side};
+use mysql_conversation::{PacketKind, Side};
 use mysql_replies::SessionCapabilities;
 use mysql_wire::{FaultOf, LeU32, ParseBuf, RawInt};
 use std::alloc::Global;
@@ -37,51 +37,47 @@ pub(crate) fn number_at(alloc: Global, payload: &[u8]) -> Option<u32>
 }
 
 /// Whether it is an execution.
-pub(crate) fn is_execution(kind: Kind) -> bool
+pub(crate) fn is_execution(kind: PacketKind) -> bool
     ensures { result ≡ spec.is_execution kind }
 {
     match kind {
-        Kind::Command(code) => code == 0x17,
+        PacketKind::Command(code) => code == 0x17,
         _ => false,
     }
 }
 
 /// Whether it is a command.
-fn is_command(from: Side, kind: Kind, payload: &[u8]) -> bool
+#[inline(always)]
+fn is_command(from: Side, kind: PacketKind, payload: &[u8]) -> bool
     ensures { result ≡ is_command_packet (packet from payload.now kind) }
 {
     match from {
-        Side::Client => matches!(kind, Kind::Command(_)),
+        Side::Client => matches!(kind, PacketKind::Command(_)),
         Side::Server => false,
     }
 }
 
-/// Whether it is a command that comes before all that was asked for is answered.
-pub(crate) fn is_early(is_between: bool, from: Side, kind: Kind, payload: &[u8]) -> bool
+/// Whether it is a command while an earlier one isn't answered.
+#[inline(always)]
+pub(crate) fn is_early(is_between: bool, from: Side, kind: PacketKind, payload: &[u8]) -> bool
     ensures { result ≡ not is_between && is_command_packet (packet from payload.now kind) }
 {
     !is_between && is_command(from, kind, payload)
 }
 
-/// How many columns a row of text has after a packet.
-pub(crate) fn count_after(kind: Kind, count: u64) -> u64
+/// The number of columns of a text row after a packet.
+#[inline(always)]
+pub(crate) fn count_after(kind: PacketKind, count: u64) -> u64
     ensures { result ≡ context.count_after kind count }
 {
     match kind {
-        Kind::ColumnCount(count, _) => count,
+        PacketKind::ColumnCount(count, _) => count,
         _ => count,
     }
 }
 
-/// Whether it is a binary row.
-pub(crate) fn is_binary_row(kind: Kind) -> bool
-    ensures { result ≡ records.is_untyped None kind }
-{
-    matches!(kind, Kind::Row(Format::Binary))
-}
-
 /// Whether a packet has parameters, which are known where those of its statement are: it is an execution, after the login.
-pub(crate) fn has_params(agreed: Option<SessionCapabilities>, kind: Kind) -> bool
+pub(crate) fn has_params(agreed: Option<SessionCapabilities>, kind: PacketKind) -> bool
     ensures { result ≡ records.has_params agreed kind }
 {
     match agreed {
@@ -91,15 +87,25 @@ pub(crate) fn has_params(agreed: Option<SessionCapabilities>, kind: Kind) -> boo
 }
 
 /// Whether it is an event of a stream.
-pub(crate) fn is_event(kind: Kind) -> bool
+#[inline(always)]
+pub(crate) fn is_event(kind: PacketKind) -> bool
     ensures { result ≡ context.is_event kind }
 {
-    matches!(kind, Kind::BinlogEvent)
+    matches!(kind, PacketKind::BinlogEvent)
 }
 
 /// Whether it is a row.
-pub(crate) fn is_row(kind: Kind) -> bool
+#[inline(always)]
+pub(crate) fn is_row(kind: PacketKind) -> bool
     ensures { result ≡ spec.is_row kind }
 {
-    matches!(kind, Kind::Row(_))
+    matches!(kind, PacketKind::Row(_))
+}
+
+/// Whether there was memory for both.
+#[inline(always)]
+pub(crate) fn are_both(is_kept: bool, is_defined: bool) -> bool
+    ensures { result ≡ is_kept && is_defined }
+{
+    is_kept && is_defined
 }

@@ -10,7 +10,7 @@ use mysql_statements::Statement;
 use std::alloc::Global;
 use std::marker::Model;
 
-/// The parameters of the execution that came last, as they were known before it; or none.
+/// The parameters of the last execution, as they were known before it; or none.
 #[derive(Drop)]
 pub(crate) struct Params {
     params: Vec<BoundParam>,
@@ -40,13 +40,14 @@ impl Params {
     }
 
     /// Forgets them.
+    #[inline(always)]
     pub(crate) fn forget(&mut self)
         ensures { self.new ≡ None }
     {
         self.is_known = false;
     }
 
-    /// Copies those of a statement. Whether there is memory for them; where there is none, they are not known.
+    /// Copies those of a statement, and returns whether the allocation succeeded; if it didn't, they are unknown.
     pub(crate) fn copy(&mut self, statement: &Statement) -> bool
         ensures { self.new ≡ spec.params_kept result (Some statement.now) }
     {

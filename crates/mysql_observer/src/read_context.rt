@@ -1,4 +1,4 @@
-//! What a reader needs beside the kind and the payload.
+//! The context of a reader, besides the kind and the payload.
 
 ghost use Rattle.std.specs.Prelude.{◌≡◌};
 ghost use Rattle.mysql_observer.specs.Context as spec;
@@ -7,20 +7,21 @@ use bitflags::Flags;
 use mysql_replies::SessionCapabilities;
 use mysql_wire::{CapabilityFlags, MariadbCapabilities};
 
-/// What the packets before this one say, as far as a packet of the server is read by it. The columns are of the caller's own type.
+/// The context for reading a server's packet: what earlier packets say. The type of the columns is the caller's choice.
 #[derive(Drop)]
 pub struct ReadContext<'c, C> {
-    /// What both sides agreed on, as [`Session::agreed`](mysql_conversation::Session::agreed) answers it: none before the login.
+    /// The capabilities that both sides agreed on, as [`Session::agreed`](mysql_conversation::Session::agreed) returns them:
+    /// none before the login.
     pub agreed: Option<SessionCapabilities>,
-    /// How many columns a row of text has: the count that the result begins with.
+    /// The number of columns of a text row: the count at the start of the result.
     pub column_count: usize,
-    /// The columns of a binary row.
-    pub columns: &'c [C],
-    /// Whether semi-synchronous replication is agreed on, so that its header stands before an event.
+    /// The columns of a binary row; if they are unknown, none: the row is then read as its bytes.
+    pub columns: Option<&'c [C]>,
+    /// Whether semi-synchronous replication is on, so that its header precedes an event.
     pub semi_sync: bool,
 }
 
-/// What both sides agreed on: nothing before the login.
+/// The context before the login, without capabilities.
 #[inline]
 pub(crate) fn agreed_or_none(agreed: Option<SessionCapabilities>) -> SessionCapabilities
     ensures value { result ≡ spec.agreed_or_none agreed }

@@ -18,7 +18,7 @@ use mysql_values::ServerSide;
 pub enum ServerPacket<'a, 'c, C: TypedColumn> {
     /// The greeting.
     Handshake(HandshakePacketRef<'a>),
-    /// An error before the login: in place of the greeting or of the login, or in answer to what is no login.
+    /// An error before the login: in place of the greeting or of the login, or in answer to a packet that is no login.
     GreetingError(GreetingErrorRef<'a>),
     /// A switch of the plugin.
     AuthSwitch(AuthSwitchRequestRef<'a>),
@@ -28,23 +28,23 @@ pub enum ServerPacket<'a, 'c, C: TypedColumn> {
     AuthMoreData(AuthMoreDataRef<'a>),
     /// A request for the next factor.
     AuthNextFactor(AuthNextFactorRef<'a>),
-    /// What a plugin of the server says: the whole payload.
+    /// Data of a server's plugin: the whole payload.
     AuthPluginData(BytesRef<'a>),
     /// An OK packet.
     Ok(OkPacketRef<'a>),
     /// An error that ends what a command asked for.
     Error(ErrPacketRef<'a>),
     /// An error that answers no command: the server ends the connection.
-    UnaskedError(ErrPacketRef<'a>),
+    UnsolicitedError(ErrPacketRef<'a>),
     /// A report of progress.
     ProgressReport(ProgressReportRef<'a>),
     /// The server asks for a local file.
     LocalInfile(LocalInfilePacketRef<'a>),
-    /// How many columns there are.
+    /// The number of columns.
     ColumnCount(ColumnCount),
     /// The definition of a column or a parameter, with MariaDB's extended metadata where these are agreed on.
     Column(ExtendedColumnRef<'a>),
-    /// The definition of a column that answers `COM_FIELD_LIST`, with its default value.
+    /// The definition of a column in the answer to `COM_FIELD_LIST`, with its default value.
     FieldListColumn(FieldListColumn<'a>),
     /// An EOF packet: its status and its count of warnings.
     Eof(OkPacketRef<'a>),
@@ -54,9 +54,11 @@ pub enum ServerPacket<'a, 'c, C: TypedColumn> {
     TextRow(TextRowView<'a>),
     /// A binary row, whose values are read one by one.
     BinaryRow(BinaryRowView<'a, 'c, ServerSide, C>),
+    /// A binary row whose columns are unknown: the whole payload.
+    UntypedRow(BytesRef<'a>),
     /// A prepared statement.
     PrepareOk(StmtPacketWithMetadata),
-    /// The text that answers `COM_STATISTICS`: the whole payload.
+    /// The text in the answer to `COM_STATISTICS`: the whole payload.
     Statistics(BytesRef<'a>),
     /// An event of a stream.
     BinlogEvent(BinlogStreamEvent<'a>),

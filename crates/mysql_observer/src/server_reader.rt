@@ -7,7 +7,7 @@ ghost use Rattle.mysql_observer.specs.Server as spec;
 
 use crate::read_context::{ReadContext, agreed_or_none};
 use crate::server::ServerPacket;
-use mysql_conversation::{Format, Kind};
+use mysql_conversation::{PacketKind, RowFormat};
 use mysql_prepared::{BinaryRowView, TextRowView, TypedColumn};
 use mysql_replies::{
     CommonOkPacket, OkPacketRef, OkPacketRefDeserializer, OldEofPacket, ProgressReportRef,
@@ -61,6 +61,7 @@ fn read_progress_report<'s, 'a>(
 }
 
 /// A row of text.
+#[inline(always)]
 fn read_text_row<'a>(columns: usize, buf: &mut ParseBuf<'a>) -> TextRowView<'a>
     ensures value { (spec.text_row columns).reads buf.old ≡ Ok (result, buf.new) }
 {
@@ -70,6 +71,7 @@ fn read_text_row<'a>(columns: usize, buf: &mut ParseBuf<'a>) -> TextRowView<'a>
 }
 
 /// A binary row.
+#[inline]
 fn read_binary_row<'s, 'a, 'c, C: TypedColumn>(
     columns: &'c [C],
     buf: &mut ParseBuf<'a>,
@@ -82,66 +84,79 @@ fn read_binary_row<'s, 'a, 'c, C: TypedColumn>(
 }
 
 /// The packet of this kind.
+// (a call, which a row of text doesn't pay for)
+#[inline(never)]
 fn read_of_kind<'s, 'a, 'c, C: TypedColumn>(
     context: &ReadContext<'c, C>,
-    kind: Kind,
+    kind: PacketKind,
     buf: &mut ParseBuf<'a>,
 ) -> Result<ServerPacket<'a, 'c, C>, FaultOf<'s>>
     ensures value { Answers false result buf.new ((spec.server_packet C.type_of C.unsigned context.now kind).reads buf.old) }
 {
     let agreed = agreed_or_none(context.agreed);
     match kind {
-        Kind::Handshake => Ok(ServerPacket::Handshake(buf.parse(())?)),
-        Kind::AuthSwitch => Ok(ServerPacket::AuthSwitch(buf.parse(())?)),
-        Kind::OldAuthSwitch => Ok(ServerPacket::OldAuthSwitch(buf.parse(())?)),
-        Kind::AuthMoreData => Ok(ServerPacket::AuthMoreData(buf.parse(())?)),
-        Kind::AuthNextFactor => Ok(ServerPacket::AuthNextFactor(buf.parse(())?)),
-        Kind::AuthPluginData => Ok(ServerPacket::AuthPluginData(buf.parse(())?)),
-        Kind::Ok => Ok(ServerPacket::Ok(read_ok(agreed, buf)?)),
-        Kind::Error => match context.agreed {
+        PacketKind::Handshake => Ok(ServerPacket::Handshake(buf.parse(())?)),
+        PacketKind::AuthSwitch => Ok(ServerPacket::AuthSwitch(buf.parse(())?)),
+        PacketKind::OldAuthSwitch => Ok(ServerPacket::OldAuthSwitch(buf.parse(())?)),
+        PacketKind::AuthMoreData => Ok(ServerPacket::AuthMoreData(buf.parse(())?)),
+        PacketKind::AuthNextFactor => Ok(ServerPacket::AuthNextFactor(buf.parse(())?)),
+        PacketKind::AuthPluginData => Ok(ServerPacket::AuthPluginData(buf.parse(())?)),
+        PacketKind::Ok => Ok(ServerPacket::Ok(read_ok(agreed, buf)?)),
+        PacketKind::Error => match context.agreed {
             Some(agreed) => Ok(ServerPacket::Error(buf.parse(agreed.mysql)?)),
             None => Ok(ServerPacket::GreetingError(buf.parse(())?)),
         },
-        Kind::UnaskedError => match context.agreed {
-            Some(agreed) => Ok(ServerPacket::UnaskedError(buf.parse(agreed.mysql)?)),
+        PacketKind::UnsolicitedError => match context.agreed {
+            Some(agreed) => Ok(ServerPacket::UnsolicitedError(buf.parse(agreed.mysql)?)),
             None => Ok(ServerPacket::GreetingError(buf.parse(())?)),
         },
-        Kind::ProgressReport => Ok(ServerPacket::ProgressReport(read_progress_report(buf)?)),
-        Kind::LocalInfile => Ok(ServerPacket::LocalInfile(buf.parse(())?)),
-        Kind::ColumnCount(_, _) => Ok(ServerPacket::ColumnCount(buf.parse(agreed)?)),
-        Kind::Column => Ok(ServerPacket::Column(buf.parse(agreed.mariadb)?)),
-        Kind::FieldListColumn => Ok(ServerPacket::FieldListColumn(buf.parse(agreed.mariadb)?)),
-        Kind::Eof => Ok(ServerPacket::Eof(read_eof(agreed, buf)?)),
-        Kind::OkTerminator => Ok(ServerPacket::OkTerminator(read_ok_terminator(agreed, buf)?)),
-        Kind::Row(Format::Text) => {
+        PacketKind::ProgressReport => Ok(ServerPacket::ProgressReport(read_progress_report(buf)?)),
+        PacketKind::LocalInfile => Ok(ServerPacket::LocalInfile(buf.parse(())?)),
+        PacketKind::ColumnCount(_, _) => Ok(ServerPacket::ColumnCount(buf.parse(agreed)?)),
+        PacketKind::Column => Ok(ServerPacket::Column(buf.parse(agreed.mariadb)?)),
+        PacketKind::FieldListColumn => Ok(ServerPacket::FieldListColumn(buf.parse(
+            agreed.mariadb,
+        )?)),
+        PacketKind::Eof => Ok(ServerPacket::Eof(read_eof(agreed, buf)?)),
+        PacketKind::OkTerminator => Ok(ServerPacket::OkTerminator(read_ok_terminator(
+            agreed, buf,
+        )?)),
+        PacketKind::Row(RowFormat::Text) => {
             Ok(ServerPacket::TextRow(read_text_row(context.column_count, buf)))
         }
-        Kind::Row(Format::Binary) => {
-            Ok(ServerPacket::BinaryRow(read_binary_row(context.columns, buf)?))
-        }
-        Kind::PrepareOk(_, _, _) => Ok(ServerPacket::PrepareOk(buf.parse(agreed.mysql)?)),
-        Kind::Statistics => Ok(ServerPacket::Statistics(buf.parse(())?)),
-        Kind::BinlogEvent => Ok(ServerPacket::BinlogEvent(buf.parse(context.semi_sync)?)),
-        Kind::Clone => Ok(ServerPacket::Clone(buf.parse(())?)),
+        PacketKind::Row(RowFormat::Binary) => match context.columns {
+            Some(columns) => Ok(ServerPacket::BinaryRow(read_binary_row(columns, buf)?)),
+            None => Ok(ServerPacket::UntypedRow(buf.parse(())?)),
+        },
+        PacketKind::PrepareOk(_, _, _) => Ok(ServerPacket::PrepareOk(buf.parse(agreed.mysql)?)),
+        PacketKind::Statistics => Ok(ServerPacket::Statistics(buf.parse(())?)),
+        PacketKind::BinlogEvent => Ok(ServerPacket::BinlogEvent(buf.parse(context.semi_sync)?)),
+        PacketKind::Clone => Ok(ServerPacket::Clone(buf.parse(())?)),
         _ => Err(FaultOf::InvalidInput("A kind of the client's packets")),
     }
 }
 
 /// Reads the packet of this kind from the front of the bytes.
 ///
-/// What follows the record is left. A row has all bytes, since its values are read later: [`TextRowView::rest`] and [`BinaryRowView::rest`] answer what follows them.
+/// Bytes after the record stay. A row has all bytes, since its values are read later: [`TextRowView::rest`] and
+/// [`BinaryRowView::rest`] return those after them.
 ///
-/// A fault is that of the kind's reader. A binary row is not refused where its first byte and its bitmap of NULLs are there: a fault of
-/// a value is [`BinaryRowView::next_value`]'s. A kind of the client's packets is `InvalidInput`. After a refusal the bytes are as they
-/// were. No memory is taken, so that none is `Memory`.
+/// The fault is that of the kind's reader. A binary row is returned if its first byte and its bitmap of NULLs are complete: a
+/// fault of a value is returned by [`BinaryRowView::next_value`]. If its columns are unknown, it is returned as bytes. A kind
+/// of the client's packets is `InvalidInput`. After an error the bytes are unchanged. It takes no memory, and never returns
+/// `Memory`.
+#[inline(always)]
 pub fn read_server_packet<'s, 'a, 'c, C: TypedColumn>(
     context: &ReadContext<'c, C>,
-    kind: Kind,
+    kind: PacketKind,
     buf: &mut ParseBuf<'a>,
 ) -> Result<ServerPacket<'a, 'c, C>, FaultOf<'s>>
     ensures value { Answers false result buf.new ((spec.server_packet C.type_of C.unsigned context.now kind).reads buf.old) }
     ensures err { OnErr result (buf.new ≡ buf.old) }
 {
+    if let PacketKind::Row(RowFormat::Text) = kind {
+        return Ok(ServerPacket::TextRow(read_text_row(context.column_count, buf)));
+    }
     let mut rest = buf.rest();
     let packet = read_of_kind(context, kind, &mut rest)?;
     *buf = rest;
@@ -149,10 +164,11 @@ pub fn read_server_packet<'s, 'a, 'c, C: TypedColumn>(
 }
 
 /// The packet that a payload of this kind is, as [`read_server_packet`] reads it. Bytes may follow it.
+#[inline(always)]
 pub fn server_packet<'s, 'a, 'c, C: TypedColumn>(
     alloc: Global,
     context: &ReadContext<'c, C>,
-    kind: Kind,
+    kind: PacketKind,
     payload: &'a [u8],
 ) -> Result<ServerPacket<'a, 'c, C>, FaultOf<'s>>
     ensures packet { IfOk result (λ p. (rest : List ℕ) × ((spec.server_packet C.type_of C.unsigned context.now kind).reads payload.now ≡ Ok (p, rest))) }

@@ -1,7 +1,7 @@
-//! What the packets so far say of statements, and of the commands that wait.
+//! The state that packets leave: statements, and pipelined commands.
 
-ghost use Rattle.std.specs.Prelude.{[], ◌≡◌, ◌&&◌, IsTrue, None, Some, false, true, is_some, IfSome, IfNone};
-ghost use Rattle.mysql_statements.specs.Early as early;
+ghost use Rattle.std.specs.Prelude.{[], ◌≡◌, ◌&&◌, IsTrue, None, Some, false, true, is_some, option_copied};
+ghost use Rattle.mysql_statements.specs.PipelinedCommands as early;
 ghost use Rattle.mysql_statements.specs.Table as tables;
 ghost use Rattle.mysql_observer.specs.Tracked as spec;
 ghost use Rattle.mysql_observer.specs.Records as records;
@@ -10,18 +10,18 @@ use crate::execution::Known;
 use crate::limits::ObserverLimits;
 use crate::packets::{is_execution, is_row, number_at};
 use crate::params::Params;
-use mysql_conversation::Kind;
+use mysql_conversation::PacketKind;
 use mysql_replies::SessionCapabilities;
-use mysql_statements::{EarlyCommands, RowColumn, Statements};
+use mysql_statements::{PipelinedCommands, RowColumn, Statements};
 use std::alloc::Global;
 use std::marker::Model;
 
-/// What the packets so far say of statements, and of the commands that wait.
+/// The statements and the pipelined commands after the packets so far.
 #[derive(Drop)]
 pub(crate) struct Tracked {
     alloc: Global,
     statements: Statements,
-    early: EarlyCommands,
+    early: PipelinedCommands,
     lost: Option<u64>,
     params: Params,
 }
@@ -44,7 +44,7 @@ fn take_command(statements: &mut Statements, agreed: SessionCapabilities, payloa
         [] => 0,
     };
     // (a command has no memory taken)
-    let _taken = statements.take(agreed, Kind::Command(code), payload);
+    let _taken = statements.take(agreed, PacketKind::Command(code), payload);
 }
 
 /// Whether nothing is known of statements up to this exchange.
@@ -65,16 +65,16 @@ impl Tracked {
         Tracked {
             alloc,
             statements: Statements::new(alloc, limits.statements),
-            early: EarlyCommands::new(alloc, limits.early),
+            early: PipelinedCommands::new(alloc, limits.early),
             lost: None,
             params: Params::none(alloc),
         }
     }
 
-    /// The columns of the binary rows that come, where they are known.
+    /// The columns of the current binary rows, if they are known.
+    #[tactic(auto, using(crate::proofs::Known::copied_is))]
     pub(crate) fn columns(&self) -> Option<&[RowColumn]>
-        ensures some { IfSome result (λ columns. tables.columns_of_rows self.now.table ≡ Some columns.now) }
-        ensures none { IfNone result (tables.columns_of_rows self.now.table ≡ None) }
+        ensures { option_copied result ≡ tables.columns_of_rows self.now.table }
     {
         self.statements.columns_of_rows()
     }
@@ -87,6 +87,7 @@ impl Tracked {
     }
 
     /// Forgets the parameters of the execution that came last.
+    #[inline(always)]
     pub(crate) fn forget_params(&mut self)
         ensures { self.new ≡ record self.old { params = None } }
     {
@@ -103,6 +104,7 @@ impl Tracked {
     }
 
     /// A command that came early waits. Whether there was memory for it.
+    #[inline(never)]
     pub(crate) fn hold(&mut self, number: u64, payload: &[u8]) -> bool
         ensures held { self.new ≡ spec.held result number payload.now self.old }
         ensures asked { result ≡ false → IsTrue (early.has_place self.old.early payload.now) }
@@ -130,10 +132,31 @@ impl Tracked {
     }
 
     /// Takes a packet, after the commands up to its exchange. Whether there was memory for what it says.
+    #[inline(always)]
     pub(crate) fn take(
         &mut self,
         agreed: SessionCapabilities,
-        kind: Kind,
+        kind: PacketKind,
+        exchange: u64,
+        payload: &[u8],
+    ) -> bool
+        ensures taken { self.new ≡ spec.taken result agreed kind exchange payload.now self.old }
+        ensures asked { result ≡ false → IsTrue (spec.asks_memory false agreed kind exchange payload.now self.old) }
+    {
+        if self.is_row_alone(kind) {
+            self.params.forget();
+            return true;
+        }
+        self.take_any(agreed, kind, exchange, payload)
+    }
+
+    /// Takes a packet, whichever it is.
+    // (a call, which a row doesn't pay for)
+    #[inline(never)]
+    fn take_any(
+        &mut self,
+        agreed: SessionCapabilities,
+        kind: PacketKind,
         exchange: u64,
         payload: &[u8],
     ) -> bool
@@ -141,7 +164,7 @@ impl Tracked {
         ensures asked { result ≡ false → IsTrue (spec.asks_memory false agreed kind exchange payload.now self.old) }
     {
         self.params.forget();
-        if is_lost(self.lost, exchange) || self.is_row_alone(kind) {
+        if is_lost(self.lost, exchange) {
             return true;
         }
         self.serve(agreed, exchange);
@@ -151,14 +174,15 @@ impl Tracked {
     }
 
     /// Whether it is a row, before which no command waits.
-    fn is_row_alone(&self, kind: Kind) -> bool
+    #[inline(always)]
+    fn is_row_alone(&self, kind: PacketKind) -> bool
         ensures { result ≡ true → (spec.is_row kind ≡ true) × (self.now.early.commands ≡ []) }
     {
         is_row(kind) && self.early.len() == 0
     }
 
     /// Copies the parameters of the statement that a packet executes. Whether there was memory for them.
-    fn copy_params(&mut self, kind: Kind, payload: &[u8]) -> bool
+    fn copy_params(&mut self, kind: PacketKind, payload: &[u8]) -> bool
         requires { self.old.params ≡ None }
         ensures params { self.new ≡ record self.old { params = spec.params_kept result (spec.executed_by kind payload.now self.old.table) } }
         ensures asked { result ≡ false → IsTrue (is_some (spec.executed_by kind payload.now self.old.table)) }

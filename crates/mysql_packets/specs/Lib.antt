@@ -1,32 +1,42 @@
-pub mod Digits
-pub mod Decimal
-pub mod Parts
-pub mod TimeText
-pub mod RowText
-pub mod Input
-pub mod Capabilities
-pub mod Named
-pub mod TypeWords
-pub mod BulkCall
-pub mod Lines
-pub mod Answer
-pub mod StmtLines
-pub mod Infile
-pub mod ColumnLines
-pub mod Change
-pub mod ChangeLayout
-pub mod OkKind
-pub mod Ok
-pub mod Err
-pub mod Bulk
-pub mod Gtid
-pub mod SidLines
-pub mod GtidSetLines
-pub mod HandshakeLines
-pub mod Command
-pub mod Program
--- the definitions that the contracts of the libraries cite
-pub use Rattle.mysql_output.specs.Output
+-- the definitions that the contracts of the libraries and of the program cite
+pub use Rattle.mysql_program.specs.Digits
+pub use Rattle.mysql_program.specs.Decimal
+pub use Rattle.mysql_program.specs.Parts
+pub use Rattle.mysql_program.specs.TimeText
+pub use Rattle.mysql_program.specs.RowText
+pub use Rattle.mysql_program.specs.Input
+pub use Rattle.mysql_program.specs.Capabilities
+pub use Rattle.mysql_program.specs.Named
+pub use Rattle.mysql_program.specs.TypeWords
+pub use Rattle.mysql_program.specs.BulkCall
+pub use Rattle.mysql_program.specs.Lines
+pub use Rattle.mysql_program.specs.Answer
+pub use Rattle.mysql_program.specs.StmtLines
+pub use Rattle.mysql_program.specs.Infile
+pub use Rattle.mysql_program.specs.ColumnLines
+pub use Rattle.mysql_program.specs.Change
+pub use Rattle.mysql_program.specs.ChangeLayout
+pub use Rattle.mysql_program.specs.OkKind
+pub use Rattle.mysql_program.specs.Ok
+pub use Rattle.mysql_program.specs.Err
+pub use Rattle.mysql_program.specs.Bulk
+pub use Rattle.mysql_program.specs.Gtid
+pub use Rattle.mysql_program.specs.SidLines
+pub use Rattle.mysql_program.specs.GtidSetLines
+pub use Rattle.mysql_program.specs.HandshakeLines
+pub use Rattle.mysql_program.specs.Command
+pub use Rattle.mysql_program.specs.Program
+pub use Rattle.mysql_show.specs.Appended
+pub use Rattle.mysql_show.specs.Columns
+pub use Rattle.mysql_show.specs.CommandName
+pub use Rattle.mysql_show.specs.FieldObject
+pub use Rattle.mysql_show.specs.FieldText
+pub use Rattle.mysql_show.specs.Fields
+pub use Rattle.mysql_show.specs.Floats
+pub use Rattle.mysql_show.specs.Logins
+pub use Rattle.mysql_show.specs.Output
+pub use Rattle.mysql_show.specs.Replicas
+pub use Rattle.mysql_show.specs.Replies
 pub use Rattle.mysql_wire.specs.Bare
 pub use Rattle.mysql_wire.specs.Codec
 pub use Rattle.mysql_wire.specs.CodecFits
@@ -218,12 +228,13 @@ pub use Rattle.mysql_repl.specs.Tag
 pub use Rattle.mysql_repl.specs.TagString
 pub use Rattle.mysql_commands.specs.After
 pub use Rattle.mysql_commands.specs.AsRead
-pub use Rattle.mysql_commands.specs.AsSent
+pub use Rattle.mysql_commands.specs.WithRawBytes
 pub use Rattle.mysql_commands.specs.BulkExecute
 pub use Rattle.mysql_commands.specs.Command as CommandForm
 pub use Rattle.mysql_commands.specs.FieldList
 pub use Rattle.mysql_commands.specs.Query
 pub use Rattle.mysql_commands.specs.QueryAttributes
+pub use Rattle.mysql_commands.specs.PartialQuery
 pub use Rattle.mysql_commands.specs.SentQuery
 pub use Rattle.mysql_commands.specs.SetOption
 pub use Rattle.mysql_commands.specs.StmtExecute
@@ -236,7 +247,8 @@ pub use Rattle.mysql_conversation.specs.Agreements
 pub use Rattle.mysql_conversation.specs.Conversation
 pub use Rattle.mysql_conversation.specs.ConversationState
 pub use Rattle.mysql_conversation.specs.History
-pub use Rattle.mysql_conversation.specs.KindName
+pub use Rattle.mysql_conversation.specs.LoginState
+pub use Rattle.mysql_conversation.specs.PacketKindTag
 pub use Rattle.mysql_conversation.specs.Order
 pub use Rattle.mysql_conversation.specs.Parts as ConversationParts
 pub use Rattle.mysql_conversation.specs.Payloads
@@ -258,9 +270,10 @@ pub use Rattle.mysql_observer.specs.Tracked
 pub use Rattle.mysql_statements.specs.After as StatementsAfter
 pub use Rattle.mysql_statements.specs.Binding
 pub use Rattle.mysql_statements.specs.Bounds
-pub use Rattle.mysql_statements.specs.Early
+pub use Rattle.mysql_statements.specs.PipelinedCommands
 pub use Rattle.mysql_statements.specs.Kept
 pub use Rattle.mysql_statements.specs.Packets as StatementPackets
 pub use Rattle.mysql_statements.specs.Run as StatementRuns
+pub use Rattle.mysql_statements.specs.ResultColumns
 pub use Rattle.mysql_statements.specs.Statement
 pub use Rattle.mysql_statements.specs.Table as StatementTable

@@ -1,6 +1,6 @@
 //! Conversations: which packet comes next.
 
 pub use mysql_conversation::{
-    Conversation, ConversationState, Format, Kind, KindName, Opening, Pipeline, Refusal, Session,
-    Side, Unexpected, agreed_on,
+    Conversation, ConversationState, InitialPhase, LoginState, PacketKind, PacketKindTag, Pipeline,
+    RowFormat, Session, SessionError, Side, UnexpectedPacket, agreed_on,
 };

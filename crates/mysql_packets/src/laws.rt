@@ -1,9 +1,7 @@
 //! The laws of all libraries, each library's in a module of its name; and those of the program.
 
-ghost use Rattle.std.specs.Prelude.{◌≡◌};
 ghost use Rattle.mysql_commands.specs.AsRead.{AreBytes};
 
-use crate::input::MOST_READS;
 pub use mysql_auth::laws as auth;
 pub use mysql_bulk::laws as bulk;
 pub use mysql_commands::laws as commands;
@@ -11,6 +9,7 @@ pub use mysql_conversation::laws as conversation;
 pub use mysql_cuts::laws as cuts;
 pub use mysql_frames::laws as frames;
 pub use mysql_observer::laws as observer;
+pub use mysql_program::laws::most_reads;
 pub use mysql_repl::laws as repl;
 pub use mysql_replies::laws as replies;
 pub use mysql_session::laws as session;
@@ -18,13 +17,6 @@ pub use mysql_statements::laws as statements;
 pub use mysql_stmt::laws as stmt;
 pub use mysql_values::laws as values;
 pub use mysql_wire::laws as wire;
-
-/// The program asks for its input 1,048,576 times at most.
-pub fn most_reads() -> u32
-    ensures value { result ≡ 1048576 }
-{
-    MOST_READS
-}
 
 /// The items of a byte slice are bytes: the premise of [`commands::read_commands_are_written_as_they_were`].
 pub fn these_are_bytes(bytes: &[u8])

@@ -1,4 +1,4 @@
-//! What packets are put together from.
+//! The building blocks of packets.
 
 /// The forms of a packet's fields.
 pub mod raw {

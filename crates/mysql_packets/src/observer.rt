@@ -1,7 +1,6 @@
-//! What the packets of a conversation hold: of a connection that is observed, and of packets whose kind is known.
+//! The records of a conversation's packets: of an observed connection, and of packets whose kind is known.
 
 pub use mysql_observer::{
     ClientPacket, ClientRecord, ObservedPacket, Observer, ObserverLimits, ReadContext,
-    ServerPacket, ServerRecord, client_packet, read_client_packet, read_server_packet,
-    server_packet,
+    ServerPacket, client_packet, read_client_packet, read_server_packet, server_packet,
 };

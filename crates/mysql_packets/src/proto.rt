@@ -1,4 +1,4 @@
-//! What is read and what is written, and the two protocols of rows.
+//! Traits of packets that are read and written, and the two protocols of rows.
 
 pub use mysql_values::{Binary, Text};
 pub use mysql_wire::{

@@ -1,5 +1,6 @@
 //! Prepared statements, as whoever watches a connection keeps them.
 
 pub use mysql_statements::{
-    EarlyCommand, EarlyCommands, EarlyLimits, RowColumn, Statement, StatementLimits, Statements,
+    PipelinedCommand, PipelinedCommands, PipelinedLimits, ResultColumns, RowColumn, Statement,
+    StatementLimits, Statements,
 };

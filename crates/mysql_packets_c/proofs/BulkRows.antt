@@ -12,7 +12,7 @@ use Rattle.std.specs.Prelude.{All, nat_le, not, ◌==◌, ◌%◌, ◌||◌}
 use Rattle.mysql_wire.specs.Writing.{saturated}
 use Rattle.mysql_bulk.specs.Builder.{BuilderState}
 use Rattle.mysql_bulk.specs.BuilderRows.{rows_of}
-use Rattle.mysql_bulk.specs.ColumnTypes.{TakesTypes, may_be_declared, spell_row, spells}
+use Rattle.mysql_bulk.specs.ColumnTypes.{TakesTypes, is_declarable, spell_row, can_encode}
 use Rattle.mysql_bulk.specs.Row.{param_size, row_size}
 use Rattle.mysql_values.specs.Value.{Content}
 use Rattle.mysql_packets_c.specs.Bulk.{AreRows, Counted, HasRows, NextIsFull, RefusesAny, WhyRefused, builder_for, declared_type, declared_types, first_refused, first_rows, may_ask, row_at, takes_row, takes_value}
@@ -23,12 +23,12 @@ use Rattle.mysql_packets_c.specs.declared.value.CValue.{CValue}
 
 -- ---- the types
 
-prefix-map : (columns : List CColumnType) → prefix_len (λ kind. not (not (may_be_declared kind))) (declared_types columns) ≡ prefix_len (λ column. not (not (may_be_declared (declared_type column)))) columns
+prefix-map : (columns : List CColumnType) → prefix_len (λ kind. not (not (is_declarable kind))) (declared_types columns) ≡ prefix_len (λ column. not (not (is_declarable (declared_type column)))) columns
 prefix-map [] = refl
-prefix-map (c ∷ columns) = ap (λ n. if not (not (may_be_declared (declared_type c))) then 1 + n else 0) (prefix-map columns)
+prefix-map (c ∷ columns) = ap (λ n. if not (not (is_declarable (declared_type c))) then 1 + n else 0) (prefix-map columns)
 
 -- the first type that is refused is that of the first such column
-pub first-refused : (columns : List CColumnType) → position (λ column. not (may_be_declared (declared_type column))) columns ≡ first_refused columns
+pub first-refused : (columns : List CColumnType) → position (λ column. not (is_declarable (declared_type column))) columns ≡ first_refused columns
 first-refused columns = rw (prefix-map columns, length-map columns declared_type) refl
 
 -- ---- one value more of a row
@@ -52,7 +52,7 @@ takes-from columns row i c v same lt = rw add-one (from columns row i same lt)
     from [] [] i same lt = absurd (omega (arith, lt))
     from [] (w ∷ row) i same lt = absurd (omega (arith, same))
     from (d ∷ columns) [] i same lt = absurd (omega (arith, same))
-    from (d ∷ columns) (w ∷ row) zero same lt = swapped (is_value w) (list_all is_value row) (spells (declared_type d) (value_content w)) (spell_row (declared_types columns) (values_contents row))
+    from (d ∷ columns) (w ∷ row) zero same lt = swapped (is_value w) (list_all is_value row) (can_encode (declared_type d) (value_content w)) (spell_row (declared_types columns) (values_contents row))
     from (d ∷ columns) (w ∷ row) (suc i) same lt = from columns row i (omega (arith, same)) (omega (arith, lt))
 
 pub size-more : (row : List CValue) (i : ℕ) (v : CValue) → i < length row → row_size (values_contents (take (i + 1) row)) ≡ row_size (values_contents (take i row)) + param_size (value_content (get_or row i v))

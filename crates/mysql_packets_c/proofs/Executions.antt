@@ -21,7 +21,7 @@ use Rattle.mysql_packets_c.specs.Input.{used_of}
 use Rattle.mysql_packets_c.specs.Value.{param_content}
 use Rattle.mysql_packets_c.specs.Execution.{ExecutionInto, FillsParams, HoldsExecution, HoldsParams, KeepsRest, ParamsInto, TakesParams, bound_list, bound_of, content_of, contents_of, last_left, sends_types, type_held, types_of}
 use Rattle.mysql_packets_c.specs.declared.execution.CExecution.{CExecution}
-use Rattle.mysql_packets_c.specs.declared.execution.CParam.{CParam}
+use Rattle.mysql_packets_c.specs.declared.execution.CBoundParam.{CBoundParam}
 use Rattle.mysql_packets_c.specs.declared.rows.CColumnType.{CColumnType}
 use Rattle.mysql_packets_c.specs.declared.value.CValue.{CValue}
 use Rattle.mysql_packets_c.specs.Rows.{FillsBoth, FillsPlaces}
@@ -133,11 +133,11 @@ not-memory fault.Memory read h = absurd cc
 
 -- ---- what the server knows before
 
-list-at : (params : List CParam) (i n : ℕ) → n ≡ i → bound_list (drop i params) ≡ bound_list (drop n params)
+list-at : (params : List CBoundParam) (i n : ℕ) → n ≡ i → bound_list (drop i params) ≡ bound_list (drop n params)
 list-at params i n is = ap (λ (k : ℕ). bound_list (drop k params)) (sym is)
 
 -- all are left
-pub all-left : (sent : ParamsBytes) (params : List CParam) → sent.left ≡ length params → last_left sent params ≡ left_of sent (bound_list params)
+pub all-left : (sent : ParamsBytes) (params : List CBoundParam) → sent.left ≡ length params → last_left sent params ≡ left_of sent (bound_list params)
 all-left sent params len =
     let none : length params - sent.left ≡ 0 = omega (arith, len) in
     ap (λ (k : ℕ). left_of sent (bound_list (drop k params))) none
@@ -148,7 +148,7 @@ pub record NoneLeft (sent : ParamsBytes) (left : ParamsLeft) : Type 0 where
   pub end : left.end ≡ Ok sent.values
   pub attributes : left.attributes ≡ record { nulls = sent.nulls; place = sent.place; types = sent.types }
 
-pub none-left : (sent : ParamsBytes) (params : List CParam) → sent.left ≡ 0 → NoneLeft sent (last_left sent params)
+pub none-left : (sent : ParamsBytes) (params : List CBoundParam) → sent.left ≡ 0 → NoneLeft sent (last_left sent params)
 none-left sent params none =
     let n = length params - sent.left in
     let ps = bound_list (drop n params) in
@@ -159,10 +159,10 @@ none-left sent params none =
     record { none = (none, past.0); end = past.1; attributes = rw (at, types) refl }
 
 -- those after the parameter at this place
-abbrev pub others_at : List CParam → ℕ → List BoundParam
+abbrev pub others_at : List CBoundParam → ℕ → List BoundParam
 others_at params i = bound_list (drop (i + 1) params)
 
-module _ (old : ParamsBytes) (params : List CParam) (i : ℕ) (x d : CParam) (y : BoundParam) (fits : i < length params) (left : i + old.left ≡ length params) (is : x ≡ get_or params i d) (bound : y ≡ bound_of x) where
+module _ (old : ParamsBytes) (params : List CBoundParam) (i : ℕ) (x d : CBoundParam) (y : BoundParam) (fits : i < length params) (left : i + old.left ≡ length params) (is : x ≡ get_or params i d) (bound : y ≡ bound_of x) where
   -- as many are left
   pub left-with : length (y ∷ others_at params i) ≡ old.left
   left-with =
@@ -191,7 +191,7 @@ after-params : (view : ParamsLeft) (bytes : List ℕ) → view.end ≡ Ok bytes
 after-params view bytes end =
     ap (λ (e : Result (List ℕ) FaultKind). then_read (params_to view.params e) (λ ps after. then_read (attributes_at view.attributes after).all (λ attributes rest. Ok ((ps, attributes), rest)))) end
 
-module _ (c : CapabilityFlags) (flags : ℕ) (params : List BoundParam) (bytes : List ℕ) (sent after : ParamsBytes) (list : List CParam) (view : AttributesLeft)
+module _ (c : CapabilityFlags) (flags : ℕ) (params : List BoundParam) (bytes : List ℕ) (sent after : ParamsBytes) (list : List CBoundParam) (view : AttributesLeft)
     (is_view : view ≡ attributes_left after.nulls after.place after.types after.values) where
   abbrev old : ParamsLeft
   old = last_left sent list

@@ -1,6 +1,6 @@
 -- What filling places gives of a row.
-use Rattle.std.proofs.Common.{◌≡◌, ◌-◌, ◌++◌, ◌∷◌, ◌+◌, ◌<◌, ℕ, List, [], get_or, refl, slice_set, Option, Result, Ok, Err, length, map, take, drop, false, sym, subst, ap, ◌∙◌, arith, ◌==◌, Bool, if◌then◌else◌}
-use Rattle.std.proofs.lemmas.List.{append-nil, append_assoc, drop-drop, drop-set-lt, get_or-drop, length-set, map-append, take_more, take_more_set}
+use Rattle.std.proofs.Common.{◌≡◌, ◌-◌, ◌++◌, ◌∷◌, ◌+◌, ◌<◌, ◌≤◌, ℕ, List, [], get_or, refl, slice_set, Option, Result, Ok, Err, length, map, take, drop, false, sym, subst, ap, ◌∙◌, arith, ◌==◌, Bool, if◌then◌else◌}
+use Rattle.std.proofs.lemmas.List.{append-nil, append_assoc, drop-drop, drop-set-lt, get_or-drop, length-map, length-set, length-take-le, map-append, take_more, take_more_set}
 use Rattle.std.proofs.lemmas.List.Elements.{AllZip-push}
 use Rattle.std.specs.List.{AllZip}
 use Rattle.mysql_wire.specs.declared.fault.FaultKind.{FaultKind}
@@ -9,9 +9,11 @@ use Rattle.mysql_wire.specs.declared.fault.FaultOf.TheVariants as fault
 use Rattle.mysql_wire.specs.Reading.{Reading, Faults}
 use Rattle.mysql_values.specs.ParamValue.{ParamContent, Plain, WithOffset}
 use Rattle.mysql_values.specs.Value.{Content, NULL, Bytes, Int, UInt, Float, Double, Date, Time}
-use Rattle.mysql_prepared.specs.RowView.{Gives, RowLeft, IsDone, RefusesNext, read_to, read_of}
-use Rattle.mysql_packets_c.specs.Rows.{Fills, FillsBoth, FillsPlaces, values_held}
+use Rattle.mysql_prepared.specs.RowView.{Gives, IsBinaryRow, RowLeft, IsDone, RefusesNext, read_to, read_of, row_front, text_row_left}
+use Rattle.mysql_packets_c.specs.ColumnType.{type_of, unsigned_of}
+use Rattle.mysql_packets_c.specs.Rows.{Fills, FillsBoth, FillsGood, FillsPlaces, good_after, good_binary, good_text, values_held}
 use Rattle.mysql_packets_c.specs.Value.{IsSet, Sets, SetsParam, date_with_offset_of, kind_of, param_content, value_content}
+use Rattle.mysql_packets_c.specs.declared.rows.CColumnType.{CColumnType}
 use Rattle.mysql_packets_c.specs.declared.value.CValue.{CValue}
 
 -- what stands in the places so far
@@ -111,15 +113,63 @@ none-both columns is_read values others none = record {
   other_places = refl;
 }
 
--- the places of the values that were read are set
-pub some-filled : (columns : ℕ) (is_read : Type 0) (old new : RowLeft) (before after : List CValue) → old.left ≡ columns → Fills old new before after → (is_read → IsDone new)
-    → FillsPlaces columns is_read before after
-some-filled columns is_read old new before after left fills done = record {
-  count = old.left - new.left;
-  few = omega (arith, left);
-  all = λ h. let none : new.left ≡ 0 = (done h).0 in omega (arith, left, none);
-  places = record { set = fills.set; others = fills.others };
-}
+-- all that is good was read
+module _ (old new : RowLeft) (before after : List CValue) (fit : old.left ≤ length before) (fills : Fills old new before after) (none : new.values ≡ []) where
+  abbrev count : ℕ
+  count = old.left - new.left
+
+  all-good : old.values ≡ map value_content (take count after)
+  all-good = fills.values ∙ ap (λ vs. map value_content (take count after) ++ vs) none ∙ append-nil (map value_content (take count after))
+
+  good-count : length old.values ≡ count
+  good-count = ap length all-good ∙ length-map (take count after) value_content ∙ length-take-le count after (omega (arith, fit, fills.len))
+
+  pub good-filled : FillsGood old.values before after
+  good-filled = record {
+    held = ap (λ n. map value_content (take n after)) good-count ∙ sym all-good;
+    places = record {
+      set = subst (λ (n : ℕ). AllZip IsSet (take n before) (take n after)) (sym good-count) fills.set;
+      others = subst (λ (n : ℕ). drop n after ≡ drop n before) (sym good-count) fills.others;
+    };
+  }
+
+-- of a text row, whether it is whole or not
+pub text-whole : (columns : ℕ) (packet : List ℕ) (old new : RowLeft) (before after : List CValue) → old ≡ text_row_left columns packet → columns ≤ length before
+    → Fills old new before after → IsDone new → FillsGood (good_text columns packet) before after
+text-whole columns packet old new before after is fit fills done =
+    subst (λ (r : RowLeft). FillsGood r.values before after) is (good-filled old new before after (omega (arith, ap (λ (r : RowLeft). r.left) is, fit)) fills done.1)
+
+pub text-refused : (columns : ℕ) (packet : List ℕ) (old new : RowLeft) (before after : List CValue) (e : FaultOf) → old ≡ text_row_left columns packet → columns ≤ length before
+    → Fills old new before after → RefusesNext e new → FillsGood (good_text columns packet) before after
+text-refused columns packet old new before after e is fit fills refused =
+    subst (λ (r : RowLeft). FillsGood r.values before after) is (good-filled old new before after (omega (arith, ap (λ (r : RowLeft). r.left) is, fit)) fills refused.0)
+
+-- of a binary row after its front
+binary-good : (columns : List CColumnType) (packet : List ℕ) (row : RowLeft) (before after : List CValue) → IsBinaryRow type_of unsigned_of 2 columns packet row
+    → FillsGood row.values before after → FillsGood (good_binary columns packet) before after
+binary-good columns packet row before after is h =
+    subst (λ (r : _). FillsGood (good_after columns r) before after) (sym is.2) (subst (λ (r : RowLeft). FillsGood r.values before after) is.3 h)
+
+pub binary-whole : (columns : List CColumnType) (packet : List ℕ) (old new : RowLeft) (before after : List CValue) → IsBinaryRow type_of unsigned_of 2 columns packet old
+    → old.left ≤ length before → Fills old new before after → IsDone new → FillsGood (good_binary columns packet) before after
+binary-whole columns packet old new before after is fit fills done =
+    binary-good columns packet old before after is (good-filled old new before after fit fills done.1)
+
+pub binary-refused : (columns : List CColumnType) (packet : List ℕ) (old new : RowLeft) (before after : List CValue) (e : FaultOf) → IsBinaryRow type_of unsigned_of 2 columns packet old
+    → old.left ≤ length before → Fills old new before after → RefusesNext e new → FillsGood (good_binary columns packet) before after
+binary-refused columns packet old new before after e is fit fills refused =
+    binary-good columns packet old before after is (good-filled old new before after fit fills refused.0)
+
+-- no value stands after a front that is none
+nothing-filled : (before : List CValue) → FillsGood [] before before
+nothing-filled before = record { held = refl; places = record { set = tt; others = refl } }
+
+pub front-refused : (columns : List CColumnType) (packet : List ℕ) (before : List CValue) (e : FaultOf) → Faults false e ((row_front type_of unsigned_of 2 columns).reads packet)
+    → FillsGood (good_binary columns packet) before before
+front-refused columns packet before fault.UnexpectedEof h = subst (λ (r : _). FillsGood (good_after columns r) before before) (sym h) (nothing-filled before)
+front-refused columns packet before (fault.InvalidData text) h = subst (λ (r : _). FillsGood (good_after columns r) before before) (sym h) (nothing-filled before)
+front-refused columns packet before (fault.InvalidInput text) h = subst (λ (r : _). FillsGood (good_after columns r) before before) (sym h) (nothing-filled before)
+front-refused columns packet before fault.Memory h = absurd cc
 
 -- all values were read, and these bytes are left
 pub all-read : (read : Reading (List (Option Content))) (old new : RowLeft) (before after : List CValue) (rest : List ℕ)
@@ -144,4 +194,4 @@ one-refused read old new before after e is fills refused =
     let at_end : Faults false e (read_to [] old.end) = rw (refused.0, fills.end) at refused.1 in
     subst (λ (r : _). Faults false e r) is (fault-after old.values old.end e at_end)
 
-pub ruleset rows = (one-more, one-set, all-read, one-refused, none-filled, some-filled)
+pub ruleset rows = (one-more, one-set, all-read, one-refused, text-whole, text-refused, binary-whole, binary-refused, front-refused)

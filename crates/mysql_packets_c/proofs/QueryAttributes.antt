@@ -6,7 +6,7 @@ use Rattle.mysql_wire.specs.declared.fault.FaultOf.TheVariants as fault
 use Rattle.mysql_wire.specs.Reading.{Reading, Faults}
 use Rattle.mysql_packets_c.specs.Code.{fault_code}
 use Rattle.mysql_packets_c.specs.QueryAttribute.{AttributeInto, Gives, at}
-use Rattle.mysql_packets_c.specs.declared.query_attribute.CQueryAttribute.{CQueryAttribute}
+use Rattle.mysql_packets_c.specs.declared.parameter.CParameter.{CParameter}
 
 good-later : (later : Reading (List Attribute)) (a : Attribute) (items : List Attribute) (rest : List ℕ) → more a later ≡ Ok (items, rest)
     → (items ≡ a ∷ attributes_read later) × ((r : List ℕ) × (later ≡ Ok (attributes_read later, r)))
@@ -45,12 +45,12 @@ pub at-none : (list : List Attribute) (n : ℕ) → list ≡ [] → at list n �
 at-none list n e = rw e refl
 
 -- what is answered
-pub attribute-into : {A : Type 0} (attributes : A → List Attribute) (i : ℕ) (read : Reading A) (a : A) (rest : List ℕ) (x : Option Attribute) (code : ℕ) (old new : CQueryAttribute)
+pub attribute-into : {A : Type 0} (attributes : A → List Attribute) (i : ℕ) (read : Reading A) (a : A) (rest : List ℕ) (x : Option Attribute) (code : ℕ) (old new : CParameter)
     → read ≡ Ok (a, rest) → at (attributes a) i ≡ x → Gives x code old new → AttributeInto attributes i read code old new
 attribute-into attributes i read a rest x code old new e is h =
     subst (λ (r : _). AttributeInto attributes i r code old new) (sym e) (subst (λ (o : Option Attribute). Gives o code old new) (sym is) h)
 
-pub attribute-fault : {A : Type 0} (attributes : A → List Attribute) (i : ℕ) (read : Reading A) (e : FaultOf) (old : CQueryAttribute) → Faults false e read → AttributeInto attributes i read (fault_code e) old old
+pub attribute-fault : {A : Type 0} (attributes : A → List Attribute) (i : ℕ) (read : Reading A) (e : FaultOf) (old : CParameter) → Faults false e read → AttributeInto attributes i read (fault_code e) old old
 attribute-fault attributes i read fault.UnexpectedEof old h = subst (λ (r : _). AttributeInto attributes i r 1 old old) (sym h) (refl, refl)
 attribute-fault attributes i read (fault.InvalidData text) old h = subst (λ (r : _). AttributeInto attributes i r 2 old old) (sym h) (refl, refl)
 attribute-fault attributes i read (fault.InvalidInput text) old h = subst (λ (r : _). AttributeInto attributes i r 3 old old) (sym h) (refl, refl)

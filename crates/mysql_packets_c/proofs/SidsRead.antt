@@ -25,7 +25,7 @@ from_none (Err e) h = (e, refl)
 same-some : {A : Type 0} (x y : A) → ◌≡◌ {A = Option A} (Some x) (Some y) → x ≡ y
 same-some x y h = cc
 
--- what was read before: it stands in the places, if they are so many
+-- what was read before: it stands in the places, if they are this many
 pub record StandsBefore (n : ℕ) (places : List CInterval) (left total : Result (List GnoInterval) InvalidSid) : Type 0 where
   pub front : List GnoInterval
   pub read : with_front front left ≡ total

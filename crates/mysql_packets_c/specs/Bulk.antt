@@ -4,7 +4,7 @@ use Rattle.std.specs.List.{flat_map, list_all}
 use Rattle.mysql_cuts.specs.Cut.{PartFits, request_size}
 use Rattle.mysql_bulk.specs.Builder.{BuilderState, RowFits, TakesRow, packing}
 use Rattle.mysql_bulk.specs.BuilderRows.{rows_of}
-use Rattle.mysql_bulk.specs.ColumnTypes.{TakesTypes, may_be_declared, spell_row, spells}
+use Rattle.mysql_bulk.specs.ColumnTypes.{TakesTypes, is_declarable, spell_row, can_encode}
 use Rattle.mysql_bulk.specs.Head.{head}
 use Rattle.mysql_bulk.specs.Request.{request_flags}
 use Rattle.mysql_bulk.specs.RequestWriter.{IsBuilt, new_builder}
@@ -32,7 +32,7 @@ declared_types types = map declared_type types
 
 -- the first type that may not be declared
 abbrev pub first_undeclared : List ParamType → Option ℕ
-first_undeclared types = position (λ kind. not (may_be_declared kind)) types
+first_undeclared types = position (λ kind. not (is_declarable kind)) types
 
 abbrev pub first_refused : List CColumnType → Option ℕ
 first_refused types = first_undeclared (declared_types types)
@@ -142,13 +142,13 @@ builder_for call = builder_of call.statement_id call.flags call.max_allowed_pack
 
 -- it is a value, which the type of its column spells
 abbrev pub takes_value : CColumnType → CValue → Bool
-takes_value column value = is_value value && spells (declared_type column) (value_content value)
+takes_value column value = is_value value && can_encode (declared_type column) (value_content value)
 
 -- the row is of values, which the types of their columns spell
 abbrev pub takes_row : List CColumnType → List CValue → Bool
 takes_row columns row = list_all is_value row && spell_row (declared_types columns) (values_contents row)
 
--- the first rows may be a request, which takes so many bytes
+-- the first rows may be a request, which takes a given number of bytes
 pub record HasRows (s : BuilderState) (columns count len : ℕ) (values : List CValue) : Type 0 where
   pub are_rows : AreRows columns count values
   pub taken : All (TakesTypes s.columns) (first_rows columns count values)

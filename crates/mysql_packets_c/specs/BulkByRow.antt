@@ -7,7 +7,7 @@ use Rattle.mysql_bulk.specs.ColumnTypes.{TakesTypes}
 use Rattle.mysql_bulk.specs.ParamValue.{cell}
 use Rattle.mysql_bulk.specs.RequestWriter.{IsBuilt}
 use Rattle.mysql_bulk.specs.Row.{row_size}
-use Rattle.mysql_bulk.specs.declared.error.BulkRowRefusal.TheVariants.{TooLarge}
+use Rattle.mysql_bulk.specs.declared.error.BulkRowError.TheVariants.{TooLarge}
 use Rattle.mysql_values.specs.Value.{Content}
 use Rattle.mysql_packets_c.specs.Bulk.{builder_of, cell_bytes, declared_types, first_refused, head_bytes}
 use Rattle.mysql_packets_c.specs.Value.{values_contents}

@@ -59,7 +59,7 @@ pub record SaysMore (out : CChangeUser) : Type 0 where
   pub auth_plugin_name : SaysSent out.has_auth_plugin_name out.auth_plugin_name.now
   pub attributes : SaysSent out.has_attributes out.attributes.now
 
--- but for these the struct is as it was
+-- except for these the struct is as it was
 pub record KeepsOthers (old new : CChangeUser) : Type 0 where
   pub user : new.user.now ≡ old.user.now
   pub auth_response : new.auth_response.now ≡ old.auth_response.now

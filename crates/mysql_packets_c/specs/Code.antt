@@ -29,14 +29,16 @@ ReadsInto Holds (Err k) code old new = (code ≡ kind_code k) × (new ≡ old)
 -- what a code means, in words
 abbrev pub code_text : ℕ → Option (List ℕ)
 code_text code =
-    if code == 0 then Some (codes "done")
-    else if code == 1 then Some (codes "bytes are missing")
-    else if code == 2 then Some (codes "the bytes spell no such packet")
-    else if code == 3 then Some (codes "what was passed fits no packet")
-    else if code == 4 then Some (codes "no memory holds so many bytes")
+    if code == 0 then Some (codes "success")
+    else if code == 1 then Some (codes "the packet is truncated")
+    else if code == 2 then Some (codes "the bytes are not a valid packet of this type")
+    else if code == 3 then Some (codes "an argument fits no packet")
+    else if code == 4 then Some (codes "the total length overflows size_t")
     else if code == 5 then Some (codes "the buffer is too small")
     else if code == 6 then Some (codes "a row is too large for a request")
-    else if code == 7 then Some (codes "nothing is left")
+    else if code == 7 then Some (codes "end of the list")
+    else if code == 8 then Some (codes "the number is out of range")
+    else if code == 9 then Some (codes "both sides agreed on compression")
     else None
 
 -- 0 and the text of a code; or 3, and the place is as it was

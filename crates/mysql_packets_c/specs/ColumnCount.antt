@@ -13,12 +13,8 @@ pub record IsCount (packet : List ℕ) (c : ColumnCount) (rest : List ℕ) (out 
   pub used : out.used ≡ used_of packet rest
 
 -- MySQL's flags, and MariaDB's own
-abbrev pub session_with : ℕ → ℕ → SessionCapabilities
-session_with capabilities mariadb = record { mysql = record { 0 = capabilities; 1 = record {} }; mariadb = record { 0 = mariadb; 1 = record {} } }
-
--- none of MySQL's flags, and MariaDB's own of these bits
-abbrev pub session_of : ℕ → SessionCapabilities
-session_of bits = session_with 0 bits
+abbrev pub session_of : ℕ → ℕ → SessionCapabilities
+session_of capabilities mariadb = record { mysql = record { 0 = capabilities; 1 = record {} }; mariadb = record { 0 = mariadb; 1 = record {} } }
 
 -- the count of these fields: where a byte says it, 1 says that definitions follow, and 0 that none do
 abbrev pub count_given : SessionCapabilities → CColumnCount → ColumnCount

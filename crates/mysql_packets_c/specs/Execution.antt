@@ -26,7 +26,7 @@ use Rattle.mysql_packets_c.specs.Input.{used_of}
 use Rattle.mysql_packets_c.specs.Value.{IsSet, date_with_offset_of, is_offset_date, is_value, param_content, value_content}
 use Rattle.mysql_packets_c.specs.declared.execution.CExecution.{CExecution}
 use Rattle.mysql_packets_c.specs.declared.execution.CExecutionHead.{CExecutionHead}
-use Rattle.mysql_packets_c.specs.declared.execution.CParam.{CParam}
+use Rattle.mysql_packets_c.specs.declared.execution.CBoundParam.{CBoundParam}
 use Rattle.mysql_packets_c.specs.declared.rows.CColumnType.{CColumnType}
 use Rattle.mysql_packets_c.specs.declared.value.CValue.{CValue}
 
@@ -44,17 +44,17 @@ abbrev pub is_set : ℕ → Bool
 is_set n = not (n == 0)
 
 -- the parameter; a code that is no type is that of a type which no value has
-abbrev pub bound_of : CParam → BoundParam
+abbrev pub bound_of : CBoundParam → BoundParam
 bound_of p = record {
   param_type = typed (unwrap_or (column_type_of p.column_type) column_type.MYSQL_TYPE_CODE_14) (is_set p.is_unsigned);
   is_sent_ahead = is_set p.is_sent_ahead;
 }
 
-abbrev pub bound_list : List CParam → List BoundParam
+abbrev pub bound_list : List CBoundParam → List BoundParam
 bound_list params = map bound_of params
 
 -- what is left of an execution of these parameters, of which the last ones are left
-abbrev pub last_left : ParamsBytes → List CParam → ParamsLeft
+abbrev pub last_left : ParamsBytes → List CBoundParam → ParamsLeft
 last_left sent params = left_of sent (bound_list (drop (length params - sent.left) params))
 
 -- ---- what is answered
@@ -117,7 +117,7 @@ ExecutionInto capabilities packet params (Ok h) values types code old new =
     (HoldsExecution packet h.0 (sends_types ((execution_front capabilities (head.cursor_flags h.0) (length params)).reads h.1))) code old new
 ExecutionInto capabilities packet params (Err k) values types code old new = (code ≡ kind_code k) × (new ≡ old)
 
--- the parameters are what reading gives, so many attributes follow, and these bytes are left; or reading gives the fault
+-- the parameters are what reading gives, a given number of attributes follow, and these bytes are left; or reading gives the fault
 abbrev pub TakesParams : CapabilityFlags → (flags : ℕ) → List BoundParam → Result (Bool × ℕ × List ℕ) FaultOf → List CValue → List CColumnType → (bytes : List ℕ) → Type 0
 TakesParams capabilities flags params (Ok x) values types bytes =
     (list : List TypedParam) × (attributes : List Attribute) × ((execution capabilities flags params).reads bytes ≡ Ok ((list, attributes), x.2))

@@ -25,7 +25,7 @@ PutsDump None dump_of code old new written = (code ≡ 3) × (new ≡ old) × (w
 abbrev pub SidsStand : List Sid → CGtidDump → Type 0
 SidsStand list out = StandIn ((lib.sid_as (is_set out.is_tagged)).form tt) out.n_sids out.sids.now list
 
--- but for the sids the struct is as it was
+-- except for the sids the struct is as it was
 pub record KeepsOthers (old new : CGtidDump) : Type 0 where
   pub file_name : new.file_name.now ≡ old.file_name.now
   pub position : new.position ≡ old.position

@@ -1,12 +1,17 @@
 -- The initial handshake, as C has it.
 use Rattle.std.specs.Option.{unwrap_or}
-use Rattle.std.specs.Prelude.{◌≡◌, ℕ, List, [], length, Option, Some, None, Bool, true, false, if◌then◌else◌, not, ◌&&◌, ◌==◌, nat_le}
+use Rattle.std.specs.Prelude.{◌≡◌, ℕ, List, [], ◌∷◌, length, Option, Some, None, Bool, true, false, if◌then◌else◌, not, ◌&&◌, ◌||◌, ◌==◌, nat_le}
 use Rattle.mysql_auth.specs.Handshake as handshake
 use Rattle.mysql_auth.specs.PluginName.{has_zero}
 use Rattle.mysql_auth.specs.declared.handshake.HandshakePacket.{HandshakePacket}
 use Rattle.mysql_packets_c.specs.Input.{used_of}
 use Rattle.mysql_packets_c.specs.Output.{PutsUnlessTooLong}
 use Rattle.mysql_packets_c.specs.declared.handshake.CHandshake.{CHandshake}
+
+-- the first byte is a version of the protocol: an error in its place begins with ff
+abbrev pub is_greeting : List ℕ → Bool
+is_greeting [] = true
+is_greeting (version ∷ bytes) = version == 10 || version == 9
 
 -- what is absent is empty
 pub record IsHandshake (packet : List ℕ) (p : HandshakePacket) (rest : List ℕ) (out : CHandshake) : Type 0 where

@@ -12,6 +12,6 @@ abbrev pub ReadsWhole : {A : Type 0} → Bool → List ℕ → Result (A × ℕ)
 ReadsWhole takes_memory packet (Ok x) read = (rest : List ℕ) × (read ≡ Ok (x.0, rest)) × (x.1 ≡ used_of packet rest)
 ReadsWhole takes_memory packet (Err e) read = Faults takes_memory e read
 
--- a packet without fields takes so many bytes
+-- a packet without fields takes a given number of bytes
 abbrev pub IsUsed : {A : Type 0} → List ℕ → A → List ℕ → ℕ → Type 0
 IsUsed packet value rest used = used ≡ used_of packet rest

@@ -21,7 +21,6 @@ pub mod Dump
 pub mod ErrPacket
 pub mod Execution
 pub mod ExecutionAttribute
-pub mod ExtendedColumn
 pub mod FieldListColumn
 pub mod Given
 pub mod GtidDump
@@ -35,12 +34,12 @@ pub mod Login
 pub mod LongData
 pub mod OkPacket
 pub mod Output
+pub mod Parameter
 pub mod Parsec
 pub mod PublicKey
 pub mod Query
 pub mod QueryAttribute
 pub mod RegisterReplica
-pub mod Reply
 pub mod Rows
 pub mod Scramble
 pub mod SemiSyncAck
@@ -55,5 +54,6 @@ pub mod StreamPlaces
 pub mod Supported
 pub mod TableDump
 pub mod TextDump
+pub mod TextNumber
 pub mod Value
 pub mod WrittenExecution

@@ -1,15 +1,22 @@
--- A query without attributes, as it is sent.
-use Rattle.std.specs.Prelude.{ℕ, List, [], ◌∷◌, Some, None, if◌then◌else◌}
-use Rattle.mysql_wire.specs.Flags.{CapabilityFlags}
-use Rattle.mysql_commands.specs.AsSent.{sent_of}
-use Rattle.mysql_commands.specs.Query.{query_of, sends_attributes}
-use Rattle.mysql_prepared.specs.Attributes.{Attribute}
-use Rattle.mysql_commands.specs.declared.as_sent.AsSent.{AsSent}
-use Rattle.mysql_commands.specs.declared.query.ComQueryRef.{ComQueryRef}
+-- A query that is written, as C asks for it.
+use Rattle.std.specs.Prelude.{ℕ, Bool, ◌&&◌, ◌||◌, not, is_some, List, Option}
+use Rattle.std.specs.Option.{option_map}
+use Rattle.mysql_prepared.specs.SentParam.{first_unspelled}
+use Rattle.mysql_prepared.specs.declared.com_query.ComQuery.{ComQuery}
+use Rattle.mysql_packets_c.specs.Parameter.{are_agreed, are_parameters, sent}
+use Rattle.mysql_packets_c.specs.declared.parameter.CParameter.{CParameter}
 
--- no attribute, as it is spelled: how many there are, and one set of them
-abbrev pub no_attributes : AsSent (List Attribute)
-no_attributes = sent_of [] (0 ∷ 1 ∷ [])
+-- the query of this text with these attributes, wherever they are
+abbrev pub query_of : Option (List CParameter) → List ℕ → ComQuery CParameter
+query_of attributes text = record {
+  attributes = option_map (λ l. record { ref_ptr = (0, 0); now = l }) attributes;
+  text = record { ref_ptr = (0, 0); now = text };
+}
 
-abbrev pub query_given : CapabilityFlags → List ℕ → ComQueryRef
-query_given capabilities text = query_of (if sends_attributes capabilities then Some no_attributes else None) text
+-- the types of all can encode their values
+abbrev pub are_encoded : List CParameter → Bool
+are_encoded attributes = not (is_some (first_unspelled (sent attributes)))
+
+-- each attribute is one, and if it is written its type can encode its value
+abbrev pub may_write : ℕ → List CParameter → Bool
+may_write capabilities attributes = are_parameters attributes && (not (are_agreed capabilities) || are_encoded attributes)

@@ -1,9 +1,9 @@
 -- An attribute of a query or an execution, as C has it.
 use Rattle.std.specs.Prelude.{◌≡◌, ℕ, zero, suc, List, [], ◌∷◌, Option, Some, None, Result, Ok, Err, false, if◌then◌else◌}
-use Rattle.mysql_commands.specs.AsSent as sent
+use Rattle.mysql_commands.specs.WithRawBytes as sent
 use Rattle.mysql_commands.specs.Query.{sent_attributes}
 use Rattle.mysql_prepared.specs.Attributes.{Attribute, AttributesLeft, IsGood, attributes_read}
-use Rattle.mysql_commands.specs.declared.as_sent.AsSent.{AsSent}
+use Rattle.mysql_commands.specs.declared.with_raw_bytes.WithRawBytes.{WithRawBytes}
 use Rattle.mysql_commands.specs.declared.query.ComQueryRef.{ComQueryRef}
 use Rattle.mysql_wire.specs.ColumnType.{column_type_code}
 use Rattle.mysql_wire.specs.FlagMasks.{UNSIGNED}
@@ -12,7 +12,7 @@ use Rattle.mysql_wire.specs.Reading.{Reading, Faults}
 use Rattle.mysql_wire.specs.declared.fault.FaultOf.{FaultOf}
 use Rattle.mysql_packets_c.specs.Code.{kind_code}
 use Rattle.mysql_packets_c.specs.Value.{SetsParam, param_content}
-use Rattle.mysql_packets_c.specs.declared.query_attribute.CQueryAttribute.{CQueryAttribute}
+use Rattle.mysql_packets_c.specs.declared.parameter.CParameter.{CParameter}
 
 -- the item at a place, the first being 0
 abbrev pub at : {A : Type 0} → List A → ℕ → Option A
@@ -20,7 +20,7 @@ at [] i = None
 at (x ∷ xs) zero = Some x
 at (x ∷ xs) (suc i) = at xs i
 
-abbrev pub listed : Option (AsSent (List Attribute)) → List Attribute
+abbrev pub listed : Option (WithRawBytes (List Attribute)) → List Attribute
 listed None = []
 listed (Some attributes) = sent.value attributes
 
@@ -28,20 +28,22 @@ listed (Some attributes) = sent.value attributes
 abbrev pub attributes_of : ComQueryRef → List Attribute
 attributes_of q = listed (sent_attributes q)
 
-pub record IsQueryAttribute (a : Attribute) (old new : CQueryAttribute) : Type 0 where
+pub record IsQueryAttribute (a : Attribute) (old new : CParameter) : Type 0 where
   pub name : new.name.now ≡ a.named_type.name
   pub content : param_content new.value ≡ a.value
   pub value : SetsParam a.value old.value new.value
+  pub has_type : new.has_type ≡ 1
   pub column_type : new.column_type ≡ column_type_code a.named_type.param_type.column_type
   pub is_unsigned : new.is_unsigned ≡ (if has a.named_type.param_type.flags.0 UNSIGNED then 1 else 0)
+  pub is_sent_ahead : new.is_sent_ahead ≡ 0
 
 -- 0 and that attribute; or 7, and the struct is as it was
-abbrev pub Gives : Option Attribute → ℕ → (old new : CQueryAttribute) → Type 0
+abbrev pub Gives : Option Attribute → ℕ → (old new : CParameter) → Type 0
 Gives (Some a) code old new = (code ≡ 0) × IsQueryAttribute a old new
 Gives None code old new = (code ≡ 7) × (new ≡ old)
 
 -- the attribute at a place of those that were read; or the code of the first fault, and the struct is as it was
-abbrev pub AttributeInto : {A : Type 0} → (attributes : A → List Attribute) → ℕ → Reading A → ℕ → (old new : CQueryAttribute) → Type 0
+abbrev pub AttributeInto : {A : Type 0} → (attributes : A → List Attribute) → ℕ → Reading A → ℕ → (old new : CParameter) → Type 0
 AttributeInto attributes i (Ok x) code old new = Gives (at (attributes x.0) i) code old new
 AttributeInto attributes i (Err k) code old new = (code ≡ kind_code k) × (new ≡ old)
 

@@ -1,8 +1,9 @@
 -- Rows, as C has them.
 use Rattle.std.specs.List.{AllZip, list_all}
-use Rattle.std.specs.Prelude.{◌≡◌, ◌≤◌, ◌-◌, ◌++◌, ℕ, List, length, take, drop, map, Option, Some, Result, Ok, Err, false, None, Bool, if◌then◌else◌, ◌==◌, ◌&&◌, nat_lt}
+use Rattle.std.specs.Prelude.{◌≡◌, ◌≤◌, ◌-◌, ◌++◌, ℕ, List, [], length, take, drop, map, Option, Some, Result, Ok, Err, false, None, Bool, if◌then◌else◌, ◌==◌, ◌&&◌, nat_lt}
 use Rattle.mysql_prepared.specs.BinaryRow.{IsRowBytes, row_len, takes_row}
-use Rattle.mysql_prepared.specs.RowView.{RowLeft}
+use Rattle.mysql_prepared.specs.Bitmap.{Bitmap}
+use Rattle.mysql_prepared.specs.RowView.{RowLeft, ref_cell, row_front, row_left, text_row_left}
 use Rattle.mysql_values.specs.Value.{Content}
 use Rattle.mysql_wire.specs.Reading.{Reading, Faults}
 use Rattle.mysql_wire.specs.declared.fault.FaultOf.{FaultOf}
@@ -41,7 +42,23 @@ pub record FillsBoth {X : Type 0} (columns : ℕ) (is_read : Type 0) (before aft
   pub places : SetsFirst count before after
   pub other_places : drop count others_after ≡ drop count others_before
 
--- the values are what reading gives, and so many bytes are used; or reading gives the fault
+-- the values of a row before its first fault: all of them if there is none
+abbrev pub good_text : ℕ → List ℕ → List Content
+good_text columns packet = (text_row_left columns packet).values
+
+abbrev pub good_after : List CColumnType → Reading Bitmap → List Content
+good_after columns (Ok x) = (row_left (ref_cell type_of unsigned_of x.0.bytes 2) 0 columns x.1).values
+good_after columns (Err k) = []
+
+abbrev pub good_binary : List CColumnType → List ℕ → List Content
+good_binary columns packet = good_after columns ((row_front type_of unsigned_of 2 columns).reads packet)
+
+-- these values stand in the first places, and the other places are as they were
+pub record FillsGood (good : List Content) (before after : List CValue) : Type 0 where
+  pub held : map value_content (take (length good) after) ≡ good
+  pub places : SetsFirst (length good) before after
+
+-- the values are what reading gives, and a given number of bytes are used; or reading gives the fault
 abbrev pub TakesRow : List ℕ → Result ℕ FaultOf → List CValue → Reading (List (Option Content)) → Type 0
 TakesRow packet (Ok used) values read = (rest : List ℕ) × (read ≡ Ok (values_held values, rest)) × (used ≡ used_of packet rest)
 TakesRow packet (Err e) values read = Faults false e read

@@ -1,7 +1,8 @@
--- What mysql_native_password answers to a scramble.
+-- The responses of authentication plugins to a nonce.
 use Rattle.std.specs.Prelude.{ℕ, List, [], ◌∷◌, ◌++◌}
 use Rattle.std.specs.Int.Bits.{bit_xor}
 use Rattle.sha1.specs.Sha1.{sha1}
+use Rattle.sha2.specs.Sha256.{sha256}
 
 -- each pair of bytes as one
 abbrev pub mixed : List ℕ → List ℕ → List ℕ
@@ -13,3 +14,8 @@ mixed (x ∷ xs) (y ∷ ys) = bit_xor x y ∷ mixed xs ys
 abbrev pub native_answer : List ℕ → List ℕ → List ℕ
 native_answer [] nonce = []
 native_answer (b ∷ password) nonce = mixed (sha1 (b ∷ password)) (sha1 (nonce ++ sha1 (sha1 (b ∷ password))))
+
+-- SHA256(password) mixed with SHA256(SHA256(SHA256(password)), nonce); no bytes of an empty password
+abbrev pub sha2_answer : List ℕ → List ℕ → List ℕ
+sha2_answer [] nonce = []
+sha2_answer (b ∷ password) nonce = mixed (sha256 (b ∷ password)) (sha256 (sha256 (sha256 (b ∷ password)) ++ nonce))

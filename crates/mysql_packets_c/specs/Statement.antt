@@ -1,36 +1,32 @@
 -- The answer to a preparation, as C has it.
-use Rattle.std.specs.Prelude.{◌≡◌, ◌<◌, ℕ, List}
+use Rattle.std.specs.Prelude.{◌≡◌, ℕ, List, Bool, ◌||◌, Option, Some, None, if◌then◌else◌}
+use Rattle.std.specs.Option.{unwrap_or}
 use Rattle.mysql_prepared.specs.Stmt as stmt
-use Rattle.mysql_prepared.specs.declared.stmt.StmtPacket.{StmtPacket}
 use Rattle.mysql_prepared.specs.StmtWithMetadata as with_metadata
 use Rattle.mysql_prepared.specs.declared.stmt_with_metadata.StmtPacketWithMetadata.{StmtPacketWithMetadata}
-use Rattle.mysql_packets_c.specs.Given.{if_set}
-use Rattle.mysql_packets_c.specs.declared.statement.CStatement.{CStatement}
-use Rattle.mysql_packets_c.specs.declared.statement.CStatementWithMetadata.{CStatementWithMetadata}
+use Rattle.mysql_wire.specs.Flags.{CapabilityFlags}
+use Rattle.mysql_packets_c.specs.Given.{is_set}
 use Rattle.mysql_packets_c.specs.Input.{used_of}
+use Rattle.mysql_packets_c.specs.declared.statement.CStatement.{CStatement}
 
-pub record IsStatement (packet : List ℕ) (p : StmtPacket) (rest : List ℕ) (out : CStatement) : Type 0 where
-  pub statement_id : out.statement_id ≡ stmt.statement_id p
-  pub num_columns : out.num_columns ≡ stmt.num_columns p
-  pub num_params : out.num_params ≡ stmt.num_params p
-  pub warning_count : out.warning_count ≡ stmt.warning_count p
-  pub used : out.used ≡ used_of packet rest
-
--- 1 beside a byte that was sent; or 0, beside 0
-pub record SaysByte (has byte : ℕ) : Type 0 where
-  pub flag : has < 2
-  pub none : has ≡ 0 → byte ≡ 0
-
-pub record IsStatementWithMetadata (packet : List ℕ) (p : StmtPacketWithMetadata) (rest : List ℕ) (out : CStatementWithMetadata) : Type 0 where
+-- definitions follow where no byte says whether they do
+pub record IsStatement (packet : List ℕ) (p : StmtPacketWithMetadata) (rest : List ℕ) (out : CStatement) : Type 0 where
   pub statement_id : out.statement_id ≡ stmt.statement_id (with_metadata.packet_of p)
   pub num_columns : out.num_columns ≡ stmt.num_columns (with_metadata.packet_of p)
   pub num_params : out.num_params ≡ stmt.num_params (with_metadata.packet_of p)
   pub warning_count : out.warning_count ≡ stmt.warning_count (with_metadata.packet_of p)
-  pub metadata : if_set out.has_metadata out.metadata ≡ with_metadata.metadata_of p
-  pub has_metadata : SaysByte out.has_metadata out.metadata
+  pub metadata_follows : out.metadata_follows ≡ unwrap_or (with_metadata.metadata_of p) 1
   pub used : out.used ≡ used_of packet rest
 
+-- the byte that says whether definitions follow
+abbrev pub byte_of : CapabilityFlags → ℕ → Option ℕ
+byte_of capabilities follows = if with_metadata.sends_metadata capabilities then Some follows else None
+
+-- definitions follow, or a byte can say that none do
+abbrev pub is_sayable : CapabilityFlags → CStatement → Bool
+is_sayable capabilities c = with_metadata.sends_metadata capabilities || is_set c.metadata_follows
+
 -- the packet of these fields
-pub record IsGivenStatement (c : CStatementWithMetadata) (p : StmtPacketWithMetadata) : Type 0 where
+pub record IsGivenStatement (capabilities : CapabilityFlags) (c : CStatement) (p : StmtPacketWithMetadata) : Type 0 where
   pub packet : with_metadata.packet_of p ≡ stmt.stmt_packet_of c.statement_id c.num_columns c.num_params c.warning_count
-  pub metadata : with_metadata.metadata_of p ≡ if_set c.has_metadata c.metadata
+  pub metadata : with_metadata.metadata_of p ≡ byte_of capabilities c.metadata_follows

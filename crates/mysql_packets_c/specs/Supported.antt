@@ -1,13 +1,12 @@
--- The flags under which some call reads and some writes each packet of a session: all that there are but compression, and the attributes of
--- queries, under which executions have another layout.
+-- The flags under which some call reads and some writes each packet of a session: all that there are but compression.
 use Rattle.std.specs.Prelude.{ℕ}
 use Rattle.bitflags.specs.Sets.{without}
-use Rattle.mysql_wire.specs.FlagMasks.{CLIENT_COMPRESS, CLIENT_ZSTD_COMPRESSION_ALGORITHM, CLIENT_QUERY_ATTRIBUTES, MARIADB_CLIENT_COM_MULTI}
+use Rattle.mysql_wire.specs.FlagMasks.{CLIENT_COMPRESS, CLIENT_ZSTD_COMPRESSION_ALGORITHM, MARIADB_CLIENT_COM_MULTI}
 
--- the flags of enum myp_capability, but for these
+-- the flags of enum myp_client_flag, except for these
 abbrev pub supported : ℕ
-supported = without 32 (without 32 (without 32 0x7fff_ffff CLIENT_COMPRESS) CLIENT_ZSTD_COMPRESSION_ALGORITHM) CLIENT_QUERY_ATTRIBUTES
+supported = without 32 (without 32 0x7fff_ffff CLIENT_COMPRESS) CLIENT_ZSTD_COMPRESSION_ALGORITHM
 
--- the flags of enum myp_mariadb_capability, but for COM_MULTI
+-- the flags of enum myp_mariadb_client_flag, except for COM_MULTI
 abbrev pub supported_of_mariadb : ℕ
 supported_of_mariadb = without 32 0x3f MARIADB_CLIENT_COM_MULTI

@@ -15,9 +15,9 @@ use mysql_wire::{Buffer, IntRepr, LenEnc, MySerialize, ParseBuf, Parts, RawBytes
 use std::alloc::Global;
 use std::borrow::CowSlice;
 
-/// Takes the next attribute off the front: 0; 7 where no byte is left; or 1 or 2. After another code than 0 all is as it was.
+/// Takes the next attribute off the front; 7 if no byte is left. After another code than 0 all places are unchanged.
 #[unsafe(no_mangle)]
-pub extern "C" fn myp_next_attribute<'a>(
+pub extern "C" fn myp_next_connection_attribute<'a>(
     alloc: Global,
     rest: &mut CBytes<'a>,
     name: &mut CBytes<'a>,
@@ -40,7 +40,7 @@ pub extern "C" fn myp_next_attribute<'a>(
     OK
 }
 
-/// `myp_attribute`.
+/// `myp_connection_attribute`.
 #[repr(C)]
 #[derive(Clone, Copy, Drop)]
 pub struct CAttribute<'a> {
@@ -88,7 +88,7 @@ fn has_name(attributes: &[CAttribute<'_>], name: &[u8]) -> bool
     attributes.iter().any(|attribute| name == attribute.name)
 }
 
-/// The value that the name of an attribute has in the end, where these stand after it.
+/// The last value of an attribute's name among the following ones.
 #[tactic(auto, using(crate::proofs::MergedNames::last_values))]
 fn last_of<'a>(attributes: &[CAttribute<'a>], first: &CAttribute<'a>) -> &'a [u8]
     ensures { result.now ≡ given.last_of first.now.name.now first.now.value.now (given.pairs_of attributes.now) }
@@ -118,7 +118,7 @@ fn first_at<'a>(attributes: &[CAttribute<'a>], place: usize) -> Option<CAttribut
     })
 }
 
-/// How many bytes the pairs are written as, or `usize::MAX` where that is less. Of two with one name the later value counts, at the
+/// The encoded length of the pairs, or `usize::MAX` if it is greater. If a name is repeated, the last value counts, at the
 /// place of the first.
 fn pairs_len(attributes: &[CAttribute<'_>]) -> usize
     ensures { result ≡ saturated (length (pairs_bytes (given.merged_pairs attributes.now))) }

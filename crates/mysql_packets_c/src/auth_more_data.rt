@@ -15,7 +15,7 @@ use mysql_auth::{AuthMoreData, AuthMoreDataRef};
 use std::alloc::Global;
 use std::borrow::CowSlice;
 
-/// Reads `Protocol::AuthMoreData`: 0, and the plugin's data; or 1 or 2, and the place is as it was.
+/// Reads `Protocol::AuthMoreData`. After an error (1 or 2) the place is unchanged.
 #[unsafe(no_mangle)]
 pub extern "C" fn myp_read_auth_more_data<'a>(
     alloc: Global,
@@ -33,7 +33,7 @@ pub extern "C" fn myp_read_auth_more_data<'a>(
     }
 }
 
-/// Writes `Protocol::AuthMoreData`: 0; 5, and how many bytes it takes.
+/// Writes `Protocol::AuthMoreData`. If the buffer is too small (5), `written` is the length needed.
 #[tactic(auto, using(crate::proofs::Codes::codes), unfolding(mysql_auth::specs::AuthMoreData::auth_more_data, mysql_wire::specs::Writing::le_bytes))]
 #[unsafe(no_mangle)]
 pub extern "C" fn myp_write_auth_more_data(

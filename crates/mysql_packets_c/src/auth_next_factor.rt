@@ -17,7 +17,7 @@ use mysql_auth::{AuthNextFactor, AuthNextFactorRef};
 use std::alloc::Global;
 use std::borrow::CowSlice;
 
-/// Reads `Protocol::AuthNextFactorRequest`: 0; or 1 or 2, and the struct is as it was.
+/// Reads `Protocol::AuthNextFactorRequest`. After an error (1 or 2) the struct is unchanged.
 #[unsafe(no_mangle)]
 pub extern "C" fn myp_read_auth_next_factor<'a>(
     alloc: Global,
@@ -36,7 +36,8 @@ pub extern "C" fn myp_read_auth_next_factor<'a>(
     }
 }
 
-/// Writes `Protocol::AuthNextFactorRequest`: 0; 5, and how many bytes it takes; 4; or 3 of a name with a zero.
+/// Writes `Protocol::AuthNextFactorRequest`. Errors: 5 if the buffer is too small, with the length needed; 4 if the length
+/// overflows; 3 for a name with a zero.
 #[unsafe(no_mangle)]
 pub extern "C" fn myp_write_auth_next_factor(
     request: &CAuthSwitch<'_>,

@@ -26,7 +26,7 @@ pub struct CAuthSwitch<'a> {
     pub plugin_data: &'a [u8],
 }
 
-/// Reads `Protocol::AuthSwitchRequest`: 0; or 1 or 2, and the struct is as it was.
+/// Reads `Protocol::AuthSwitchRequest`. After an error (1 or 2) the struct is unchanged.
 #[unsafe(no_mangle)]
 pub extern "C" fn myp_read_auth_switch<'a>(
     alloc: Global,
@@ -45,7 +45,8 @@ pub extern "C" fn myp_read_auth_switch<'a>(
     }
 }
 
-/// Writes `Protocol::AuthSwitchRequest`: 0; 5, and how many bytes it takes; 4; or 3 of a name with a zero.
+/// Writes `Protocol::AuthSwitchRequest`. Errors: 5 if the buffer is too small, with the length needed; 4 if the length
+/// overflows; 3 for a name with a zero.
 #[unsafe(no_mangle)]
 pub extern "C" fn myp_write_auth_switch(
     request: &CAuthSwitch<'_>,
@@ -66,7 +67,7 @@ pub extern "C" fn myp_write_auth_switch(
     put_packet(&packet, out, written)
 }
 
-/// Reads `Protocol::OldAuthSwitchRequest`: 0, and how many bytes it takes; or 1 or 2, and the count is as it was.
+/// Reads `Protocol::OldAuthSwitchRequest`. After an error (1 or 2) the count is unchanged.
 #[unsafe(no_mangle)]
 pub extern "C" fn myp_read_old_auth_switch(alloc: Global, packet: &[u8], used: &mut usize) -> u32
     ensures value { ReadsInto (IsUsed packet.now) ((old_auth_switch_request.form tt).reads packet.now) result used.old used.new }
@@ -80,7 +81,7 @@ pub extern "C" fn myp_read_old_auth_switch(alloc: Global, packet: &[u8], used: &
     }
 }
 
-/// Writes `Protocol::OldAuthSwitchRequest`, of one byte: 0; 5, and how many bytes it takes.
+/// Writes `Protocol::OldAuthSwitchRequest`, of one byte. If the buffer is too small (5), `written` is the length needed.
 #[tactic(auto, using(crate::proofs::Codes::codes), unfolding(mysql_auth::specs::OldAuthSwitchRequest::old_auth_switch_request, mysql_wire::specs::Writing::le_bytes))]
 #[unsafe(no_mangle)]
 pub extern "C" fn myp_write_old_auth_switch(out: &mut [u8], written: &mut usize) -> u32

@@ -1,4 +1,4 @@
-//! Binary rows that are written: each value is looked at once as they are counted, and once as they are written.
+//! Writes binary rows: each value is visited once to count its bytes, and once to write it.
 #![tactic(auto, using(crate::proofs::BinaryRows::binary_rows))]
 
 ghost use Rattle.std.specs.Prelude.{◌≡◌, ◌≢◌, ◌+◌, ◌*◌, ◌++◌, ◌<◌, ◌≤◌, ◌^◌, ℕ, MatchOption, drop, false, length, replicate, true};
@@ -22,8 +22,7 @@ use mysql_prepared::{AsExecuteParam, NullBitmap, TypedColumn};
 use mysql_values::{ServerSide, ValueRef};
 use mysql_wire::{Buffer, BytesRepr, ColumnType, LenEnc, MySerialize};
 
-/// How many bytes a value takes in a column of the type, or `usize::MAX` where that is less. `None` where the column does not take
-/// it.
+/// The length of a value in a column of the type, or `usize::MAX` if it is greater. `None` if it doesn't fit.
 #[inline(always)]
 fn taken_len(column_type: ColumnType, is_unsigned: bool, value: ValueRef<'_>) -> Option<usize>
     ensures { MatchOption result (takes column_type is_unsigned (ref_content value.entry) ≡ false) (λ n. (takes column_type is_unsigned (ref_content value.entry) ≡ true) × (n ≡ saturated (length (bin_in column_type (ref_content value.entry))))) }
@@ -34,7 +33,7 @@ fn taken_len(column_type: ColumnType, is_unsigned: bool, value: ValueRef<'_>) ->
     Some(value.cell_len(column_type))
 }
 
-/// The same of an integer.
+/// The length of an integer.
 #[inline(always)]
 fn integer_len(column_type: ColumnType, is_unsigned: bool, n: i64) -> Option<usize>
     ensures { MatchOption result (takes column_type is_unsigned (Int n) ≡ false) (λ size. (takes column_type is_unsigned (Int n) ≡ true) × (size ≡ saturated (length (bin_in column_type (Int n))))) }
@@ -45,7 +44,7 @@ fn integer_len(column_type: ColumnType, is_unsigned: bool, n: i64) -> Option<usi
     taken_len(column_type, is_unsigned, ValueRef::Int(n))
 }
 
-/// The same of a byte string.
+/// The length of a byte string.
 #[inline(always)]
 fn string_len(column_type: ColumnType, is_unsigned: bool, bytes: &[u8]) -> Option<usize>
     ensures { MatchOption result (takes column_type is_unsigned (Bytes bytes.now) ≡ false) (λ size. (takes column_type is_unsigned (Bytes bytes.now) ≡ true) × (size ≡ saturated (length (bin_in column_type (Bytes bytes.now))))) }
@@ -56,7 +55,7 @@ fn string_len(column_type: ColumnType, is_unsigned: bool, bytes: &[u8]) -> Optio
     Some(<LenEnc as BytesRepr>::written_len(bytes))
 }
 
-/// The same of a value of any kind, which may be none.
+/// The length of a value of any kind, which may be invalid.
 // (by a call, so that what counts numbers and strings stays small enough to be in line)
 #[inline(never)]
 fn any_len(column: &CColumnType, value: &CValue<'_>) -> Option<usize>
@@ -65,7 +64,7 @@ fn any_len(column: &CColumnType, value: &CValue<'_>) -> Option<usize>
     taken_len(column.value_type(), column.is_unsigned(), to_ref(value)?)
 }
 
-/// The same of a value, by its kind.
+/// The length of a value, by its kind.
 #[inline(always)]
 #[tactic(auto, unfolding(crate::specs::Value::value_content))]
 fn cell_len(column: &CColumnType, value: &CValue<'_>) -> Option<usize>
@@ -88,7 +87,7 @@ fn cell_len(column: &CColumnType, value: &CValue<'_>) -> Option<usize>
     }
 }
 
-/// The same of all values of a row, of which there is one for each column.
+/// The length of all values of a row, of which there is one for each column.
 fn values_len(columns: &[CColumnType], values: &[CValue<'_>]) -> Option<usize>
     requires { length columns.now ≡ length values.now }
     ensures { MatchOption result (spec.row_fits columns.now values.now ≡ false) (λ n. (spec.row_fits columns.now values.now ≡ true) × (n ≡ saturated (length (values_bytes type_of unsigned_of columns.now (values_contents values.now))))) }
@@ -100,8 +99,8 @@ fn values_len(columns: &[CColumnType], values: &[CValue<'_>]) -> Option<usize>
     Some(len)
 }
 
-/// How many bytes a row takes, or `usize::MAX` where that is less. `None` where a value is none, or its column does not take it, or
-/// there is not a value for each column.
+/// The length of a row, or `usize::MAX` if it is greater. `None` if a value is invalid or doesn't fit its column, or there
+/// isn't one for each column.
 pub(crate) fn row_len(columns: &[CColumnType], values: &[CValue<'_>]) -> Option<usize>
     requires { length values.now < 2 ^ 63 }
     ensures { MatchOption result (spec.row_fits columns.now values.now ≡ false) (λ n. (spec.row_fits columns.now values.now ≡ true) × (n ≡ saturated (row.row_len type_of unsigned_of columns.now (values_contents values.now)))) }

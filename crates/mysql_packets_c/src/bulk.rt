@@ -4,7 +4,7 @@
 ghost use Rattle.std.specs.List.{flat_map, position};
 ghost use Rattle.std.specs.Prelude.{◌==◌, ◌≡◌, ◌≢◌, ◌+◌, ◌++◌, ◌*◌, ◌<◌, ◌≤◌, ◌^◌, true, false, [], drop, length, map, take, IfOk, IfErr, MatchOption, is_some, not};
 ghost use Rattle.mysql_wire.specs.Writing.{saturated};
-ghost use Rattle.mysql_bulk.specs.ColumnTypes.{may_be_declared};
+ghost use Rattle.mysql_bulk.specs.ColumnTypes.{is_declarable};
 ghost use Rattle.mysql_bulk.specs.Request.{request_flags};
 ghost use Rattle.mysql_bulk.specs.Row.{param_size, row_size};
 ghost use Rattle.mysql_packets_c.specs.Bulk as spec;
@@ -14,7 +14,7 @@ use crate::code::{INVALID_INPUT, OK, ROW_TOO_LARGE};
 use crate::output::put_packet;
 use crate::rows::CColumnType;
 use crate::value::{CValue, to_ref};
-use mysql_bulk::{ComStmtBulkExecuteHeader, may_be_declared, spells};
+use mysql_bulk::{ComStmtBulkExecuteHeader, can_encode, is_declarable};
 use mysql_prepared::{AsExecuteParam, ItemForm, Items, TypedColumn};
 use mysql_values::ParamType;
 use mysql_wire::{
@@ -25,13 +25,13 @@ use mysql_wire::{
 /// The flag that asks for the results of each row.
 pub(crate) const SEND_UNIT_RESULTS: u32 = 64;
 
-/// What stands before a value.
+/// The indicator before a value.
 const INDICATOR_NONE: u8 = 0;
 
-/// What stands in the place of NULL.
+/// The indicator of NULL.
 const INDICATOR_NULL: u8 = 1;
 
-/// What a caller asks for, but for the rows.
+/// The arguments of a call, except for the rows.
 #[derive(Drop)]
 struct BulkCall<'a> {
     statement_id: u32,
@@ -55,11 +55,11 @@ pub(crate) fn declared_type(column: &CColumnType) -> ParamType
 
 /// The first column whose type may not be declared.
 fn first_refused(columns: &[CColumnType]) -> Option<usize>
-    ensures { result ≡ position (λ column. not (may_be_declared (spec.declared_type column))) columns.now }
+    ensures { result ≡ position (λ column. not (is_declarable (spec.declared_type column))) columns.now }
 {
     columns
         .iter()
-        .position(|column| !may_be_declared(declared_type(column)))
+        .position(|column| !is_declarable(declared_type(column)))
 }
 
 /// Whether the type of some column may not be declared.
@@ -69,7 +69,7 @@ pub(crate) fn refuses_types(columns: &[CColumnType]) -> bool
     first_refused(columns).is_some()
 }
 
-/// Whether such a call may be made.
+/// Whether these arguments are valid.
 fn may_ask(flags: u32, max_allowed_packet: usize, columns: usize, values: usize) -> bool
     ensures { result ≡ spec.may_ask flags max_allowed_packet columns values }
 {
@@ -79,20 +79,20 @@ fn may_ask(flags: u32, max_allowed_packet: usize, columns: usize, values: usize)
     max_allowed_packet >= 4 && columns >= 1 && values % columns == 0
 }
 
-/// How many bytes a value takes with its indicator, or `usize::MAX` where that is less. `None` where it is none, or the type of its
-/// column does not spell it.
+/// The length of a value with its indicator, or `usize::MAX` if it is greater. `None` if it is invalid, or doesn't fit the type
+/// of its column.
 #[inline(always)]
 fn value_len(column: &CColumnType, value: &CValue<'_>) -> Option<usize>
     ensures { MatchOption result (spec.takes_value column.now value.now ≡ false) (λ n. (spec.takes_value column.now value.now ≡ true) × (n ≡ saturated (param_size (value_content value.now)))) }
 {
     let value = to_ref(value)?;
-    if !spells(declared_type(column), &value) {
+    if !can_encode(declared_type(column), &value) {
         return None;
     }
     Some(value.defined_len().saturating_add(1))
 }
 
-/// The same of a row, which has a value for each column.
+/// The length of a row, which has a value for each column.
 #[tactic(auto, using(crate::proofs::BulkRows::row_values), unfolding(mysql_wire::specs::Writing::saturated))]
 pub(crate) fn row_len(columns: &[CColumnType], row: &[CValue<'_>]) -> Option<usize>
     requires { length columns.now ≡ length row.now }
@@ -105,7 +105,7 @@ pub(crate) fn row_len(columns: &[CColumnType], row: &[CValue<'_>]) -> Option<usi
     Some(len)
 }
 
-/// The row after so many others.
+/// The row after a given number of others.
 #[tactic(auto, using(crate::proofs::BulkRows::row_places))]
 pub(crate) fn row_after<'s, 'a>(
     values: &'s [CValue<'a>],
@@ -121,7 +121,7 @@ pub(crate) fn row_after<'s, 'a>(
     &values[start..start + columns]
 }
 
-/// Counts the rows until one does not fit: how many they are, and how many bytes their request takes.
+/// Counts the rows until one doesn't fit, and returns their number and the length of their request.
 fn counted(call: &BulkCall<'_>, values: &[CValue<'_>], rows: usize) -> Result<(usize, usize), u32>
     requires limit { 4 ≤ call.now.max_allowed_packet }
     requires whole { length values.now ≡ rows * length call.now.columns.now }
@@ -218,7 +218,7 @@ pub(crate) fn bulk_flags(flags: u32) -> StmtBulkExecuteFlags
     }
 }
 
-/// Writes what stands before the values, for which there is capacity.
+/// Writes the fields before the values, for which there is capacity.
 #[tactic(auto, using(mysql_wire::proofs::Packets::packets, crate::proofs::BulkRequests::heads), unfolding(mysql_bulk::specs::Head::head))]
 fn append_head<O: Buffer>(call: &BulkCall<'_>, out: &mut O)
     requires { length (O.held out.old) + length (spec.head_with call.now) ≤ O.capacity out.old }
@@ -291,11 +291,11 @@ fn put_request(
     code
 }
 
-/// Writes `COM_STMT_BULK_EXECUTE` with the first rows, as many as fit, and answers how many. The values stand row after row.
+/// Writes `COM_STMT_BULK_EXECUTE` with as many of the first rows as fit, and their number. The values are row after row.
 ///
-/// 0; 5, and how many bytes the request takes, and no row; 3 where such a call may not be made, a type may not be declared, a
-/// value is none or its type does not spell it; or 6 where the first row is larger than a request. A row that is refused after
-/// others were counted is the answer too, and nothing is written.
+/// Errors: 5 if the buffer is too small, with the length needed and no row; 3 for invalid arguments, a type that can't be
+/// declared, or a value that is invalid or doesn't fit; 6 if the first row is larger than a request. An error of a later row is
+/// returned too, and nothing is written.
 #[unsafe(no_mangle)]
 pub extern "C" fn myp_write_bulk(
     statement_id: u32,

@@ -2,7 +2,7 @@
 #![tactic(auto, using(crate::proofs::BulkByRow::bulk_by_row))]
 
 ghost use Rattle.std.specs.List.{flat_map};
-ghost use Rattle.std.specs.Prelude.{◌≡◌, ◌+◌, ◌-◌, ◌++◌, ◌≤◌, ℕ, List, MatchOption, [], drop, false, length, take, true};
+ghost use Rattle.std.specs.Prelude.{◌≡◌, ◌≢◌, ◌+◌, ◌-◌, ◌++◌, ◌≤◌, ℕ, List, MatchOption, [], drop, false, length, take, true};
 ghost use Rattle.mysql_wire.specs.Writing.{saturated};
 ghost use Rattle.mysql_bulk.specs.Row.{row_size};
 ghost use Rattle.mysql_values.specs.Value.{Content};
@@ -32,7 +32,7 @@ fn may_begin(flags: u32, types: &[CColumnType]) -> bool
     types.len() >= 1 && !refuses_types(types)
 }
 
-/// Writes what stands before the rows.
+/// Writes the fields before the rows.
 #[tactic(auto, using(mysql_wire::proofs::Packets::packets, crate::proofs::BulkRequests::heads), unfolding(mysql_bulk::specs::Head::head))]
 fn put_head(
     statement_id: u32,
@@ -53,8 +53,8 @@ fn put_head(
     put_packet(&parts!(header, stmt_id, bulk_flags, types), out, written)
 }
 
-/// Writes what stands before the rows of `COM_STMT_BULK_EXECUTE`: 0; 5, and how many bytes it takes; or 3 of another flag, of no column,
-/// or of a type that may not be declared.
+/// Writes the fields of `COM_STMT_BULK_EXECUTE` before the rows. Errors: 5 if the buffer is too small, with the length needed;
+/// 3 for another flag, no column, or a type that can't be declared.
 #[unsafe(no_mangle)]
 pub extern "C" fn myp_begin_bulk(
     statement_id: u32,
@@ -112,7 +112,7 @@ fn put_cells(row: &[CValue<'_>], out: &mut [u8])
     let _len = counted.write_to_slice(out).unwrap();
 }
 
-/// Writes them over so many bytes after those that are used.
+/// Writes them over a given number of bytes after those that are used.
 fn put_after(row: &[CValue<'_>], used: usize, more: usize, out: &mut [u8])
     requires more { more ≡ length (flat_map cell_bytes row.now) }
     requires fits { used + more ≤ length out.old }
@@ -123,15 +123,15 @@ fn put_after(row: &[CValue<'_>], used: usize, more: usize, out: &mut [u8])
     put_cells(row, cells);
 }
 
-/// Whether a request of so many bytes may go on in a buffer of this length.
+/// Whether a request of a given number of bytes may go on in a buffer of this length.
 fn may_add(max_allowed_packet: usize, used: usize, size: usize, types: &[CColumnType]) -> bool
     ensures { result ≡ spec.may_add max_allowed_packet used size types.now }
 {
     max_allowed_packet >= 4 && types.len() >= 1 && used >= 7 + 2 * types.len() && used <= size
 }
 
-/// The bytes of a row that may come next. `None` where there is not a value for each column, one is none, or its type does not spell
-/// it.
+/// The length of a row that may come next. `None` if there isn't a value for each column, or one is invalid or doesn't fit its
+/// type.
 fn added_len(types: &[CColumnType], row: &[CValue<'_>]) -> Option<usize>
     ensures { MatchOption result (takes_row types.now row.now ≡ false) (λ n. (takes_row types.now row.now ≡ true) × (n ≡ saturated (row_size (values_contents row.now)))) }
 {
@@ -141,12 +141,8 @@ fn added_len(types: &[CColumnType], row: &[CValue<'_>]) -> Option<usize>
     row_len(types, row)
 }
 
-/// Writes a row after the bytes of a request that `myp_begin_bulk` has begun, of which so many are used.
-///
-/// 0, and how many are used then; 5, and how many that would be; or 6 where a request may not be so long, and 3 where no request is
-/// begun there, there is not a value for each column, one is none or its type does not spell it: then the count is as it was too.
-#[unsafe(no_mangle)]
-pub extern "C" fn myp_add_bulk_row(
+/// Writes a row after the used bytes, and returns how many are used then.
+fn add_row(
     types: &[CColumnType],
     row: &[CValue<'_>],
     max_allowed_packet: usize,
@@ -177,4 +173,34 @@ pub extern "C" fn myp_add_bulk_row(
     }
     put_after(row, used, more, out);
     OK
+}
+
+/// Writes a row after the `used` bytes of a request that `myp_begin_bulk` began.
+///
+/// 0, and both counts are what is used with the row; 5, and `needed` is how many bytes the buffer needs; 6 if a request can't be so long; or
+/// 3 if no request was begun there, there is not a value for each column, or one is invalid or can't be encoded under its type. After 3 and 6
+/// both counts are unchanged, and after each error so are the buffer and `used`.
+#[unsafe(no_mangle)]
+pub extern "C" fn myp_add_bulk_row(
+    types: &[CColumnType],
+    row: &[CValue<'_>],
+    max_allowed_packet: usize,
+    out: &mut [u8],
+    used: &mut usize,
+    needed: &mut usize,
+) -> u32
+    ensures input { spec.may_add max_allowed_packet used.old (length out.old) types.now ≡ false → (result ≡ 3) × (out.new ≡ out.old) × (needed.new ≡ needed.old) }
+    ensures row { takes_row types.now row.now ≡ false → (result ≡ 3) × (out.new ≡ out.old) × (needed.new ≡ needed.old) }
+    ensures value { spec.may_add max_allowed_packet used.old (length out.old) types.now ≡ true → takes_row types.now row.now ≡ true
+        → spec.AddsRow (max_allowed_packet - 4) used.old row.now result out.old out.new needed.old needed.new }
+    ensures counted { result ≡ 0 → used.new ≡ needed.new }
+    ensures kept { result ≢ 0 → used.new ≡ used.old }
+    ensures builder { (statement_id flags : ℕ) (rows : List (List Content)) → spec.HoldsRows statement_id flags max_allowed_packet types.now rows (take used.old out.old)
+        → spec.AddsAsBuilder statement_id flags max_allowed_packet types.now rows (values_contents row.now) result (take needed.new out.new) }
+{
+    let code = add_row(types, row, max_allowed_packet, out, *used, needed);
+    if code == OK {
+        *used = *needed;
+    }
+    code
 }

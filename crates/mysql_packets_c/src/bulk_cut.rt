@@ -29,7 +29,7 @@ fn rule_of(rule: &CBulkRule) -> BulkRule
     }
 }
 
-/// Tells whether the ends name a cut of the rows into requests that fit, of which no cut has fewer: always 0.
+/// Checks whether the ends describe a cut of the rows into requests that fit, and no cut has fewer. Always returns 0.
 #[unsafe(no_mangle)]
 pub extern "C" fn myp_bulk_cut_is_fewest(
     rule: &CBulkRule,

@@ -20,7 +20,7 @@ pub struct CBulkHead<'a> {
     pub flags: u16,
 }
 
-/// Reads the head of `COM_STMT_BULK_EXECUTE`, and what stands after it: 0; or 1 or 2, and the struct is as it was.
+/// Reads the head of `COM_STMT_BULK_EXECUTE`, and the bytes after it. After an error (1 or 2) the struct is unchanged.
 #[unsafe(no_mangle)]
 pub extern "C" fn myp_read_bulk_head<'a>(
     alloc: Global,

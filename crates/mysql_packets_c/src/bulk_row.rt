@@ -22,7 +22,7 @@ use mysql_values::{ParamType, ValueRef, read_bin_ref};
 use mysql_wire::{Const, ConstValue, Fault, FaultOf, MariadbBulkIndicator, ParseBuf};
 use std::alloc::Global;
 
-/// Reads so many types of two bytes each.
+/// Reads a given number of types of two bytes each.
 fn fill_block(types: &mut [CColumnType], block: &mut ParseBuf<'_>) -> Result<(), Fault>
     ensures value { spec.ReadsTypes result types.new block.new ((counted (length types.old) (param_type.form tt)).reads block.old) }
     ensures places { spec.FillsTypes block.old types.old types.new }
@@ -46,8 +46,8 @@ fn fill_types(types: &mut [CColumnType], buf: &mut ParseBuf<'_>) -> Result<(), F
     fill_block(types, &mut block)
 }
 
-/// Takes the types of as many columns as there are places off the front of what stands after the head of a bulk execution: 0; or 1 or
-/// 2, and the bytes are as they were.
+/// Takes as many types as there are places off the front of the bytes after the head of a bulk execution. After an error (1 or
+/// 2) the bytes are unchanged.
 #[unsafe(no_mangle)]
 pub extern "C" fn myp_read_bulk_types<'a>(
     alloc: Global,
@@ -109,9 +109,9 @@ fn fill_row<'a>(
 /// Takes the next row of a bulk execution off the front of the bytes after its types: a value of each column into the first places,
 /// and how each is given.
 ///
-/// 0; 7 where no byte is left; 2 where bytes are left and there is no column; 5 where there are fewer places than columns; or 1 or 2,
-/// and the values and indicators before the faulty one are set. After another code than 0 the bytes are as they were. Places after
-/// those of the columns are as they were.
+/// Returns 7 if no byte is left. Errors: 2 if bytes are left and there is no column; 5 if there are fewer places than columns;
+/// 1 or 2, with the values and indicators before the faulty one set. After another code than 0 the bytes are unchanged. Places
+/// after those of the columns are unchanged.
 #[unsafe(no_mangle)]
 pub extern "C" fn myp_next_bulk_row<'a>(
     alloc: Global,

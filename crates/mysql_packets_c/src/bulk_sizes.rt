@@ -10,7 +10,7 @@ use crate::code::{BUFFER_TOO_SMALL, INVALID_INPUT, OK};
 use crate::rows::CColumnType;
 use crate::value::CValue;
 
-/// Whether so many rows are of values, which the types of their columns spell.
+/// Whether these are `rows` whole rows of values that fit the types of their columns.
 fn takes_rows(columns: &[CColumnType], values: &[CValue<'_>], rows: usize) -> bool
     requires whole { length values.now ≡ rows * length columns.now }
     ensures { result ≡ spec.takes_rows columns.now rows values.now }
@@ -24,7 +24,7 @@ fn takes_rows(columns: &[CColumnType], values: &[CValue<'_>], rows: usize) -> bo
     true
 }
 
-/// Puts the sizes of so many rows into the first places.
+/// Puts the sizes of `rows` rows into the first places.
 fn put_sizes(columns: &[CColumnType], values: &[CValue<'_>], rows: usize, sizes: &mut [u64])
     requires whole { length values.now ≡ rows * length columns.now }
     requires taken { spec.takes_rows columns.now rows values.now ≡ true }
@@ -50,11 +50,10 @@ fn are_rows(types: &[CColumnType], values: &[CValue<'_>]) -> bool
     takes_rows(types, values, values.len() / columns)
 }
 
-/// Answers how many bytes each row takes in a bulk request, which are what `myp_bulk_cut_is_fewest` asks for. The values stand row
-/// after row.
+/// Computes the length of each row in a bulk request, for `myp_bulk_cut_is_fewest`. The values are row after row.
 ///
-/// 0; 5, and how many places it takes; or 3 where the values are no whole rows, a type may not be declared, a value is none or its
-/// type does not spell it. After another code than 0 all places are as they were.
+/// Errors: 5 if there are too few places, with their number; 3 if the values are no whole rows, a type can't be declared, or a
+/// value is invalid or doesn't fit. After an error all places are unchanged.
 #[unsafe(no_mangle)]
 pub extern "C" fn myp_bulk_row_sizes(
     types: &[CColumnType],

@@ -70,7 +70,7 @@ fn put_more_data<'a>(more: Option<&ComChangeUserMoreDataRef<'a>>, out: &mut CCha
     out.attributes = attributes;
 }
 
-/// Reads `COM_CHANGE_USER`: 0; or 1 or 2, and the struct is as it was.
+/// Reads `COM_CHANGE_USER`. After an error (1 or 2) the struct is unchanged.
 #[unsafe(no_mangle)]
 pub extern "C" fn myp_read_change_user<'a>(
     alloc: Global,
@@ -123,7 +123,7 @@ fn sends_texts(
     !sends_attributes(capabilities, change) || are_texts(attributes)
 }
 
-/// The same flags, without that of attributes.
+/// The flags without that of attributes.
 #[tactic(auto)]
 fn without_attributes(mut capabilities: CapabilityFlags) -> CapabilityFlags
     ensures plugin { has result.0 CLIENT_PLUGIN_AUTH ≡ has capabilities.0 CLIENT_PLUGIN_AUTH }
@@ -133,7 +133,7 @@ fn without_attributes(mut capabilities: CapabilityFlags) -> CapabilityFlags
     capabilities
 }
 
-/// What follows the schema, without attributes.
+/// The fields after the schema, without attributes.
 fn more_data_of<'a>(
     capabilities: CapabilityFlags,
     change: &CChangeUser<'a>,
@@ -158,8 +158,8 @@ fn packet_of<'a>(capabilities: CapabilityFlags, change: &CChangeUser<'a>) -> Com
         .with_more_data(more_data_of(capabilities, change))
 }
 
-/// Writes `COM_CHANGE_USER` by what both sides can do, with these attributes: 0; 5, and how many bytes it takes; 4; or 3 where
-/// attributes that are sent are not UTF-8.
+/// Writes `COM_CHANGE_USER` under the capabilities of both sides, with these attributes. Errors: 5 if the buffer is too small,
+/// with the length needed; 4 if the length overflows; 3 if attributes that are sent are not UTF-8.
 #[tactic(auto, using(crate::proofs::Codes::codes, crate::proofs::Logins::changes))]
 #[unsafe(no_mangle)]
 pub extern "C" fn myp_write_change_user(

@@ -13,7 +13,7 @@ use crate::output::put_packet;
 use mysql_stmt::ComStmtClose;
 use std::alloc::Global;
 
-/// Reads `COM_STMT_CLOSE`: 0, and the statement's number; or 1 or 2, and the number is as it was.
+/// Reads `COM_STMT_CLOSE`. After an error (1 or 2) the number is unchanged.
 #[unsafe(no_mangle)]
 pub extern "C" fn myp_read_close(alloc: Global, packet: &[u8], statement_id: &mut u32) -> u32
     ensures value { ReadsInto IsClosed ((close.form tt).reads packet.now) result statement_id.old statement_id.new }
@@ -27,7 +27,7 @@ pub extern "C" fn myp_read_close(alloc: Global, packet: &[u8], statement_id: &mu
     }
 }
 
-/// Writes `COM_STMT_CLOSE`: 0; 5, and how many bytes it takes.
+/// Writes `COM_STMT_CLOSE`. If the buffer is too small (5), `written` is the length needed.
 #[tactic(auto, using(crate::proofs::Codes::codes), unfolding(mysql_prepared::specs::Close::close, mysql_wire::specs::Writing::le_bytes))]
 #[unsafe(no_mangle)]
 pub extern "C" fn myp_write_close(statement_id: u32, out: &mut [u8], written: &mut usize) -> u32

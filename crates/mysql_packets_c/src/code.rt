@@ -1,4 +1,4 @@
-//! What calls answer.
+//! The codes of calls.
 
 ghost use Rattle.std.specs.Prelude.{◌≡◌, ◌≤◌, option_map};
 ghost use Rattle.mysql_packets_c.specs.Code.{TextInto, code_text, fault_code};
@@ -6,22 +6,26 @@ ghost use Rattle.mysql_packets_c.specs.Code.{TextInto, code_text, fault_code};
 use crate::text::CBytes;
 use mysql_wire::FaultOf;
 
-/// It is done.
+/// Success.
 pub(crate) const OK: u32 = 0;
-/// Bytes are missing.
+/// The packet is truncated.
 pub(crate) const UNEXPECTED_EOF: u32 = 1;
-/// The bytes spell no such packet.
+/// The bytes are not a valid packet of this type.
 pub(crate) const INVALID_DATA: u32 = 2;
-/// What was passed fits no packet.
+/// An argument fits no packet.
 pub(crate) const INVALID_INPUT: u32 = 3;
-/// No memory holds so many bytes.
-pub(crate) const NO_MEMORY: u32 = 4;
+/// The total length overflows `usize`.
+pub(crate) const TOO_LARGE: u32 = 4;
 /// The buffer is too small.
 pub(crate) const BUFFER_TOO_SMALL: u32 = 5;
-/// A row is too large for a request of its own.
+/// A row fits no bulk request.
 pub(crate) const ROW_TOO_LARGE: u32 = 6;
-/// Nothing is left.
+/// End of the list.
 pub(crate) const END: u32 = 7;
+/// The number is beyond the range of its type.
+pub(crate) const OUT_OF_RANGE: u32 = 8;
+/// Both sides agreed on compression.
+pub(crate) const COMPRESSED: u32 = 9;
 
 /// The code of a fault.
 #[inline]
@@ -34,7 +38,7 @@ pub(crate) fn code_of(fault: &FaultOf<'_>) -> u32
         FaultOf::UnexpectedEof => UNEXPECTED_EOF,
         FaultOf::InvalidData(_) => INVALID_DATA,
         FaultOf::InvalidInput(_) => INVALID_INPUT,
-        FaultOf::Memory => NO_MEMORY,
+        FaultOf::Memory => TOO_LARGE,
     }
 }
 
@@ -51,19 +55,21 @@ fn code_text(code: u32) -> Option<&'static [u8]>
     ensures value { option_map (λ t. t.now) result ≡ code_text code }
 {
     match code {
-        OK => Some(b"done"),
-        UNEXPECTED_EOF => Some(b"bytes are missing"),
-        INVALID_DATA => Some(b"the bytes spell no such packet"),
-        INVALID_INPUT => Some(b"what was passed fits no packet"),
-        NO_MEMORY => Some(b"no memory holds so many bytes"),
+        OK => Some(b"success"),
+        UNEXPECTED_EOF => Some(b"the packet is truncated"),
+        INVALID_DATA => Some(b"the bytes are not a valid packet of this type"),
+        INVALID_INPUT => Some(b"an argument fits no packet"),
+        TOO_LARGE => Some(b"the total length overflows size_t"),
         BUFFER_TOO_SMALL => Some(b"the buffer is too small"),
         ROW_TOO_LARGE => Some(b"a row is too large for a request"),
-        END => Some(b"nothing is left"),
+        END => Some(b"end of the list"),
+        OUT_OF_RANGE => Some(b"the number is out of range"),
+        COMPRESSED => Some(b"both sides agreed on compression"),
         _ => None,
     }
 }
 
-/// The text of a code: 0; or 3 of a number that is no code, and the place is as it was.
+/// The text of a code. For an unknown code (3) the place is unchanged.
 #[unsafe(no_mangle)]
 pub extern "C" fn myp_code_text(code: u32, text: &mut CBytes<'_>) -> u32
     ensures value { TextInto (code_text code) result text.old text.new }

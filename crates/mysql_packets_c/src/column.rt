@@ -1,23 +1,23 @@
 //! The definition of a column.
 #![tactic(auto, using(crate::proofs::Codes::codes))]
 
-ghost use Rattle.std.specs.Prelude.{◌≡◌, ◌≢◌, None, Some};
-ghost use Rattle.mysql_replies.specs.Column as definition;
-ghost use Rattle.mysql_replies.specs.Column.{column};
+ghost use Rattle.std.specs.Prelude.{◌≡◌, ◌≢◌, ◌<◌, None, Some, option_map};
 ghost use Rattle.mysql_replies.specs.ColumnFields.{column_fields};
 ghost use Rattle.mysql_replies.specs.ColumnNames.{column_meta};
+ghost use Rattle.mysql_replies.specs.ExtendedColumn.{attribute_bytes, extended_column};
 ghost use Rattle.mysql_wire.specs.ColumnType.{column_type_of};
 ghost use Rattle.mysql_wire.specs.declared.codes.column_type.ColumnType.{ColumnType};
 ghost use Rattle.mysql_packets_c.specs.Code.{ReadsInto};
 ghost use Rattle.mysql_packets_c.specs.Column as spec;
 ghost use Rattle.mysql_packets_c.specs.Column.{HoldsColumn, IsColumn};
+ghost use Rattle.mysql_packets_c.specs.Given.{if_set};
 ghost use Rattle.mysql_packets_c.specs.Output.{PutsUnlessTooLong};
 
 use crate::code::{INVALID_INPUT, OK, code_of};
-use crate::flags::column_flags_of;
+use crate::flags::{column_flags_of, mariadb_of};
 use crate::input::read;
 use crate::output::put_packet;
-use mysql_replies::{ColumnDefinitionCatalog, ColumnRef, FixedLengthFieldsLen};
+use mysql_replies::{ColumnDefinitionCatalog, ExtendedColumnRef, FixedLengthFieldsLen};
 use mysql_wire::{
     ColumnFlags, ColumnType, Const, ConstBytes, ConstU8, ConstValue, LeU16, LeU32, LenEnc, Parts,
     RawBytes, RawInt, Sink, Skip, parts,
@@ -35,38 +35,63 @@ pub struct CColumn<'a> {
     pub org_table: &'a [u8],
     pub name: &'a [u8],
     pub org_name: &'a [u8],
+    pub metadata: &'a [u8],
     pub column_length: u32,
     pub character_set: u16,
     pub flags: u16,
     pub column_type: u8,
     pub decimals: u8,
+    pub has_metadata: u8,
     pub used: usize,
 }
 
-/// Puts a column into a struct of the caller's, and how many bytes were read of it.
+/// The bytes, and whether there are any.
 #[inline(always)]
-pub(crate) fn put_column<'a>(column: &ColumnRef<'a>, used: usize, out: &mut CColumn<'a>)
-    ensures value { HoldsColumn column.now used out.new }
+pub(crate) fn places_of<'a>(bytes: Option<&'a [u8]>) -> (&'a [u8], u8)
+    ensures value { if_set result.1 result.0.now ≡ option_map (λ m. m.now) bytes.entry }
+    ensures bytes { result.0.now ≡ attribute_bytes (option_map (λ m. m.now) bytes.entry) }
+    ensures flag { result.1 < 2 }
 {
+    match bytes {
+        Some(bytes) => (bytes, 1),
+        None => (&[], 0),
+    }
+}
+
+/// Stores a column in the caller's struct, and the number of bytes that were read.
+#[inline(always)]
+pub(crate) fn put_column<'a>(found: &ExtendedColumnRef<'a>, used: usize, out: &mut CColumn<'a>)
+    ensures value { HoldsColumn found.now used out.new }
+{
+    let column = found.column();
+    let (metadata, has_metadata) = places_of(found.metadata());
     out.schema = column.schema();
     out.table = column.table();
     out.org_table = column.org_table();
     out.name = column.name();
     out.org_name = column.org_name();
+    out.metadata = metadata;
     out.column_length = column.column_length();
     out.character_set = column.character_set();
     out.flags = column.flags().0;
     out.column_type = column.column_type().code();
     out.decimals = column.decimals();
+    out.has_metadata = has_metadata;
     out.used = used;
 }
 
-/// Reads `Protocol::ColumnDefinition41`: 0; or 1 or 2, and the struct is as it was.
+/// Reads `Protocol::ColumnDefinition41`, by MariaDB's capabilities agreed on: 0; or 1 or 2, and the struct is unchanged.
 #[unsafe(no_mangle)]
-pub extern "C" fn myp_read_column<'a>(alloc: Global, packet: &'a [u8], out: &mut CColumn<'a>) -> u32
-    ensures value { ReadsInto (IsColumn packet.now) ((column.form tt).reads packet.now) result out.old out.new }
+pub extern "C" fn myp_read_column<'a>(
+    alloc: Global,
+    packet: &'a [u8],
+    mariadb_capabilities: u32,
+    out: &mut CColumn<'a>,
+) -> u32
+    ensures value { ReadsInto (IsColumn packet.now) ((extended_column.form (record { 0 = mariadb_capabilities; 1 = record {} })).reads packet.now) result out.old out.new }
 {
-    match read::<ColumnRef<'a>>(alloc, packet, ()) {
+    let capabilities = mariadb_of(mariadb_capabilities);
+    match read::<ExtendedColumnRef<'a>>(alloc, packet, capabilities) {
         Ok((column, used)) => {
             put_column(&column, used, out);
             OK
@@ -149,30 +174,43 @@ impl Parts for SentFields {
     }
 }
 
-/// A column whose names are the caller's. In a clause it is that column.
+/// A column whose names and metadata are the caller's. In a clause it is that column.
 #[derive(Drop)]
 pub(crate) struct SentColumn<'a> {
-    pub(crate) names: SentNames<'a>,
-    pub(crate) fields: SentFields,
+    names: SentNames<'a>,
+    metadata: Option<RawBytes<'a, LenEnc>>,
+    fields: SentFields,
 }
 
 impl<'a> Model for SentColumn<'a> {
     ghost use Rattle.mysql_replies.specs.Column.{column_with};
-    ghost use Rattle.mysql_replies.specs.declared.column.Column.{Column};
+    ghost use Rattle.mysql_replies.specs.ExtendedColumn.{extended};
+    ghost use Rattle.mysql_replies.specs.declared.extended_column.ExtendedColumn.{ExtendedColumn};
 
-    ghost Value = { Column };
+    ghost Value = { ExtendedColumn };
 
-    ghost view = { λ c. column_with c.names c.fields };
+    ghost view = { λ c. extended (column_with c.names c.fields) c.metadata };
 }
 
-#[tactic(auto, using(mysql_wire::proofs::Packets::packets), unfolding(mysql_replies::specs::Column::column))]
+#[tactic(auto, using(mysql_wire::proofs::Packets::packets), unfolding(mysql_replies::specs::ExtendedColumn::extended_column))]
 impl Parts for SentColumn<'_> {
-    ghost bytes = { definition.column.bytes };
+    ghost bytes = { extended_column.bytes };
 
     #[inline(always)]
     fn put<S: Sink>(&self, sink: &mut S) {
         let catalog: ColumnDefinitionCatalog = ConstBytes::new();
-        sink.part(&parts!(catalog, self.names, self.fields));
+        sink.part(&parts!(catalog, self.names, self.metadata, self.fields));
+    }
+}
+
+/// The caller's metadata, if there are any.
+fn metadata_of<'a>(column: &CColumn<'a>) -> Option<RawBytes<'a, LenEnc>>
+    ensures value { result ≡ spec.metadata_given column.now }
+{
+    if column.has_metadata != 0 {
+        Some(RawBytes::new(CowSlice::Borrowed(column.metadata)))
+    } else {
+        None
     }
 }
 
@@ -188,6 +226,7 @@ pub(crate) fn sent_column<'a>(column_type: ColumnType, fields: &CColumn<'a>) -> 
             name: RawBytes::new(CowSlice::Borrowed(fields.name)),
             org_name: RawBytes::new(CowSlice::Borrowed(fields.org_name)),
         },
+        metadata: metadata_of(fields),
         fields: SentFields {
             character_set: RawInt::new(fields.character_set),
             column_length: RawInt::new(fields.column_length),
@@ -198,11 +237,12 @@ pub(crate) fn sent_column<'a>(column_type: ColumnType, fields: &CColumn<'a>) -> 
     }
 }
 
-/// Writes `Protocol::ColumnDefinition41`: 0; 5, and how many bytes it takes; 4; or 3 of a type that is none.
+/// Writes `Protocol::ColumnDefinition41`, with extended metadata if there are any. Errors: 5 if the buffer is too small, with
+/// the length needed; 4 if the length overflows; 3 for an unknown type.
 #[unsafe(no_mangle)]
 pub extern "C" fn myp_write_column(column: &CColumn<'_>, out: &mut [u8], written: &mut usize) -> u32
     ensures unknown { column_type_of column.now.column_type ≡ None → (result ≡ 3) × (out.new ≡ out.old) × (written.new ≡ 0) }
-    ensures value { (t : ColumnType) → column_type_of column.now.column_type ≡ Some t → PutsUnlessTooLong (definition.column.bytes (spec.column_given t column.now)) result out.old out.new written.new }
+    ensures value { (t : ColumnType) → column_type_of column.now.column_type ≡ Some t → PutsUnlessTooLong (extended_column.bytes (spec.column_given t column.now)) result out.old out.new written.new }
 {
     let Some(column_type) = ColumnType::from_code(column.column_type) else {
         *written = 0;

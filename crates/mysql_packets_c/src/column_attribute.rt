@@ -38,8 +38,7 @@ fn next_attribute<'a>(
     Ok((attribute, buf.eat_all()))
 }
 
-/// Takes the next attribute off the front: 0, and what follows it is left; 7 where nothing is left; or 1 or 2. But for 0 both
-/// places are as they were.
+/// Takes the next attribute off the front; 7 if nothing is left. After another code than 0 both places are unchanged.
 #[unsafe(no_mangle)]
 pub extern "C" fn myp_next_column_attribute<'a>(
     alloc: Global,
@@ -63,7 +62,8 @@ pub extern "C" fn myp_next_column_attribute<'a>(
     }
 }
 
-/// Writes an attribute, a byte with its kind and the text, length-encoded: 0; 5, and how many bytes it takes; or 4.
+/// Writes an attribute, a byte with its kind and the text, length-encoded. Errors: 5 if the buffer is too small, with the
+/// length needed; 4 if the length overflows.
 #[unsafe(no_mangle)]
 pub extern "C" fn myp_write_column_attribute(
     attribute: &CColumnAttribute<'_>,

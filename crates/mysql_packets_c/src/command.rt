@@ -100,7 +100,7 @@ fn put_command<'a>(command: Command<'a>, out: &mut CCommand<'a>)
     }
 }
 
-/// Reads a command, by the flags of both sides: 0; or 1 or 2, and the struct is as it was.
+/// Reads a command, under the flags of both sides. After an error (1 or 2) the struct is unchanged.
 #[unsafe(no_mangle)]
 pub extern "C" fn myp_read_command<'a>(
     alloc: Global,
@@ -182,7 +182,8 @@ fn command_of<'a>(fields: &CCommand<'a>) -> Option<Command<'a>>
     number_of(fields.code, fields.number, fields.rows)
 }
 
-/// Writes a command: 0; 5, and how many bytes it takes; 4; or 3 of one that has its own call, and of fields that are of none.
+/// Writes a command. Errors: 5 if the buffer is too small, with the length needed; 4 if the length overflows; 3 for a command
+/// that has its own call, or fields that no command has.
 #[unsafe(no_mangle)]
 pub extern "C" fn myp_write_command(
     command: &CCommand<'_>,

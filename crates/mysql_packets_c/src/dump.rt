@@ -25,7 +25,7 @@ pub struct CDump<'a> {
     pub flags: u16,
 }
 
-/// Reads `COM_BINLOG_DUMP`: 0; or 1 or 2, and the struct is as it was.
+/// Reads `COM_BINLOG_DUMP`. After an error (1 or 2) the struct is unchanged.
 #[unsafe(no_mangle)]
 pub extern "C" fn myp_read_dump<'a>(alloc: Global, packet: &'a [u8], out: &mut CDump<'a>) -> u32
     ensures value { ReadsInto IsDump ((binlog_dump.form tt).reads packet.now) result out.old out.new }
@@ -42,7 +42,7 @@ pub extern "C" fn myp_read_dump<'a>(alloc: Global, packet: &'a [u8], out: &mut C
     }
 }
 
-/// Writes `COM_BINLOG_DUMP`: 0; 5, and how many bytes it takes.
+/// Writes `COM_BINLOG_DUMP`. If the buffer is too small (5), `written` is the length needed.
 #[tactic(auto, using(crate::proofs::Codes::codes), unfolding(mysql_repl::specs::BinlogDump::binlog_dump, mysql_wire::specs::Writing::le_bytes))]
 #[unsafe(no_mangle)]
 pub extern "C" fn myp_write_dump(dump: &CDump<'_>, out: &mut [u8], written: &mut usize) -> u32

@@ -76,7 +76,7 @@ fn put_answer<'a>(answer: &ErrPacketRef<'a>, used: usize, out: &mut CError<'a>)
     }
 }
 
-/// Reads `ERR_Packet`, or a progress report: 0; or 1 or 2, and the struct is as it was.
+/// Reads `ERR_Packet`, or a progress report. After an error (1 or 2) the struct is unchanged.
 #[unsafe(no_mangle)]
 pub extern "C" fn myp_read_error<'a>(
     alloc: Global,
@@ -99,7 +99,8 @@ pub extern "C" fn myp_read_error<'a>(
 /// The most that three bytes tell.
 const MAX_PROGRESS: u32 = 0xff_ffff;
 
-/// Writes `ERR_Packet`: 0; 5, and how many bytes it takes; or 3 of an SQL state that has neither five bytes nor none.
+/// Writes `ERR_Packet`. Errors: 5 if the buffer is too small, with the length needed; 3 for an SQL state that has neither five
+/// bytes nor none.
 #[tactic(auto, using(crate::proofs::Codes::codes), unfolding(mysql_replies::specs::ErrPacket::err_packet, mysql_replies::specs::ServerError::server_error, mysql_replies::specs::SqlState::sql_state, mysql_wire::specs::Writing::le_bytes))]
 #[unsafe(no_mangle)]
 pub extern "C" fn myp_write_error(error: &CError<'_>, out: &mut [u8], written: &mut usize) -> u32
@@ -119,7 +120,7 @@ pub extern "C" fn myp_write_error(error: &CError<'_>, out: &mut [u8], written: &
     put_packet(&ErrPacket::Error(error), out, written)
 }
 
-/// Writes a progress report: 0; 5, and how many bytes it takes; or 3 of a progress past 16,777,215.
+/// Writes a progress report. Errors: 5 if the buffer is too small, with the length needed; 3 for a progress past 16,777,215.
 #[unsafe(no_mangle)]
 pub extern "C" fn myp_write_progress(
     report: &CError<'_>,

@@ -34,10 +34,10 @@ pub struct CExecutionHead {
     pub flags: u8,
 }
 
-/// `myp_param`.
+/// `myp_bound_param`.
 #[repr(C)]
 #[derive(Clone, Copy, Drop)]
-pub struct CParam {
+pub struct CBoundParam {
     pub column_type: u8,
     pub is_unsigned: u8,
     pub is_sent_ahead: u8,
@@ -54,7 +54,7 @@ pub struct CExecution {
     pub sends_types: u8,
 }
 
-/// Reads the first ten bytes of `COM_STMT_EXECUTE`: 0; or 1 or 2, and the struct is as it was.
+/// Reads the first ten bytes of `COM_STMT_EXECUTE`. After an error (1 or 2) the struct is unchanged.
 #[unsafe(no_mangle)]
 pub extern "C" fn myp_read_execution_head(
     alloc: Global,
@@ -76,7 +76,7 @@ pub extern "C" fn myp_read_execution_head(
 }
 
 /// The parameter, as the library has it.
-pub(crate) fn bound_of(param: &CParam) -> BoundParam
+pub(crate) fn bound_of(param: &CBoundParam) -> BoundParam
     ensures value { result ≡ spec.bound_of param.now }
 {
     let column_type = match ColumnType::from_code(param.column_type) {
@@ -94,7 +94,7 @@ pub(crate) fn bound_of(param: &CParam) -> BoundParam
     }
 }
 
-/// Puts a parameter into a value of the caller's. What was sent ahead is NULL.
+/// Stores a parameter in the caller's value. One that was sent ahead is NULL.
 pub(crate) fn put_param<'a>(place: &mut CValue<'a>, param: ExecuteParam<'a>)
     ensures content { param_content place.new ≡ spec.content_of (param_of param.entry) }
     ensures set { SetsParam (spec.content_of (param_of param.entry)) place.old place.new }
@@ -121,7 +121,7 @@ pub(crate) fn type_held(param_type: ParamType) -> CColumnType
 #[tactic(auto, using(crate::proofs::Executions::fills))]
 fn fill_params<'a>(
     sent: &mut ExecuteParamsBytes<'a>,
-    params: &[CParam],
+    params: &[CBoundParam],
     values: &mut [CValue<'a>],
     types: &mut [CColumnType],
 ) -> Result<(), Fault>
@@ -142,7 +142,7 @@ fn fill_params<'a>(
     Ok(())
 }
 
-/// The attributes, which stand after the parameters: none of these is left.
+/// The attributes, which follow the parameters: none of these is left.
 pub(crate) fn attributes_of<'a>(sent: &ExecuteParamsBytes<'a>) -> QueryAttributesView<'a>
     requires { sent.now.left ≡ 0 }
     ensures { result ≡ attributes_left sent.now.nulls sent.now.place sent.now.types sent.now.values }
@@ -150,11 +150,12 @@ pub(crate) fn attributes_of<'a>(sent: &ExecuteParamsBytes<'a>) -> QueryAttribute
     sent.attributes().unwrap()
 }
 
-/// Reads parameters into the first places, and answers whether types are sent, how many attributes follow, and the bytes after them.
+/// Reads parameters into the first places, and returns whether types are sent, the number of attributes, and the bytes after
+/// the parameters.
 fn params_into<'a>(
     capabilities: CapabilityFlags,
     head: &ComStmtExecuteHead,
-    params: &[CParam],
+    params: &[CBoundParam],
     buf: ParseBuf<'a>,
     values: &mut [CValue<'a>],
     types: &mut [CColumnType],
@@ -178,7 +179,7 @@ fn params_into<'a>(
 fn execution_into<'a>(
     buf: &mut ParseBuf<'a>,
     capabilities: CapabilityFlags,
-    params: &[CParam],
+    params: &[CBoundParam],
     values: &mut [CValue<'a>],
     types: &mut [CColumnType],
     out: &mut CExecution,
@@ -211,14 +212,14 @@ fn execution_into<'a>(
 
 /// Reads `COM_STMT_EXECUTE` by what both sides can do, into values and types, one of each parameter.
 ///
-/// 0; 5 where there are fewer places than parameters; or 1 or 2, and the values and types before the faulty one are set. Places
-/// after those of the parameters are as they were.
+/// Errors: 5 if there are fewer places than parameters; 1 or 2, with the values and types before the faulty one set. Places
+/// after those of the parameters are unchanged.
 #[unsafe(no_mangle)]
 pub extern "C" fn myp_read_execution<'a>(
     alloc: Global,
     packet: &'a [u8],
     capabilities: u32,
-    params: &[CParam],
+    params: &[CBoundParam],
     values: &mut [CValue<'a>],
     types: &mut [CColumnType],
     out: &mut CExecution,

@@ -9,16 +9,17 @@ ghost use Rattle.mysql_packets_c.specs.ExecutionAttribute as spec;
 ghost use Rattle.mysql_packets_c.specs.QueryAttribute.{AttributeInto, AttributesAre};
 
 use crate::code::{END, OK, code_of};
-use crate::execution::{CParam, attributes_of, bound_of};
+use crate::execution::{CBoundParam, attributes_of, bound_of};
 use crate::flags::capabilities_of;
-use crate::query_attribute::{CQueryAttribute, attribute_at, put_attribute};
+use crate::parameter::CParameter;
+use crate::query_attribute::{attribute_at, put_attribute};
 use mysql_prepared::QueryAttributesView;
 use mysql_stmt::{ComStmtExecuteHead, ExecuteParamsBytes};
 use mysql_wire::{CapabilityFlags, Fault, ParseBuf};
 use std::alloc::Global;
 
 /// Reads past all the parameters.
-fn pass_params(sent: &mut ExecuteParamsBytes<'_>, params: &[CParam]) -> Result<(), Fault>
+fn pass_params(sent: &mut ExecuteParamsBytes<'_>, params: &[CBoundParam]) -> Result<(), Fault>
     requires all { sent.old.left ≡ length params.now }
     ensures rest { KeepsRest (last_left sent.old params.now) (last_left sent.new params.now) }
     ensures all { OnOk result (sent.new.left ≡ 0) }
@@ -34,7 +35,7 @@ fn pass_params(sent: &mut ExecuteParamsBytes<'_>, params: &[CParam]) -> Result<(
 fn attributes_after<'a>(
     capabilities: CapabilityFlags,
     head: &ComStmtExecuteHead,
-    params: &[CParam],
+    params: &[CBoundParam],
     buf: ParseBuf<'a>,
 ) -> Result<QueryAttributesView<'a>, Fault>
     ensures value { AttributesAre (spec.attributes_after capabilities (cursor_flags head.now) (bound_list params.now) buf.entry) result }
@@ -50,7 +51,7 @@ fn attributes_after<'a>(
 fn execution_attributes<'a>(
     buf: &mut ParseBuf<'a>,
     capabilities: CapabilityFlags,
-    params: &[CParam],
+    params: &[CBoundParam],
 ) -> Result<QueryAttributesView<'a>, Fault>
     ensures value { AttributesAre (spec.attributes_in capabilities (bound_list params.now) buf.old) result }
 {
@@ -58,16 +59,16 @@ fn execution_attributes<'a>(
     attributes_after(capabilities, &head, params, buf.rest())
 }
 
-/// Reads one attribute of `COM_STMT_EXECUTE`, the first being 0: 0; 7 where there are fewer; or 1 or 2. After another code than 0
-/// the struct is as it was.
+/// Reads one attribute of `COM_STMT_EXECUTE`, the first being 0; 7 if there are fewer. After another code than 0 the struct is
+/// unchanged.
 #[unsafe(no_mangle)]
 pub extern "C" fn myp_read_execution_attribute<'a>(
     alloc: Global,
     packet: &'a [u8],
     capabilities: u32,
-    params: &[CParam],
+    params: &[CBoundParam],
     place: usize,
-    out: &mut CQueryAttribute<'a>,
+    out: &mut CParameter<'a>,
 ) -> u32
     ensures value { AttributeInto (λ x. x) place (spec.attributes_in (record { 0 = capabilities; 1 = record {} }) (bound_list params.now) packet.now) result out.old out.new }
 {

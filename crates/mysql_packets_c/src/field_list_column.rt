@@ -1,4 +1,4 @@
-//! The definition of a column that answers `COM_FIELD_LIST`.
+//! Column definitions in the answer to `COM_FIELD_LIST`.
 #![tactic(auto, using(crate::proofs::Codes::codes))]
 
 ghost use Rattle.std.specs.Prelude.{◌≡◌, None, Some};
@@ -11,9 +11,7 @@ ghost use Rattle.mysql_packets_c.specs.FieldListColumn.{IsDefinition};
 ghost use Rattle.mysql_packets_c.specs.Output.{PutsUnlessTooLong};
 
 use crate::code::{INVALID_INPUT, OK, code_of};
-use crate::extended_column::{
-    CExtendedColumn, SentExtendedColumn, places_of, put_extended, sent_extended,
-};
+use crate::column::{CColumn, SentColumn, places_of, put_column, sent_column};
 use crate::flags::mariadb_of;
 use crate::input::read;
 use crate::output::put_packet;
@@ -27,12 +25,13 @@ use std::marker::Model;
 #[repr(C)]
 #[derive(Drop)]
 pub struct CFieldListColumn<'a> {
-    pub column: CExtendedColumn<'a>,
+    pub column: CColumn<'a>,
     pub default_value: &'a [u8],
     pub has_default_value: u8,
 }
 
-/// Reads a column that answers `COM_FIELD_LIST`, by MariaDB's flags of both sides: 0; or 1 or 2, and the struct is as it was.
+/// Reads a column in the answer to `COM_FIELD_LIST`, under the MariaDB flags of both sides. After an error (1 or 2) the struct
+/// is unchanged.
 #[unsafe(no_mangle)]
 pub extern "C" fn myp_read_field_list_column<'a>(
     alloc: Global,
@@ -44,7 +43,7 @@ pub extern "C" fn myp_read_field_list_column<'a>(
 {
     match read::<FieldListColumn<'a>>(alloc, packet, mariadb_of(mariadb_capabilities)) {
         Ok((found, used)) => {
-            put_extended(found.column(), used, &mut out.column);
+            put_column(found.column(), used, &mut out.column);
             let (default_value, has_default_value) = places_of(found.default_value());
             out.default_value = default_value;
             out.has_default_value = has_default_value;
@@ -57,7 +56,7 @@ pub extern "C" fn myp_read_field_list_column<'a>(
 /// A definition whose texts are the caller's. In a clause it is that definition.
 #[derive(Drop)]
 struct SentDefinition<'a> {
-    column: SentExtendedColumn<'a>,
+    column: SentColumn<'a>,
     default_value: Option<RawBytes<'a, LenEnc>>,
 }
 
@@ -82,7 +81,7 @@ impl Parts for SentDefinition<'_> {
     }
 }
 
-/// The default value of the caller's: NULL where there is none.
+/// The caller's default value: NULL if there is none.
 fn default_of<'a>(definition: &CFieldListColumn<'a>) -> Option<RawBytes<'a, LenEnc>>
     ensures value { result ≡ spec.default_given definition.now }
 {
@@ -93,22 +92,23 @@ fn default_of<'a>(definition: &CFieldListColumn<'a>) -> Option<RawBytes<'a, LenE
     }
 }
 
-/// Writes a column that answers `COM_FIELD_LIST`: 0; 5, and how many bytes it takes; 4; or 3 of a type that is none.
+/// Writes a column in the answer to `COM_FIELD_LIST`. Errors: 5 if the buffer is too small, with the length needed; 4 if the
+/// length overflows; 3 for an unknown type.
 #[unsafe(no_mangle)]
 pub extern "C" fn myp_write_field_list_column(
     definition: &CFieldListColumn<'_>,
     out: &mut [u8],
     written: &mut usize,
 ) -> u32
-    ensures unknown { column_type_of definition.now.column.column.column_type ≡ None → (result ≡ 3) × (out.new ≡ out.old) × (written.new ≡ 0) }
-    ensures value { (t : ColumnType) → column_type_of definition.now.column.column.column_type ≡ Some t → PutsUnlessTooLong (field_list_column.bytes (spec.definition_given t definition.now)) result out.old out.new written.new }
+    ensures unknown { column_type_of definition.now.column.column_type ≡ None → (result ≡ 3) × (out.new ≡ out.old) × (written.new ≡ 0) }
+    ensures value { (t : ColumnType) → column_type_of definition.now.column.column_type ≡ Some t → PutsUnlessTooLong (field_list_column.bytes (spec.definition_given t definition.now)) result out.old out.new written.new }
 {
-    let Some(column_type) = ColumnType::from_code(definition.column.column.column_type) else {
+    let Some(column_type) = ColumnType::from_code(definition.column.column_type) else {
         *written = 0;
         return INVALID_INPUT;
     };
     let packet = SentDefinition {
-        column: sent_extended(column_type, &definition.column),
+        column: sent_column(column_type, &definition.column),
         default_value: default_of(definition),
     };
     put_packet(&packet, out, written)

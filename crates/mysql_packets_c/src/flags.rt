@@ -5,7 +5,7 @@ ghost use Rattle.std.specs.Prelude.{◌≡◌};
 use bitflags::Flags;
 use mysql_wire::{CapabilityFlags, ColumnFlags, MariadbCapabilities, StatusFlags};
 
-/// What both sides can do.
+/// The capabilities of both sides.
 #[inline(always)]
 pub(crate) fn capabilities_of(bits: u32) -> CapabilityFlags
     ensures value { result ≡ record { 0 = bits; 1 = record {} } }
@@ -13,7 +13,7 @@ pub(crate) fn capabilities_of(bits: u32) -> CapabilityFlags
     CapabilityFlags::from_bits_retain(bits)
 }
 
-/// What both sides can do of MariaDB's own.
+/// The MariaDB capabilities of both sides.
 #[inline(always)]
 pub(crate) fn mariadb_of(bits: u32) -> MariadbCapabilities
     ensures value { result ≡ record { 0 = bits; 1 = record {} } }

@@ -17,7 +17,7 @@ pub struct CFrame<'a> {
     pub is_last: u8,
 }
 
-/// Takes the next frame off the front: 0, and what follows it is left; or 7 where it is not whole, and both places are as they were.
+/// Takes the next frame off the front. If it is incomplete (7), both places are unchanged.
 #[unsafe(no_mangle)]
 pub extern "C" fn myp_next_frame<'a>(rest: &mut CBytes<'a>, out: &mut CFrame<'a>) -> u32
     ensures frame { result ≡ 0 → IsFrame out.new.sequence_id out.new.content.now rest.old.bytes.now rest.new.bytes.now }

@@ -39,7 +39,7 @@ pub struct CGtidDump<'a> {
     pub is_tagged: u8,
 }
 
-/// 1 where the sids are in the form with tags, else 0.
+/// 1 if the sids are in the form with tags, otherwise 0.
 fn as_number(tagged: bool) -> u8
     ensures value { is_set result ≡ tagged }
     ensures flag { result < 2 }
@@ -59,7 +59,7 @@ fn put_sids<'a>(found: SidsRef<'a>, out: &mut CGtidDump<'a>)
     out.is_tagged = as_number(is_tagged);
 }
 
-/// Reads `COM_BINLOG_DUMP_GTID`: 0; or 1 or 2, and the struct is as it was.
+/// Reads `COM_BINLOG_DUMP_GTID`. After an error (1 or 2) the struct is unchanged.
 #[unsafe(no_mangle)]
 pub extern "C" fn myp_read_gtid_dump<'a>(
     alloc: Global,
@@ -163,7 +163,8 @@ impl Parts for WrittenDump<'_, '_> {
     }
 }
 
-/// Writes `COM_BINLOG_DUMP_GTID`: 0; 5, and how many bytes it takes; 4; or 3 of a tag that is none.
+/// Writes `COM_BINLOG_DUMP_GTID`. Errors: 5 if the buffer is too small, with the length needed; 4 if the length overflows; 3
+/// for a tag that is none.
 #[tactic(auto, using(crate::proofs::Codes::codes, crate::proofs::WrittenSids::held_sids))]
 #[unsafe(no_mangle)]
 pub extern "C" fn myp_write_gtid_dump(

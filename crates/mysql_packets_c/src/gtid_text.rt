@@ -24,7 +24,8 @@ use mysql_repl::ComBinlogDumpGtidRef;
 use std::alloc::Global;
 use std::str;
 
-/// Writes the text of sids: 0; 5, and how many bytes it takes; 4; or 3 of a tag that is none.
+/// Writes the text of sids. Errors: 5 if the buffer is too small, with the length needed; 4 if the length overflows; 3 for a
+/// tag that is none.
 #[tactic(auto, using(crate::proofs::WrittenSids::held_sids, crate::proofs::GtidTexts::texts))]
 #[unsafe(no_mangle)]
 pub extern "C" fn myp_sids_to_text(sids: &[CSid<'_>], out: &mut [u8], written: &mut usize) -> u32
@@ -38,7 +39,8 @@ pub extern "C" fn myp_sids_to_text(sids: &[CSid<'_>], out: &mut [u8], written: &
     put_packet(&SetText(sids), out, written)
 }
 
-/// Writes `COM_BINLOG_DUMP_GTID` with the sids of the text of a GTID set: 0; 5, and how many bytes it takes; 4; or 2 of another text.
+/// Writes `COM_BINLOG_DUMP_GTID` with the sids in the text of a GTID set. Errors: 5 if the buffer is too small, with the length
+/// needed; 4 if the length overflows; 2 for an invalid text.
 #[unsafe(no_mangle)]
 pub extern "C" fn myp_gtid_dump_from_text(
     dump: &CGtidDump<'_>,
@@ -62,7 +64,8 @@ pub extern "C" fn myp_gtid_dump_from_text(
     }
 }
 
-/// Writes the text of the GTID set of a `COM_BINLOG_DUMP_GTID`: 0; 5, and how many bytes it takes; 4; or 1 or 2 of another packet.
+/// Writes the text of the GTID set of a `COM_BINLOG_DUMP_GTID`. Errors: 5 if the buffer is too small, with the length needed; 4
+/// if the length overflows; 1 or 2 for another packet.
 #[unsafe(no_mangle)]
 pub extern "C" fn myp_gtid_dump_to_text(
     alloc: Global,

@@ -2,14 +2,14 @@
 #![tactic(auto, using(crate::proofs::Codes::codes, crate::proofs::SomeZero::zeros))]
 
 ghost use Rattle.std.specs.Cow.{cow_slice_items};
-ghost use Rattle.std.specs.Prelude.{◌≡◌, ◌≢◌, IsFalse, IsTrue, length, option_map};
+ghost use Rattle.std.specs.Prelude.{◌≡◌, ◌≢◌, IsFalse, IsTrue, false, length, option_map, true};
 ghost use Rattle.mysql_auth.specs.Handshake.{handshake};
 ghost use Rattle.mysql_auth.specs.PluginName.{has_zero};
 ghost use Rattle.mysql_packets_c.specs.Code.{ReadsInto};
 ghost use Rattle.mysql_packets_c.specs.Handshake as spec;
 ghost use Rattle.mysql_packets_c.specs.Handshake.{IsHandshake};
 
-use crate::code::{INVALID_INPUT, OK, code_of};
+use crate::code::{INVALID_DATA, INVALID_INPUT, OK, code_of};
 use crate::flags::{capabilities_of, mariadb_of, status_of};
 use crate::input::read;
 use crate::output::put_packet;
@@ -36,15 +36,29 @@ pub struct CHandshake<'a> {
     pub default_collation: u8,
 }
 
-/// Reads `Protocol::HandshakeV10`: 0; or 1 or 2, and the struct is as it was.
+/// Whether a packet may be a greeting: it begins with the version 10 or 9.
+fn is_greeting(packet: &[u8]) -> bool
+    ensures value { result ≡ spec.is_greeting packet.now }
+{
+    match packet.first() {
+        Some(version) => *version == 10 || *version == 9,
+        None => true,
+    }
+}
+
+/// Reads `Protocol::HandshakeV10`: 0; or 1 or 2, and the struct is unchanged.
 #[unsafe(no_mangle)]
 pub extern "C" fn myp_read_handshake<'a>(
     alloc: Global,
     packet: &'a [u8],
     out: &mut CHandshake<'a>,
 ) -> u32
-    ensures value { ReadsInto (IsHandshake packet.now) ((handshake.form tt).reads packet.now) result out.old out.new }
+    ensures other { spec.is_greeting packet.now ≡ false → (result ≡ 2) × (out.new ≡ out.old) }
+    ensures value { spec.is_greeting packet.now ≡ true → ReadsInto (IsHandshake packet.now) ((handshake.form tt).reads packet.now) result out.old out.new }
 {
+    if !is_greeting(packet) {
+        return INVALID_DATA;
+    }
     match read::<HandshakePacketRef<'a>>(alloc, packet, ()) {
         Ok((found, used)) => {
             out.server_version = found.server_version();
@@ -91,7 +105,7 @@ fn sends_name(fields: &CHandshake<'_>) -> bool
     capabilities_of(fields.capabilities).contains(CapabilityFlags::CLIENT_PLUGIN_AUTH)
 }
 
-/// Whether a second scramble of so many bytes is one.
+/// Whether a second scramble of `len` bytes is one.
 fn scramble_fits(sent: bool, named: bool, len: usize) -> bool
     ensures value { result ≡ spec.scramble_fits sent named len }
 {
@@ -155,7 +169,8 @@ fn handshake_of<'a>(fields: &CHandshake<'a>) -> HandshakePacket<'a>
     packet.with_mariadb_ext_capabilities(mariadb_of(fields.mariadb_capabilities))
 }
 
-/// Writes `Protocol::HandshakeV10`: 0; 5, and how many bytes it takes; 4; or 3 of fields that no handshake has.
+/// Writes `Protocol::HandshakeV10`. Errors: 5 if the buffer is too small, with the length needed; 4 if the length overflows; 3
+/// for fields that no handshake has.
 #[unsafe(no_mangle)]
 pub extern "C" fn myp_write_handshake(
     fields: &CHandshake<'_>,

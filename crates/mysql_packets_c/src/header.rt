@@ -13,10 +13,10 @@ use crate::output::put_packet;
 use mysql_wire::{FaultOf, Fixed, LeU24, MyDeserialize, ParseBuf, Parts, RawInt, Sink, parts};
 use std::alloc::Global;
 
-/// The most bytes of a payload; a longer one goes on in the next packet.
+/// The maximum length of a payload; a longer one continues in the next packet.
 const MAX_PAYLOAD_LEN: u32 = 0xff_ffff;
 
-/// What stands before a payload: its length, and the packet's place in the exchange.
+/// The header of a payload: its length, and the sequence number.
 #[derive(Drop)]
 pub struct PacketHeader {
     payload_length: RawInt<LeU24>,
@@ -59,7 +59,7 @@ pub struct CHeader {
     pub sequence_id: u8,
 }
 
-/// Reads the four bytes before a payload: 0; or 1, and the struct is as it was.
+/// Reads the four bytes before a payload. If there are fewer (1), the struct is unchanged.
 #[unsafe(no_mangle)]
 pub extern "C" fn myp_read_header(alloc: Global, bytes: &[u8], out: &mut CHeader) -> u32
     ensures value { ReadsInto spec.IsHeader ((spec.packet_header.form tt).reads bytes.now) result out.old out.new }
@@ -74,7 +74,7 @@ pub extern "C" fn myp_read_header(alloc: Global, bytes: &[u8], out: &mut CHeader
     }
 }
 
-/// Writes the four bytes before a payload. More than 16,777,215 are of no packet: 3, and the buffer is as it was.
+/// Writes the four bytes before a payload. For a length above 16,777,215 (3) the buffer is unchanged.
 #[tactic(auto, using(crate::proofs::Codes::codes), unfolding(crate::specs::Header::packet_header, mysql_wire::specs::Writing::le_bytes))]
 #[unsafe(no_mangle)]
 pub extern "C" fn myp_write_header(

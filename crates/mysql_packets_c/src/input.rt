@@ -6,7 +6,7 @@ ghost use Rattle.mysql_packets_c.specs.Input.{ReadsWhole};
 use mysql_wire::{FaultOf, MyDeserialize, ParseBuf};
 use std::alloc::Global;
 
-/// What a packet's bytes are read as, and how many of them it takes. The rest is of no packet.
+/// Reads a packet, and returns it with the number of its bytes; the rest belongs to no packet.
 #[inline(always)]
 pub(crate) fn read<'s, 'a, T: MyDeserialize<'a> + Drop>(
     alloc: Global,

@@ -1,7 +1,8 @@
-//! The packets of MySQL and MariaDB, called from C: `include/mysql_packets.h` declares what is exported here.
+//! The C library: `include/mysql_packets.h` declares the calls that are exported here.
 //!
-//! A call answers a code. What it reads stays in the packet: a byte string is handed out as its place there. What it writes
-//! goes to a buffer of the caller's.
+//! A call returns a code, which the header names: 0 `MYP_OK`, 1 `UNEXPECTED_EOF`, 2 `INVALID_DATA`, 3 `INVALID_INPUT`, 4
+//! `TOO_LARGE`, 5 `BUFFER_TOO_SMALL`, 6 `ROW_TOO_LARGE`, 7 `MYP_END`. A byte string that is read points into the packet.
+//! Writers write to the caller's buffer.
 #![tactic(auto)]
 
 mod attributes;
@@ -27,7 +28,6 @@ mod dump;
 mod err_packet;
 mod execution;
 mod execution_attribute;
-mod extended_column;
 mod field_list_column;
 mod flags;
 mod frame;
@@ -46,13 +46,13 @@ mod parsec;
 mod public_key;
 mod query;
 mod query_attribute;
-mod query_with_attributes;
 mod register_replica;
-mod reply;
 mod rows;
 mod scramble;
 mod semi_sync_ack;
+mod sent_value;
 mod server_version;
+mod session;
 mod session_change;
 mod set_text;
 mod sid;
@@ -66,6 +66,6 @@ mod supported;
 mod table_dump;
 mod text;
 mod text_dump;
-mod typed_value;
+mod text_number;
 mod value;
 mod written_execution;

@@ -15,7 +15,7 @@ use mysql_replies::{LocalInfilePacket, LocalInfilePacketRef};
 use std::alloc::Global;
 use std::borrow::CowSlice;
 
-/// Reads `LOCAL INFILE Request`: 0, and the file's name; or 1 or 2, and the place is as it was.
+/// Reads the file's name from a `LOCAL INFILE` request. After an error (1 or 2) the place is unchanged.
 #[unsafe(no_mangle)]
 pub extern "C" fn myp_read_local_infile<'a>(
     alloc: Global,
@@ -33,7 +33,7 @@ pub extern "C" fn myp_read_local_infile<'a>(
     }
 }
 
-/// Writes a `LOCAL INFILE` request: 0; 5, and how many bytes it takes.
+/// Writes a `LOCAL INFILE` request. If the buffer is too small (5), `written` is the length needed.
 #[tactic(auto, using(crate::proofs::Codes::codes), unfolding(mysql_replies::specs::LocalInfile::local_infile, mysql_wire::specs::Writing::le_bytes))]
 #[unsafe(no_mangle)]
 pub extern "C" fn myp_write_local_infile(

@@ -1,4 +1,4 @@
-//! The answer to a handshake: the login of a client.
+//! Logins: the response to a handshake.
 #![tactic(auto, using(crate::proofs::Codes::codes))]
 
 ghost use Rattle.std.specs.Cow.{cow_slice_items};
@@ -92,7 +92,7 @@ fn level_of(login: &CLogin<'_>) -> Option<u8>
     }
 }
 
-/// The same, as it is written.
+/// The fields as they are written.
 fn written_level(login: &CLogin<'_>) -> Option<RawInt<u8>>
     ensures { option_map (λ n. n.0) result ≡ if_set login.now.has_zstd_level login.now.zstd_level }
 {
@@ -103,7 +103,7 @@ fn written_level(login: &CLogin<'_>) -> Option<RawInt<u8>>
     }
 }
 
-/// Reads `Protocol::HandshakeResponse41`: 0; or 1 or 2, and the struct is as it was.
+/// Reads `Protocol::HandshakeResponse41`. After an error (1 or 2) the struct is unchanged.
 #[unsafe(no_mangle)]
 pub extern "C" fn myp_read_login<'a>(alloc: Global, packet: &'a [u8], out: &mut CLogin<'a>) -> u32
     ensures value { ReadsInto (HoldsLogin packet.now) ((handshake_response_as_sent.form tt).reads packet.now) result out.old out.new }
@@ -202,8 +202,8 @@ fn sends_texts(login: &CLogin<'_>, attributes: &[CAttribute<'_>]) -> bool
     login.has_attributes == 0 || are_texts(attributes)
 }
 
-/// Writes `Protocol::HandshakeResponse41` with these attributes, where some are sent: 0; 5, and how many bytes it takes; 4; or 3 where
-/// attributes are not UTF-8.
+/// Writes `Protocol::HandshakeResponse41` with these attributes, if any are sent. Errors: 5 if the buffer is too small, with
+/// the length needed; 4 if the length overflows; 3 if attributes are not UTF-8.
 #[tactic(auto, using(crate::proofs::Codes::codes, crate::proofs::Logins::logins))]
 #[unsafe(no_mangle)]
 pub extern "C" fn myp_write_login(

@@ -23,7 +23,7 @@ pub struct CLongData<'a> {
     pub param_index: u16,
 }
 
-/// Reads `COM_STMT_SEND_LONG_DATA`: 0; or 1 or 2, and the struct is as it was.
+/// Reads `COM_STMT_SEND_LONG_DATA`. After an error (1 or 2) the struct is unchanged.
 #[unsafe(no_mangle)]
 pub extern "C" fn myp_read_long_data<'a>(
     alloc: Global,
@@ -43,7 +43,7 @@ pub extern "C" fn myp_read_long_data<'a>(
     }
 }
 
-/// Writes `COM_STMT_SEND_LONG_DATA`: 0; 5, and how many bytes it takes.
+/// Writes `COM_STMT_SEND_LONG_DATA`. If the buffer is too small (5), `written` is the length needed.
 #[tactic(auto, using(crate::proofs::Codes::codes), unfolding(mysql_prepared::specs::LongData::long_data, mysql_wire::specs::Writing::le_bytes))]
 #[unsafe(no_mangle)]
 pub extern "C" fn myp_write_long_data(

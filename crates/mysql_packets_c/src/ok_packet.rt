@@ -136,7 +136,7 @@ fn read_stream_end<'a>(
     }
 }
 
-/// Reads `OK_Packet` or `EOF_Packet` of a kind: 0; 1 or 2; or 3, where there is no such kind. But for 0 the struct is as it was.
+/// Reads `OK_Packet` or `EOF_Packet` of a kind. After an error, 1 or 2, or 3 for an unknown kind, the struct is unchanged.
 ///
 /// The kinds are 0 the end of a statement, 1 the OK packet in place of the old end of a result, 2 that old end, and 3 the end
 /// of a replication stream.
@@ -193,7 +193,7 @@ fn write_kind<T: OkPacketLayout>(
     put_packet(&sent, out, written)
 }
 
-/// Whether a state is given that has a place, but for the status, which does not say that one follows.
+/// Whether the session's changes are given, are written, and the status doesn't have their flag.
 fn loses_state(packet: &COk<'_>, kind: u32, capabilities: CapabilityFlags) -> bool
     ensures { result ≡ loses_state kind capabilities.0 packet.now }
 {
@@ -203,10 +203,10 @@ fn loses_state(packet: &COk<'_>, kind: u32, capabilities: CapabilityFlags) -> bo
         && 0 < packet.session_state.len()
 }
 
-/// Writes `OK_Packet` or `EOF_Packet` of a kind: 0; 5, and how many bytes it takes; 4; or 3, where there is no such kind, or of a state that
-/// the status does not say.
+/// Writes `OK_Packet` or `EOF_Packet` of a kind. Errors: 5 if the buffer is too small, with the length needed; 4 if the length
+/// overflows; 3 for an unknown kind, or changes of the session without the flag of the status.
 ///
-/// What a kind or the flags leave no place for is not written. An empty info and an empty state are absent.
+/// Fields that the kind or the flags don't have aren't written. An empty info and an empty state are absent.
 #[unsafe(no_mangle)]
 pub extern "C" fn myp_write_ok(
     packet: &COk<'_>,

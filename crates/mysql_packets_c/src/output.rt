@@ -1,12 +1,12 @@
-//! What is written to a buffer of the caller's.
+//! Writing to the caller's buffer.
 
 ghost use Rattle.std.specs.Prelude.{◌≡◌, ◌≢◌, ◌<◌, ◌≤◌, ◌-◌, ◌^◌};
 ghost use Rattle.mysql_packets_c.specs.Output.{Puts, PutsUnlessTooLong};
 
-use crate::code::{BUFFER_TOO_SMALL, NO_MEMORY, OK};
+use crate::code::{BUFFER_TOO_SMALL, OK, TOO_LARGE};
 use mysql_wire::MySerialize;
 
-/// Writes bytes to the front of a buffer. One that is too small is as it was, and `written` is what it takes.
+/// Writes bytes to the front of a buffer. If it is too small, it is unchanged, and `written` is the length needed.
 pub(crate) fn put(bytes: &[u8], out: &mut [u8], written: &mut usize) -> u32
     ensures value { Puts bytes.now result out.old out.new written.new }
 {
@@ -21,8 +21,7 @@ pub(crate) fn put(bytes: &[u8], out: &mut [u8], written: &mut usize) -> u32
 
 /// Writes a packet to the front of a buffer, without memory of its own.
 ///
-/// A length that no `usize` holds is that of no packet in memory. Where strings of the caller's have it together, the code is that
-/// of memory.
+/// The code for a length: one that no `usize` holds is 4, since the caller's strings overflow it together.
 #[inline(always)]
 #[tactic(auto, unfolding(mysql_wire::specs::Writing::saturated))]
 pub(crate) fn put_packet<P: MySerialize>(packet: &P, out: &mut [u8], written: &mut usize) -> u32
@@ -41,8 +40,8 @@ pub(crate) fn put_packet<P: MySerialize>(packet: &P, out: &mut [u8], written: &m
     }
 }
 
-/// Answers how many bytes something takes, which is written where a buffer of this length holds it. `usize::MAX` is the count of
-/// what no memory holds.
+/// Stores the length of a packet, which is written if the buffer has at least this length. `usize::MAX` stands for any greater
+/// length.
 #[inline(always)]
 pub(crate) fn answer_count(count: usize, capacity: usize, written: &mut usize) -> u32
     ensures fits { count < 2 ^ 64 - 1 → count ≤ capacity → result ≡ 0 }
@@ -52,7 +51,7 @@ pub(crate) fn answer_count(count: usize, capacity: usize, written: &mut usize) -
 {
     if count == usize::MAX {
         *written = 0;
-        return NO_MEMORY;
+        return TOO_LARGE;
     }
     *written = count;
     if count <= capacity {

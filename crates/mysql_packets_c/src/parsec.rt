@@ -1,4 +1,4 @@
-//! What the plugin `parsec` is sent beside the scramble.
+//! The data that the plugin `parsec` receives in addition to the scramble.
 
 ghost use Rattle.std.specs.Prelude.{◌≡◌, option_map};
 ghost use Rattle.mysql_auth.specs.Parsec.{parsec_salt};
@@ -16,8 +16,7 @@ fn rounds_and_salt<'a>(packet: &'a [u8]) -> Option<(u32, &'a [u8])>
     Some((rounds, salt))
 }
 
-/// Reads what the plugin `parsec` is sent beside the scramble: 0, the number of rounds and the salt; or 2, and both are as they
-/// were.
+/// Reads the number of rounds and the salt for the plugin `parsec`. After an error (2) both are unchanged.
 #[unsafe(no_mangle)]
 pub extern "C" fn myp_read_parsec_salt<'a>(
     packet: &'a [u8],

@@ -17,7 +17,7 @@ use mysql_auth::{PublicKeyRequest, PublicKeyResponse, PublicKeyResponseRef};
 use std::alloc::Global;
 use std::borrow::CowSlice;
 
-/// Reads the server's public key: 0, and the key; or 1 or 2, and the place is as it was.
+/// Reads the server's public key. After an error (1 or 2) the place is unchanged.
 #[unsafe(no_mangle)]
 pub extern "C" fn myp_read_public_key<'a>(
     alloc: Global,
@@ -35,7 +35,7 @@ pub extern "C" fn myp_read_public_key<'a>(
     }
 }
 
-/// Writes the answer to a request for the server's public key: 0; 5, and how many bytes it takes.
+/// Writes the answer to a request for the server's public key. If the buffer is too small (5), `written` is the length needed.
 #[tactic(auto, using(crate::proofs::Codes::codes), unfolding(mysql_auth::specs::PublicKeyResponse::public_key_response, mysql_wire::specs::Writing::le_bytes))]
 #[unsafe(no_mangle)]
 pub extern "C" fn myp_write_public_key(rsa_key: &[u8], out: &mut [u8], written: &mut usize) -> u32
@@ -45,7 +45,7 @@ pub extern "C" fn myp_write_public_key(rsa_key: &[u8], out: &mut [u8], written: 
     put_packet(&packet, out, written)
 }
 
-/// Reads the request for a public key: 0, and how many bytes it takes; or 1 or 2, and the count is as it was.
+/// Reads the request for a public key, and stores its length. After an error (1 or 2) the count is unchanged.
 #[unsafe(no_mangle)]
 pub extern "C" fn myp_read_public_key_request(alloc: Global, packet: &[u8], used: &mut usize) -> u32
     ensures value { ReadsInto (IsUsed packet.now) ((public_key_request.form tt).reads packet.now) result used.old used.new }
@@ -59,7 +59,7 @@ pub extern "C" fn myp_read_public_key_request(alloc: Global, packet: &[u8], used
     }
 }
 
-/// Writes the request for a public key, of one byte: 0; 5, and how many bytes it takes.
+/// Writes the request for a public key, of one byte. If the buffer is too small (5), `written` is the length needed.
 #[tactic(auto, using(crate::proofs::Codes::codes), unfolding(mysql_auth::specs::PublicKeyRequest::public_key_request, mysql_wire::specs::Writing::le_bytes))]
 #[unsafe(no_mangle)]
 pub extern "C" fn myp_write_public_key_request(out: &mut [u8], written: &mut usize) -> u32

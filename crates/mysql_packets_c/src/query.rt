@@ -1,64 +1,55 @@
-//! A query without attributes.
-#![tactic(auto, using(crate::proofs::Codes::codes))]
+//! A query, with its attributes.
+#![tactic(auto, using(crate::proofs::WrittenExecutions::queries))]
 
-ghost use Rattle.std.specs.Prelude.{◌≡◌, ◌≢◌, [], ◌∷◌, if◌then◌else◌};
-ghost use Rattle.mysql_commands.specs.Query.{query, sends_attributes};
-ghost use Rattle.mysql_packets_c.specs.Output.{Puts};
-ghost use Rattle.mysql_packets_c.specs.Query.{query_given};
+ghost use Rattle.std.specs.Prelude.{◌≡◌, Some, false, true};
+ghost use Rattle.mysql_prepared.specs.ComQuery.{query_bytes};
+ghost use Rattle.mysql_packets_c.specs.Output.{PutsUnlessTooLong};
+ghost use Rattle.mysql_packets_c.specs.Parameter.{if_agreed, named_type, param_given};
+ghost use Rattle.mysql_packets_c.specs.Query as spec;
 
-use crate::flags::capabilities_of;
+use crate::code::INVALID_INPUT;
 use crate::output::put_packet;
-use bitflags::Flags;
-use mysql_commands::ComQueryHeader;
-use mysql_wire::{CapabilityFlags, ConstU8, EofBytes, Parts, RawBytes, Sink, parts};
-use std::borrow::CowSlice;
+use crate::parameter::{CParameter, are_agreed, are_parameters};
+use mysql_prepared::ComQuery;
 
-/// What stands before the text: that there is no attribute, where attributes are sent.
-#[inline(always)]
-fn before_text(capabilities: CapabilityFlags) -> &'static [u8]
-    ensures value { result.now ≡ (if sends_attributes capabilities then 0 ∷ 1 ∷ [] else []) }
+/// Writes the query with these attributes, or nothing if the type of one can't encode its value.
+fn put_with_attributes(
+    text: &[u8],
+    attributes: &[CParameter<'_>],
+    out: &mut [u8],
+    written: &mut usize,
+) -> u32
+    ensures encoded { spec.are_encoded attributes.now ≡ true → PutsUnlessTooLong (query_bytes param_given named_type (spec.query_of (Some attributes.now) text.now)) result out.old out.new written.new }
+    ensures refused { spec.are_encoded attributes.now ≡ false → (result ≡ 3) × (out.new ≡ out.old) × (written.new ≡ 0) }
 {
-    if capabilities.contains(CapabilityFlags::CLIENT_QUERY_ATTRIBUTES) {
-        &[0, 1]
-    } else {
-        &[]
+    match ComQuery::new(text).with_attributes(attributes) {
+        Ok(query) => put_packet(&query, out, written),
+        Err(_) => {
+            *written = 0;
+            INVALID_INPUT
+        }
     }
 }
 
-/// The query of this text, as it is sent under these flags.
-#[derive(Drop)]
-struct SentQuery<'a> {
-    capabilities: CapabilityFlags,
-    text: &'a [u8],
-}
-
-#[tactic(auto, using(mysql_wire::proofs::Packets::packets), unfolding(mysql_commands::specs::Query::query))]
-impl Parts for SentQuery<'_> {
-    ghost bytes = { λ q. query.bytes (query_given q.capabilities q.text.now) };
-
-    #[inline(always)]
-    fn put<S: Sink>(&self, sink: &mut S) {
-        let header: ComQueryHeader = ConstU8::new();
-        let before = RawBytes::<EofBytes>::new(CowSlice::Borrowed(before_text(self.capabilities)));
-        let text = RawBytes::<EofBytes>::new(CowSlice::Borrowed(self.text));
-        sink.part(&parts!(header, before, text));
-    }
-}
-
-/// Writes `COM_QUERY` without attributes: 0; 5, and how many bytes it takes.
-#[tactic(auto, using(crate::proofs::Codes::codes), unfolding(mysql_commands::specs::Query::query, mysql_wire::specs::Writing::le_bytes))]
+/// Writes `COM_QUERY`, with its attributes if both sides agreed on them. Errors: 5 if the buffer is too small, with the length
+/// needed; 4 if the length overflows; 3 if an attribute has an invalid value or type, or its value doesn't fit its type.
 #[unsafe(no_mangle)]
 pub extern "C" fn myp_write_query(
     text: &[u8],
+    attributes: &[CParameter<'_>],
     capabilities: u32,
     out: &mut [u8],
     written: &mut usize,
 ) -> u32
-    ensures { Puts (query.bytes (query_given (record { 0 = capabilities; 1 = record {} }) text.now)) result out.old out.new written.new }
+    ensures refused { spec.may_write capabilities attributes.now ≡ false → (result ≡ 3) × (out.new ≡ out.old) × (written.new ≡ 0) }
+    ensures value { spec.may_write capabilities attributes.now ≡ true → PutsUnlessTooLong (query_bytes param_given named_type (spec.query_of (if_agreed capabilities attributes.now) text.now)) result out.old out.new written.new }
 {
-    let packet = SentQuery {
-        capabilities: capabilities_of(capabilities),
-        text,
-    };
-    put_packet(&packet, out, written)
+    if !are_parameters(attributes) {
+        *written = 0;
+        return INVALID_INPUT;
+    }
+    if are_agreed(capabilities) {
+        return put_with_attributes(text, attributes, out, written);
+    }
+    put_packet(&ComQuery::new(text), out, written)
 }

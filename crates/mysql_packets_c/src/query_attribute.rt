@@ -7,32 +7,20 @@ ghost use Rattle.mysql_prepared.specs.Attributes as prepared;
 ghost use Rattle.mysql_prepared.specs.Attributes.{IsGood, attributes_read};
 ghost use Rattle.mysql_packets_c.specs.QueryAttribute as spec;
 ghost use Rattle.mysql_packets_c.specs.QueryAttribute.{AttributeInto, IsQueryAttribute};
-ghost use Rattle.mysql_packets_c.specs.WrittenExecution.{are_attributes};
 
 use crate::code::{END, OK, code_of};
 use crate::execution::put_param;
 use crate::flags::capabilities_of;
 use crate::input::read;
-use crate::value::{CValue, is_param};
+use crate::parameter::CParameter;
 use bitflags::Flags;
 use mysql_commands::ComQueryRef;
-use mysql_prepared::{AsExecuteParam, ExecuteParam, QueryAttribute, QueryAttributesView};
-use mysql_values::ParamType;
+use mysql_prepared::{ExecuteParam, QueryAttribute, QueryAttributesView};
 use mysql_wire::{ConstValue, StmtExecuteParamFlags};
 use std::alloc::Global;
 
 /// The flag under which attributes are sent.
 const CLIENT_QUERY_ATTRIBUTES: u32 = 1 << 27;
-
-/// `myp_query_attribute`.
-#[repr(C)]
-#[derive(Drop)]
-pub struct CQueryAttribute<'a> {
-    pub name: &'a [u8],
-    pub value: CValue<'a>,
-    pub column_type: u8,
-    pub is_unsigned: u8,
-}
 
 /// The next attribute of a query that was read, whose attributes are good.
 fn next_of<'a>(view: &mut QueryAttributesView<'a>) -> Option<QueryAttribute<'a>>
@@ -69,53 +57,16 @@ pub(crate) fn attribute_at<'a>(
 }
 
 /// Puts an attribute into a struct of the caller's.
-pub(crate) fn put_attribute<'a>(found: &QueryAttribute<'a>, out: &mut CQueryAttribute<'a>)
+pub(crate) fn put_attribute<'a>(found: &QueryAttribute<'a>, out: &mut CParameter<'a>)
     ensures value { IsQueryAttribute (prepared.attribute_of found.now) out.old out.new }
 {
     let param_type = found.param_type;
     out.name = found.name;
+    out.has_type = 1;
     out.column_type = param_type.column_type().code();
     out.is_unsigned = u8::from(param_type.flags().contains(StmtExecuteParamFlags::UNSIGNED));
+    out.is_sent_ahead = 0;
     put_param(&mut out.value, ExecuteParam::sent(found.value));
-}
-
-/// An attribute is written as the type of its value's kind.
-#[tactic(auto, using(mysql_prepared::proofs::SentBytes::plain))]
-impl AsExecuteParam for CQueryAttribute<'_> {
-    ghost use Rattle.mysql_packets_c.specs.WrittenExecution.{attribute_param, attribute_type};
-
-    ghost param = { attribute_param };
-
-    ghost named_type = { attribute_type };
-
-    #[inline(always)]
-    fn as_execute_param(&self) -> ExecuteParam<'_> {
-        self.value.as_execute_param()
-    }
-
-    #[inline(always)]
-    fn sent_type(&self) -> ParamType {
-        self.value.sent_type()
-    }
-
-    #[inline(always)]
-    fn name(&self) -> &[u8] {
-        self.name
-    }
-
-    #[inline(always)]
-    fn is_spelled(&self) -> bool {
-        true
-    }
-}
-
-/// Whether the value of each attribute is one of a parameter.
-pub(crate) fn are_attributes(attributes: &[CQueryAttribute<'_>]) -> bool
-    ensures { result ≡ are_attributes attributes.now }
-{
-    attributes
-        .iter()
-        .all(|attribute| is_param(&attribute.value))
 }
 
 /// The attribute of a query at that place.
@@ -128,14 +79,14 @@ fn attribute_of<'a>(query: &ComQueryRef<'a>, place: usize) -> Option<QueryAttrib
     }
 }
 
-/// Reads one attribute of a `COM_QUERY`, the first being 0: 0; 7 where there are fewer; or 1 or 2. After another code than 0 the
-/// struct is as it was.
+/// Reads one attribute of a `COM_QUERY`, the first being 0; 7 if there are fewer. After another code than 0 the struct is
+/// unchanged.
 #[unsafe(no_mangle)]
 pub extern "C" fn myp_read_query_attribute<'a>(
     alloc: Global,
     packet: &'a [u8],
     place: usize,
-    out: &mut CQueryAttribute<'a>,
+    out: &mut CParameter<'a>,
 ) -> u32
     ensures value { AttributeInto spec.attributes_of place ((query.form (record { 0 = 0x0800_0000; 1 = record {} })).reads packet.now) result out.old out.new }
 {

@@ -28,7 +28,7 @@ pub struct CReplica<'a> {
     pub port: u16,
 }
 
-/// Reads `COM_REGISTER_SLAVE`: 0; or 1 or 2, and the struct is as it was.
+/// Reads `COM_REGISTER_SLAVE`. After an error (1 or 2) the struct is unchanged.
 #[unsafe(no_mangle)]
 pub extern "C" fn myp_read_register_replica<'a>(
     alloc: Global,
@@ -53,7 +53,8 @@ pub extern "C" fn myp_read_register_replica<'a>(
     }
 }
 
-/// Writes `COM_REGISTER_SLAVE`: 0; 5, and how many bytes it takes. Of a longer string the first 255 bytes are written.
+/// Writes `COM_REGISTER_SLAVE`. If the buffer is too small (5), `written` is the length needed. Of a longer string the first
+/// 255 bytes are written.
 #[unsafe(no_mangle)]
 pub extern "C" fn myp_write_register_replica(
     replica: &CReplica<'_>,

@@ -2,13 +2,13 @@
 #![tactic(auto, using(crate::proofs::Codes::codes, crate::proofs::FilledRows::rows))]
 
 ghost use Rattle.std.specs.List.{list_all};
-ghost use Rattle.std.specs.Prelude.{IsOk, ◌≡◌, ◌<◌, ◌≤◌, OnOk, IfErr, take, length, IsFalse, IsTrue};
+ghost use Rattle.std.specs.Prelude.{◌≡◌, ◌<◌, ◌≤◌, OnOk, IfErr, take, length, IsFalse, IsTrue};
 ghost use Rattle.mysql_prepared.specs.RowView.{IsDone, RefusesNext, bin_row_of, text_row_of};
 ghost use Rattle.mysql_prepared.specs.TextRow.{text_row_bytes};
 ghost use Rattle.mysql_packets_c.specs.ColumnType.{type_of, unsigned_of};
 ghost use Rattle.mysql_packets_c.specs.Output.{PutsUnlessTooLong};
 ghost use Rattle.mysql_packets_c.specs.Rows as spec;
-ghost use Rattle.mysql_packets_c.specs.Rows.{Fills, FillsPlaces, RowInto, TakesRow};
+ghost use Rattle.mysql_packets_c.specs.Rows.{Fills, FillsGood, RowInto, TakesRow};
 
 use crate::binary_row::{put_row, row_len};
 use crate::code::{BUFFER_TOO_SMALL, INVALID_INPUT, OK, code_of};
@@ -19,7 +19,7 @@ use mysql_values::ServerSide;
 use mysql_wire::{Buffer, BytesRepr, ColumnType, ConstValue, Fault, LenEnc, ParseBuf};
 use std::alloc::Global;
 
-/// What a reader of a binary row asks of a column: `myp_column_type`.
+/// The column properties that a reader of binary rows needs: `myp_column_type`.
 #[repr(C)]
 #[derive(Clone, Copy, Drop)]
 pub struct CColumnType {
@@ -27,7 +27,7 @@ pub struct CColumnType {
     pub is_unsigned: u8,
 }
 
-/// A code that is no type is that of a type which no value has.
+/// An unknown code is a type without values.
 impl TypedColumn for CColumnType {
     ghost type_of = { type_of };
 
@@ -73,7 +73,7 @@ fn fill_binary<'a>(
     fill!(row, values)
 }
 
-/// Reads a binary row into values, one of each column, and answers how many bytes it takes.
+/// Reads a binary row into values, one for each column, and returns the number of its bytes.
 #[inline(always)]
 fn read_binary<'a>(
     alloc: Global,
@@ -83,7 +83,7 @@ fn read_binary<'a>(
 ) -> Result<usize, Fault>
     requires { length columns.now ≤ length values.old }
     ensures value { TakesRow packet.now result (take (length columns.now) values.new) ((bin_row_of type_of unsigned_of 2 columns.now).reads packet.now) }
-    ensures places { FillsPlaces (length columns.now) (IsOk result) values.old values.new }
+    ensures places { FillsGood (spec.good_binary columns.now packet.now) values.old values.new }
 {
     let mut row = BinaryRowView::<ServerSide, CColumnType>::new(
         columns,
@@ -95,8 +95,8 @@ fn read_binary<'a>(
 
 /// Reads `ProtocolBinary::ResultsetRow` into values, one of each column.
 ///
-/// 0; 5 where there are fewer places than columns, and nothing is changed; or 1 or 2, and the values before the faulty one
-/// are set. Places after those of the columns are as they were.
+/// Errors: 5 if there are fewer places than columns, and nothing is changed; 1 or 2, with the values before the faulty one set.
+/// The other places are unchanged.
 #[unsafe(no_mangle)]
 pub extern "C" fn myp_read_binary_row<'a>(
     alloc: Global,
@@ -107,7 +107,7 @@ pub extern "C" fn myp_read_binary_row<'a>(
 ) -> u32
     ensures small { length values.old < length columns.now → (result ≡ 5) × (values.new ≡ values.old) × (used.new ≡ used.old) }
     ensures value { length columns.now ≤ length values.old → RowInto packet.now (take (length columns.now) values.new) ((bin_row_of type_of unsigned_of 2 columns.now).reads packet.now) result used.old used.new }
-    ensures places { length columns.now ≤ length values.old → FillsPlaces (length columns.now) (result ≡ 0) values.old values.new }
+    ensures places { length columns.now ≤ length values.old → FillsGood (spec.good_binary columns.now packet.now) values.old values.new }
 {
     if values.len() < columns.len() {
         return BUFFER_TOO_SMALL;
@@ -132,11 +132,11 @@ fn fill_text<'a>(row: &mut TextRowView<'a>, values: &mut [CValue<'a>]) -> Result
     fill!(row, values)
 }
 
-/// Reads a text row into values, and answers how many bytes it takes.
+/// Reads a text row into values, and returns the number of its bytes.
 #[inline(always)]
 fn read_text<'a>(alloc: Global, packet: &'a [u8], values: &mut [CValue<'a>]) -> Result<usize, Fault>
     ensures value { TakesRow packet.now result values.new ((text_row_of (length values.old)).reads packet.now) }
-    ensures places { FillsPlaces (length values.old) (IsOk result) values.old values.new }
+    ensures places { FillsGood (spec.good_text (length values.old) packet.now) values.old values.new }
 {
     let mut row = TextRowView::new(values.len(), ParseBuf::new(alloc, packet));
     fill_text(&mut row, values)?;
@@ -153,7 +153,7 @@ pub extern "C" fn myp_read_text_row<'a>(
     used: &mut usize,
 ) -> u32
     ensures value { RowInto packet.now values.new ((text_row_of (length values.old)).reads packet.now) result used.old used.new }
-    ensures places { FillsPlaces (length values.old) (result ≡ 0) values.old values.new }
+    ensures places { FillsGood (spec.good_text (length values.old) packet.now) values.old values.new }
 {
     match read_text(alloc, packet, values) {
         Ok(taken) => {
@@ -204,7 +204,8 @@ fn are_cells(values: &[CValue<'_>]) -> bool
     values.iter().all(|value| value.kind < 2)
 }
 
-/// Writes `ProtocolText::ResultsetRow`: 0; 5, and how many bytes it takes; 4; or 3 of a value that is neither bytes nor NULL.
+/// Writes `ProtocolText::ResultsetRow`. Errors: 5 if the buffer is too small, with the length needed; 4 if the length
+/// overflows; 3 for a value that is neither bytes nor NULL.
 #[tactic(auto, using(crate::proofs::WrittenRows::text_rows))]
 #[unsafe(no_mangle)]
 pub extern "C" fn myp_write_text_row(
@@ -226,8 +227,8 @@ pub extern "C" fn myp_write_text_row(
     put_packet(&row, out, written)
 }
 
-/// Writes `ProtocolBinary::ResultsetRow`: 0; 5, and how many bytes it takes; 4; or 3 of a value that is none or that its
-/// column's type can't spell, or where there is not a value for each column.
+/// Writes `ProtocolBinary::ResultsetRow`. Errors: 5 if the buffer is too small, with the length needed; 4 if the length
+/// overflows; 3 for a value that is invalid or doesn't fit its column's type, or if there isn't a value for each column.
 #[unsafe(no_mangle)]
 pub extern "C" fn myp_write_binary_row(
     columns: &[CColumnType],

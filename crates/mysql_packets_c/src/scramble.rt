@@ -1,23 +1,25 @@
-//! What `mysql_native_password` answers to a scramble.
+//! The responses of authentication plugins to a nonce.
 #![tactic(auto, using(crate::proofs::Mixed::mixing))]
 
-ghost use Rattle.std.specs.Prelude.{◌≡◌, [], ◌++◌};
+ghost use Rattle.std.specs.Prelude.{◌≡◌, [], ◌++◌, length};
 ghost use Rattle.sha1.specs.Sha1.{sha1};
+ghost use Rattle.sha2.specs.Sha256.{sha256};
 ghost use Rattle.mysql_packets_c.specs.Output.{Puts};
 ghost use Rattle.mysql_packets_c.specs.Scramble as spec;
 
 use crate::output::put;
 use sha1::Sha1;
+use sha2::{Digest, Sha256};
 
-/// The bytes of both, each pair as one.
-fn mix(first: [u8; 20], second: [u8; 20]) -> [u8; 20]
-    ensures { result ≡ spec.mixed first second }
+/// Mixes bytes with as many others, each pair as one.
+fn mix(first: &[u8], second: &[u8], out: &mut [u8])
+    requires len { length second.now ≡ length first.now }
+    requires first { out.old ≡ first.now }
+    ensures { out.new ≡ spec.mixed first.now second.now }
 {
-    let mut bytes = first;
-    for place in 0..20 {
-        bytes[place] = first[place] ^ second[place];
+    for place in 0..first.len() {
+        out[place] = first[place] ^ second[place];
     }
-    bytes
 }
 
 /// The digest of the nonce and of what a server keeps of the password.
@@ -30,8 +32,8 @@ fn challenged(nonce: &[u8], once: &[u8; 20]) -> [u8; 20]
     hasher.finalize()
 }
 
-/// Writes what `mysql_native_password` answers, of 20 bytes, or of none for an empty password: 0; or 5, and how many bytes it
-/// takes.
+/// Writes the response of `mysql_native_password`: 20 bytes, or none for an empty password. If the buffer is too small (5),
+/// `written` is the length needed.
 #[unsafe(no_mangle)]
 pub extern "C" fn myp_scramble_native(
     password: &[u8],
@@ -45,6 +47,38 @@ pub extern "C" fn myp_scramble_native(
         return put(&[], out, written);
     }
     let once = Sha1::digest(password);
-    let answer = mix(once, challenged(nonce, &once));
+    let mut answer = once;
+    mix(&once, &challenged(nonce, &once), &mut answer);
+    put(&answer, out, written)
+}
+
+/// The digest of what a server keeps of the password, and of the nonce.
+fn challenged_sha2(nonce: &[u8], once: &[u8; 32]) -> [u8; 32]
+    ensures { result ≡ sha256 (sha256 once.now ++ nonce.now) }
+{
+    let twice = Sha256::digest(once);
+    let mut hasher = Sha256::new();
+    hasher.update(&twice);
+    hasher.update(nonce);
+    hasher.finalize()
+}
+
+/// Writes the response of `caching_sha2_password`: 32 bytes, or none for an empty password. If the buffer is too small (5),
+/// `written` is the length needed.
+#[unsafe(no_mangle)]
+pub extern "C" fn myp_scramble_sha2(
+    password: &[u8],
+    nonce: &[u8],
+    out: &mut [u8],
+    written: &mut usize,
+) -> u32
+    ensures value { Puts (spec.sha2_answer password.now nonce.now) result out.old out.new written.new }
+{
+    if password.is_empty() {
+        return put(&[], out, written);
+    }
+    let once = Sha256::digest(password);
+    let mut answer = once;
+    mix(&once, &challenged_sha2(nonce, &once), &mut answer);
     put(&answer, out, written)
 }

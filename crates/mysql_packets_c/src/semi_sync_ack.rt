@@ -62,7 +62,7 @@ impl<'de> MyDeserialize<'de> for SemiSyncAckRef<'de> {
     ghost size_is = { λ _. size-semi_sync_ack };
 }
 
-/// Reads the acknowledgement of semi-synchronous replication: 0; or 1 or 2, and the struct is as it was.
+/// Reads the acknowledgement of semi-synchronous replication. After an error (1 or 2) the struct is unchanged.
 #[unsafe(no_mangle)]
 pub extern "C" fn myp_read_semi_sync_ack<'a>(
     alloc: Global,
@@ -81,7 +81,7 @@ pub extern "C" fn myp_read_semi_sync_ack<'a>(
     }
 }
 
-/// Writes the acknowledgement of semi-synchronous replication: 0; 5, and how many bytes it takes.
+/// Writes the acknowledgement of semi-synchronous replication. If the buffer is too small (5), `written` is the length needed.
 #[tactic(auto, using(crate::proofs::Codes::codes), unfolding(mysql_repl::specs::SemiSyncAck::semi_sync_ack, mysql_wire::specs::Writing::le_bytes))]
 #[unsafe(no_mangle)]
 pub extern "C" fn myp_write_semi_sync_ack(

@@ -20,7 +20,7 @@ pub struct CServerVersion {
     pub patch: u16,
 }
 
-/// A handshake with this version, and with nothing else.
+/// A handshake with this version, and nothing else.
 fn handshake_with<'a>(text: &'a [u8]) -> HandshakePacket<'a>
     ensures value { server_version result ≡ text.now }
 {
@@ -48,7 +48,7 @@ fn put_version(found: (u16, u16, u16), out: &mut CServerVersion)
     out.patch = patch;
 }
 
-/// The version that a server's version text begins with: 0; or 2 where it begins with none, and the struct is as it was.
+/// Parses the version at the start of a server's version text. If there is none (2), the struct is unchanged.
 #[unsafe(no_mangle)]
 pub extern "C" fn myp_read_server_version(text: &[u8], out: &mut CServerVersion) -> u32
     ensures value { VersionInto (HasVersion text.now) result out.old out.new }
@@ -63,7 +63,7 @@ pub extern "C" fn myp_read_server_version(text: &[u8], out: &mut CServerVersion)
     }
 }
 
-/// The version of MariaDB in a server's version text: 0; or 2 where there is none, and the struct is as it was.
+/// Parses MariaDB's version in a server's version text. If there is none (2), the struct is unchanged.
 #[unsafe(no_mangle)]
 pub extern "C" fn myp_read_mariadb_version(text: &[u8], out: &mut CServerVersion) -> u32
     ensures value { VersionInto (IsMariadbVersion text.now) result out.old out.new }

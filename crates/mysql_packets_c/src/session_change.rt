@@ -70,12 +70,11 @@ fn next_entry<'a>(
 {
     let mut buf = ParseBuf::new(alloc, bytes);
     let info: SessionStateInfoRef<'a> = buf.parse(())?;
-    let change = info.decode_as_sent()?;
+    let change = info.decode_wire()?;
     Ok((info, change, buf.eat_all()))
 }
 
-/// Takes the next change off the front: 0, and what follows it is left; 7 where nothing is left; or 1 or 2. But for 0 both
-/// places are as they were.
+/// Takes the next change off the front; 7 if nothing is left. After another code than 0 both places are unchanged.
 #[unsafe(no_mangle)]
 pub extern "C" fn myp_next_change<'a>(
     alloc: Global,
@@ -114,8 +113,7 @@ fn next_pair<'a>(alloc: Global, bytes: &'a [u8]) -> Result<(SystemVariableRef<'a
     Ok((variable, buf.eat_all()))
 }
 
-/// Takes the next variable off the front: 0, and what follows it is left; 7 where nothing is left; or 1 or 2. But for 0 the
-/// places are as they were.
+/// Takes the next variable off the front; 7 if nothing is left. After another code than 0 the places are unchanged.
 #[unsafe(no_mangle)]
 pub extern "C" fn myp_next_variable<'a>(
     alloc: Global,
@@ -140,8 +138,8 @@ pub extern "C" fn myp_next_variable<'a>(
     }
 }
 
-/// Writes one change of the session, a byte with its type and the data, length-encoded: 0; 5, and how many bytes it takes; or 3 of a
-/// type that is none.
+/// Writes one change of the session: a byte with its type, and the data, length-encoded. Errors: 5 if the buffer is too small,
+/// with the length needed; 3 for an unknown type.
 #[unsafe(no_mangle)]
 pub extern "C" fn myp_write_change(
     change_type: u8,

@@ -58,7 +58,7 @@ impl MySerialize for UuidText {
     }
 }
 
-/// What stands between the words.
+/// The separator between the words.
 pub(crate) fn words(bytes: &[u8]) -> RawBytes<'_, EofBytes>
     ensures { result ≡ bytes.now }
 {
@@ -130,7 +130,7 @@ impl Parts for WordsText<'_, '_> {
     }
 }
 
-/// Whether a sid has a tag and the uuid of the one before.
+/// Whether a sid has a tag and the same uuid as the previous one.
 fn goes_on(before: &CSid<'_>, after: &CSid<'_>) -> bool
     ensures value { result ≡ text.goes_on (spec.sid_or before.now) (spec.sid_or after.now) }
 {

@@ -30,7 +30,7 @@ pub struct CSidPlaces<'a> {
     pub uuid: [u8; 16],
 }
 
-/// Takes the next interval off the front: 0; 7 where no byte is left; or 1. After another code than 0 all is as it was.
+/// Takes the next interval off the front; 7 if no byte is left. After another code than 0 all places are unchanged.
 #[unsafe(no_mangle)]
 pub extern "C" fn myp_next_interval<'a>(
     alloc: Global,
@@ -76,7 +76,7 @@ fn put_places<'a>(found: SidRef<'a>, out: &mut CSidPlaces<'a>)
     out.intervals = intervals.as_bytes();
 }
 
-/// Takes the next sid off the front: 0; 7 where no byte is left; or 1 or 2. After another code than 0 all is as it was.
+/// Takes the next sid off the front; 7 if no byte is left. After another code than 0 all places are unchanged.
 #[unsafe(no_mangle)]
 pub extern "C" fn myp_next_sid<'a>(
     alloc: Global,
@@ -115,7 +115,7 @@ pub struct CInterval {
 pub struct CSid<'a> {
     pub intervals: &'a [CInterval],
     pub uuid: [u8; 16],
-    /// The tag's bytes are the first `tag_length`: the struct stands by itself, and no text has to outlive it.
+    /// The tag is copied into its first `tag_length` bytes, so the struct doesn't depend on the text.
     pub tag: [u8; 32],
     pub tag_length: u8,
 }
@@ -147,7 +147,7 @@ fn put_optional_tag(tag: Option<&TagRef<'_>>, out: &mut CSid<'_>)
     }
 }
 
-/// Puts a sid into a struct of the caller's, but for its intervals, which are put into the first places of the caller's.
+/// Puts a sid into a struct of the caller's, except for its intervals, which are put into the first places of the caller's.
 #[tactic(auto, using(crate::proofs::SidsRead::sids_found))]
 fn put_sid(
     found: &SidText<'_>,
@@ -173,7 +173,8 @@ fn put_sid(
     OK
 }
 
-/// Reads the text of a sid, and puts its intervals into the first places: 0; 2; or 5, and how many places it takes.
+/// Parses the text of a sid, and stores its intervals in the first places. Errors: 2 for an invalid text; 5 if there are too
+/// few places, with their number.
 #[tactic(auto, using(crate::proofs::SidsRead::sids_found))]
 #[unsafe(no_mangle)]
 pub extern "C" fn myp_sid_from_text<'a>(

@@ -37,7 +37,7 @@ impl ItemForm<CInterval> for AsIntervals {
     }
 }
 
-/// The bytes of a sid's tag; none where there is no tag, or where they are none.
+/// The bytes of a sid's tag; empty if it has none, or an invalid one.
 #[tactic(auto, using(crate::proofs::WrittenSids::tag_stands))]
 pub(crate) fn tag_place<'b>(sid: &'b CSid<'_>) -> &'b [u8]
     ensures { result.now ≡ tag_bytes (spec.tag_or sid.now) }
@@ -115,7 +115,7 @@ impl ItemForm<CSid<'_>> for AsSids {
     }
 }
 
-/// The length that is written of so many bytes: 2^32 - 1 where that is less.
+/// The length that is written of `len` bytes: 2^32 - 1 where that is less.
 pub(crate) fn length_field(len: usize) -> u32
     ensures { result ≡ min len 4294967295 }
 {
@@ -126,7 +126,7 @@ pub(crate) fn length_field(len: usize) -> u32
     }
 }
 
-/// The head before so many sids.
+/// The head before `count` sids.
 #[tactic(auto, unfolding(mysql_repl::specs::SidBlock::head_for))]
 pub(crate) fn head_of(tagged: bool, count: u64) -> RawInt<LeU64>
     ensures { result.0 ≡ block.head_for tagged count }

@@ -9,15 +9,14 @@ ghost use Rattle.mysql_packets_c.specs.SidText.{Found};
 use crate::sid::CInterval;
 use mysql_repl::{IntervalTextsRef, SidTextRef};
 
-/// A sid's text in its parts, and how many intervals it has.
+/// The parts of a sid's text, and the number of its intervals.
 #[derive(Drop)]
 pub(crate) struct SidText<'a> {
     pub(crate) parts: SidTextRef<'a>,
     pub(crate) count: usize,
 }
 
-/// Puts the intervals that are read one after another into the first places, as many as there are: how many they are, or
-/// none where one is refused.
+/// Stores intervals in the first places, as many as there are, and returns their number, or `None` if one is invalid.
 #[tactic(auto, using(crate::proofs::SidsRead::sids_read))]
 pub(crate) fn put_intervals(texts: IntervalTextsRef<'_>, places: &mut [CInterval]) -> Option<usize>
     ensures len { length places.new ≡ length places.old }
@@ -40,7 +39,7 @@ pub(crate) fn put_intervals(texts: IntervalTextsRef<'_>, places: &mut [CInterval
     Some(count)
 }
 
-/// The sid that a text spells, or none.
+/// Parses a text as a sid.
 #[tactic(auto, using(crate::proofs::SidsRead::sids_in))]
 pub(crate) fn sid_in(text: &str) -> Option<SidText<'_>>
     ensures value { Found result (lib.read_sid text.now) }

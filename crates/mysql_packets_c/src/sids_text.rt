@@ -63,7 +63,7 @@ impl Parts for WordsText<'_, '_> {
     }
 }
 
-/// Whether a sid has a tag and the uuid of the one before.
+/// Whether a sid has a tag and the same uuid as the previous one.
 fn goes_on(before: &SidRef<'_>, after: &SidRef<'_>) -> bool
     ensures value { result ≡ text.goes_on before.now after.now }
 {

@@ -26,7 +26,7 @@ pub struct CSslRequest {
     pub character_set: u8,
 }
 
-/// Reads `Protocol::SSLRequest`: 0; or 1, and the struct is as it was.
+/// Reads `Protocol::SSLRequest`. After an error (1) the struct is unchanged.
 #[unsafe(no_mangle)]
 pub extern "C" fn myp_read_ssl_request(alloc: Global, packet: &[u8], out: &mut CSslRequest) -> u32
     ensures value { ReadsInto IsSslRequest ((ssl_request.form tt).reads packet.now) result out.old out.new }
@@ -43,7 +43,7 @@ pub extern "C" fn myp_read_ssl_request(alloc: Global, packet: &[u8], out: &mut C
     }
 }
 
-/// Writes `Protocol::SSLRequest`, of 32 bytes: 0; 5, and how many bytes it takes.
+/// Writes `Protocol::SSLRequest`, of 32 bytes. If the buffer is too small (5), `written` is the length needed.
 #[tactic(auto, using(crate::proofs::Codes::codes), unfolding(mysql_auth::specs::SslRequest::ssl_request, mysql_wire::specs::Writing::le_bytes))]
 #[unsafe(no_mangle)]
 pub extern "C" fn myp_write_ssl_request(

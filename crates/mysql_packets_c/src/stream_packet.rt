@@ -1,4 +1,4 @@
-//! A packet of the stream that a dump is answered with.
+//! Packets of the stream that answers a dump.
 #![tactic(auto, using(crate::proofs::Codes::codes))]
 
 ghost use Rattle.std.specs.Prelude.{false, ◌≡◌, ◌≢◌, [], None, Some};
@@ -91,7 +91,7 @@ fn read_semi_sync<'s>(
     Ok(Some(buf.parse(())?))
 }
 
-/// Where the bytes of a packet lie.
+/// The position of a packet's bytes.
 #[derive(Drop)]
 enum StreamPlaces<'a> {
     /// An event, after the header of semi-synchronous replication, where that is agreed on.
@@ -147,7 +147,7 @@ impl<'de> MyDeserialize<'de> for StreamPacketRef<'de> {
     ghost size_is = { stream.size-stream_packet };
 }
 
-/// 1 where the lowest bit of the flags asks for an acknowledgement, else 0.
+/// 1 if the lowest bit of the flags asks for an acknowledgement, otherwise 0.
 fn wanted(header: Option<SemiSyncFlags>) -> u8
     ensures value { result ≡ spec.wanted header }
 {
@@ -171,7 +171,7 @@ fn put_places<'a>(found: StreamPacketRef<'a>, out: &mut CStreamPacket<'a>)
     out.wants_ack = wants_ack;
 }
 
-/// Reads a packet of the stream that a dump is answered with: 0; or 1 or 2, and the struct is as it was.
+/// Reads a packet of the stream that answers a dump. After an error (1 or 2) the struct is unchanged.
 #[unsafe(no_mangle)]
 pub extern "C" fn myp_read_stream_packet<'a>(
     alloc: Global,
@@ -215,7 +215,8 @@ fn packet_of<'a>(is_semi_sync: bool, fields: &CStreamPacket<'a>) -> Option<Binlo
     }
 }
 
-/// Writes a packet of the stream that a dump is answered with: 0; 5, and how many bytes it takes; 4; or 3 of fields that are of none.
+/// Writes a packet of the stream that answers a dump. Errors: 5 if the buffer is too small, with the length needed; 4 if the
+/// length overflows; 3 for fields that no packet has.
 #[unsafe(no_mangle)]
 pub extern "C" fn myp_write_stream_packet(
     packet: &CStreamPacket<'_>,

@@ -5,15 +5,15 @@ ghost use Rattle.mysql_packets_c.specs.Supported as spec;
 
 use mysql_wire::{CapabilityFlags, MariadbCapabilities};
 
-/// The flags that both sides may agree on.
+/// The flags that both sides may agree on: all but compression.
 #[unsafe(no_mangle)]
 pub extern "C" fn myp_supported_capabilities() -> u32
     ensures value { result ≡ spec.supported }
 {
-    0x73ff_ffdf
+    0x7bff_ffdf
 }
 
-/// The same of MariaDB's own.
+/// MariaDB's own flags that both sides may agree on: all but `COM_MULTI`.
 #[unsafe(no_mangle)]
 pub extern "C" fn myp_supported_mariadb_capabilities() -> u32
     ensures value { result ≡ spec.supported_of_mariadb }

@@ -63,7 +63,7 @@ impl<'de> MyDeserialize<'de> for TableDumpRef<'de> {
     ghost size_is = { λ _. size-table_dump };
 }
 
-/// Reads `COM_TABLE_DUMP`: 0; or 1 or 2, and the struct is as it was.
+/// Reads `COM_TABLE_DUMP`. After an error (1 or 2) the struct is unchanged.
 #[unsafe(no_mangle)]
 pub extern "C" fn myp_read_table_dump<'a>(
     alloc: Global,
@@ -83,7 +83,8 @@ pub extern "C" fn myp_read_table_dump<'a>(
     }
 }
 
-/// Writes `COM_TABLE_DUMP`: 0; 5, and how many bytes it takes; or 4. Of a longer name the first 255 bytes are written.
+/// Writes `COM_TABLE_DUMP`. Errors: 5 if the buffer is too small, with the length needed; 4 if the length overflows. Of a
+/// longer name the first 255 bytes are written.
 #[unsafe(no_mangle)]
 pub extern "C" fn myp_write_table_dump(
     dump: &CTableDump<'_>,

@@ -1,4 +1,4 @@
-//! The request for a binary log, with the sids that a text spells: they are written as they are read.
+//! Requests for a binary log with the sids in a text, which are written as they are parsed.
 #![tactic(auto, using(mysql_wire::proofs::Packets::packets, crate::proofs::TextDumps::parts))]
 
 ghost use Rattle.std.specs.List.{list_any};
@@ -29,7 +29,7 @@ pub(crate) struct Layout {
     some: bool,
     /// Whether some sid has a tag.
     tagged: bool,
-    /// How many sids there are, but for multiples of 2^64: a head has fewer bits of the count.
+    /// The number of sids, modulo 2^64: a head has fewer bits for it.
     count: u64,
 }
 
@@ -50,7 +50,7 @@ impl Layout {
     }
 }
 
-/// How the sids of a text are written; none of a text that is refused.
+/// The encoded sids of a text, or `None` if it is invalid.
 #[tactic(auto, using(crate::proofs::TextLayouts::layouts))]
 pub(crate) fn layout_of(text: &str) -> Option<Layout>
     ensures value { MatchOption result (list_any spec.is_refused (text_entries text.now) ≡ true) (λ l. IsLayout l (text_entries text.now)) }
@@ -87,7 +87,7 @@ impl ItemForm<u8> for InLowerCase {
     }
 }
 
-/// The text of a tag, or none where there is no tag.
+/// The text of a tag, or an empty one if there is no tag.
 fn tag_text<'a>(tag: &Option<TagText<'a>>) -> &'a str
     ensures value { result.now ≡ tag_bytes tag.now }
 {
@@ -97,7 +97,7 @@ fn tag_text<'a>(tag: &Option<TagText<'a>>) -> &'a str
     }
 }
 
-/// A tag in lower case after its length, which is 0 where there is none.
+/// A tag in lower case after its length, which is 0 if there is none.
 #[derive(Drop)]
 struct WrittenTag<'b, 'a>(&'b Option<TagText<'a>>);
 
@@ -119,7 +119,7 @@ impl Parts for WrittenTag<'_, '_> {
     }
 }
 
-/// What stands before the intervals of a sid, in the form with tags or in the other.
+/// The fields before the intervals of a sid, in the form with or without tags.
 #[derive(Drop)]
 struct WrittenHead<'b, 'a> {
     tagged: bool,
@@ -143,7 +143,7 @@ impl Parts for WrittenHead<'_, '_> {
     }
 }
 
-/// What is written of what comes next.
+/// The encoding of an item.
 #[derive(Drop)]
 struct WrittenEntry<'b, 'a> {
     tagged: bool,

@@ -107,7 +107,7 @@ pub(crate) fn put_date_with_offset(place: &mut CValue<'_>, date: DateTimeWithOff
     place.number = i64::from(date.offset_minutes).cast_unsigned();
 }
 
-/// The value that C handed in. `None` where it is none: its kind is none, or its number doesn't fit its kind.
+/// Converts the caller's value. `None` if it is invalid: its kind is unknown, or its number doesn't fit its kind.
 #[inline(always)]
 pub(crate) fn to_ref<'a>(value: &CValue<'a>) -> Option<ValueRef<'a>>
     ensures value { IfSome result (λ v. ref_content v ≡ value_content value.now) }
@@ -179,7 +179,8 @@ pub(crate) fn is_offset_date(value: &CValue<'_>) -> bool
     value.kind == 8 && value.days < 1 << 16 && is_offset(value.number)
 }
 
-/// The date with an offset that C handed in. `None` where it is none: its kind is another, or its year or its offset doesn't fit 16 bits.
+/// Converts the caller's date with an offset. `None` if it is invalid: its kind is another one, or its year or its offset
+/// doesn't fit in 16 bits.
 pub(crate) fn to_date_with_offset(value: &CValue<'_>) -> Option<DateTimeWithOffset>
     ensures value { IfSome result (λ date. date ≡ date_with_offset_of value.now) }
     ensures is_there { is_some result ≡ is_offset_date value.now }

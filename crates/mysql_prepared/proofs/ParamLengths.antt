@@ -29,7 +29,7 @@ length-values [] = refl
 length-values (v ∷ values) =
     omega (arith, length-append (bin (content_of v)) (data_bytes false values), length-bin (content_of v), length-values values, sum_by-cons size_of v values)
 
--- but for byte strings no value is longer than a time
+-- except for byte strings no value is longer than a time
 pub short_small : (value : Content) → length (short value) ≤ 13
 unfolding le_bytes
 short_small NULL = omega arith

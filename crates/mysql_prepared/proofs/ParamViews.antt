@@ -213,7 +213,7 @@ pub attributes-here : (nulls : List ℕ) (place : ℕ) (ps : List BoundParam) (t
 attributes-here nulls place [] ts bytes e = let here : place + 0 ≡ place = omega arith in rw here refl
 attributes-here nulls place (p ∷ ps) ts bytes e = absurd (omega (arith, e))
 
--- the same for a statement of so many parameters
+-- the same for a statement of a given number of parameters
 pub read-counted : (c : CapabilityFlags) (flags : ℕ) (params : List BoundParam) (bytes : List ℕ) (count : ℕ) → length params ≡ count → (f : BindFront) (after : List ℕ)
     → (execution_front c flags count).reads bytes ≡ Ok (f, after) → execution_of (left_of (bytes_after count f after) params) ≡ (execution c flags params).reads bytes
 read-counted c flags params bytes count len f after =
@@ -239,7 +239,7 @@ pub tail-given : (old new : ParamsBytes) (bound : BoundParam) (others : List Bou
 tail-given old new bound others x g =
     tail-first old.nulls old.place (in_force old.sends_types (bound ∷ others) old.types) old.values new.values (left_of new others).tails g.tails
 
--- so many others
+-- a given number of others
 pub others-of : (b : BoundParam) (left : ℕ) → left ≢ 0 → (others : List BoundParam) × (length (b ∷ others) ≡ left)
 others-of b zero some = absurd (some refl)
 others-of b (suc n) some = (replicate n b, ap suc (length-replicate n b))

@@ -10,7 +10,7 @@ module _ (tail bytes : List ℕ) (is : IsTail tail bytes) where
   pub tail-fits : length tail ≤ length bytes
   tail-fits = omega (arith, long)
 
-  -- so many bytes, and then the tail
+  -- a given number of bytes, and then the tail
   pub front-of : (n : ℕ) → n + length tail ≡ length bytes → bytes ≡ take n bytes ++ tail
   front-of n count =
       let same : n ≡ length is.front = omega (arith, count, long) in

@@ -115,7 +115,7 @@ then-alike : {A B : Type 0} (r : Reading A) (n m : A → List ℕ → Reading B)
 then-alike (Ok x) n m h = h x.0 x.1
 then-alike (Err e) n m h = refl
 
--- one value of a form for each column is so many values of the form
+-- one value of a form for each column is a given number of values of the form
 each-counted : {A C : Type 0} (f : Form A) (place : ℕ) (cs : List C) (bytes : List ℕ) → (each (λ place column. f) place cs).reads bytes ≡ (counted (length cs) f).reads bytes
 unfolding each counted
 each-counted f place [] bytes = refl

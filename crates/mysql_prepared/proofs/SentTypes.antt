@@ -161,7 +161,7 @@ pub ruleset places = (are-there, has-them, passing-fails, how-many)
 
 -- ---- parameters that are given their types one after another
 
--- of so many parameters these have their types, and the others are as they were
+-- of a given number of parameters these have their types, and the others are as they were
 pub record Typed (init : List BoundParam) (start : List NamedType) (now : List BoundParam) (i : ℕ) (ts : List NamedType) : Type 0 where
   pub done : List BoundParam
   pub count : length done ≡ i

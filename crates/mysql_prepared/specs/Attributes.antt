@@ -52,7 +52,7 @@ abbrev pub attributes_left : (nulls : List ℕ) → ℕ → List NamedType → L
 attributes_left nulls place types bytes =
     record { left = length types; all = (values nulls place types).reads bytes; rest = bytes; nulls = nulls; place = place }
 
--- the bitmap has a bit for each of so many, and they are as many as a machine counts
+-- the bitmap has a bit for each of this many, and they are as many as a machine counts
 pub record HasMarks (nulls : List ℕ) (place left : ℕ) : Type 0 where
   pub there : place + left ≤ 8 * length nulls
   pub counted : place + left < 2 ^ 64

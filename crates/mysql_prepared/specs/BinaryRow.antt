@@ -7,7 +7,7 @@ use Rattle.mysql_values.specs.ParamValue.{Plain, WithOffset}
 use Rattle.mysql_values.specs.Value.{Content, Int, UInt, bin}
 use Rattle.mysql_values.specs.declared.value_kind.ValueKind.{ValueKind}
 use Rattle.mysql_values.specs.declared.value_kind.ValueKind.TheVariants as kind
-use Rattle.mysql_values.specs.ValueKind.{kind_of, is_longlong, suits}
+use Rattle.mysql_values.specs.ValueKind.{kind_of, is_longlong, matches_type}
 use Rattle.mysql_prepared.specs.Bitmap.{bytes_for}
 use Rattle.mysql_prepared.specs.ExecuteParam.{Param, Sent, SentAhead, AsSent, value_of}
 use Rattle.mysql_prepared.specs.NullMarks.{MarksNulls}
@@ -34,7 +34,7 @@ takes_integer _ u n = false
 abbrev pub takes : ColumnType → (is_unsigned : Bool) → Content → Bool
 takes t u (Int n) = takes_integer (kind_of t) u n
 takes t u (UInt n) = is_longlong (kind_of t) && u
-takes t u value = suits (kind_of t) value
+takes t u value = matches_type (kind_of t) value
 
 -- the same of what is a parameter too: a row has no place for an offset, nor for what was read of an execution
 abbrev pub takes_param : ColumnType → (is_unsigned : Bool) → Param → Bool

@@ -38,7 +38,7 @@ abbrev pub AreSent : (sends_types : Bool) → ℕ → List NamedType → Type 0
 AreSent true count types = length types ≡ count
 AreSent false count types = types ≡ []
 
--- a front of so many has a bit for each, and where types are sent, a type for each
+-- a front of this many has a bit for each, and where types are sent, a type for each
 pub record HasFront (count : ℕ) (f : BindFront) : Type 0 where
   pub marks : HasMarks f.nulls 0 count
   pub sent : AreSent f.sends_types count f.types

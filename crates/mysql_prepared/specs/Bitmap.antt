@@ -18,6 +18,6 @@ is_owned (slice.Owned v) = true
 abbrev pub cell : List ℕ → ℕ → ℕ
 cell bytes place = bit_at (le_value bytes) place
 
--- how many bytes hold so many bits, of which the first ones stand for nothing
+-- how many bytes hold a given number of bits, of which the first ones stand for nothing
 abbrev pub bytes_for : ℕ → ℕ → ℕ
 bytes_for offset count = (count + 7 + offset) / 8

@@ -47,5 +47,5 @@ query_bytes attribute attribute_type q =
 
 -- why attributes are refused: the type of one does not spell its value, and it is the first
 abbrev pub RefusesAttribute : List TypedParam → TypedExecutionError → Type 0
-RefusesAttribute attributes (refusal.UnspelledAttribute place) = first_unspelled attributes ≡ Some place
+RefusesAttribute attributes (refusal.AttributeTypeMismatch place) = first_unspelled attributes ≡ Some place
 RefusesAttribute attributes _ = ⊥

@@ -16,7 +16,7 @@ types_bytes values = flat_map (λ v. param_type.bytes (type_of (content_of v))) 
 
 -- ---- which values are sent
 
--- the bytes of a value, but for a byte string
+-- the bytes of a value, except for a byte string
 abbrev pub short : Content → List ℕ
 short (Bytes bytes) = []
 short value = bin value

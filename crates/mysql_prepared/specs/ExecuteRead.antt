@@ -142,7 +142,7 @@ pub record ParamsBytes : Type 0 where
 abbrev pub left_of : ParamsBytes → List BoundParam → ParamsLeft
 left_of b params = params_left b.sends_types b.left b.nulls b.place params b.types b.values
 
--- what stands after the front, of so many parameters
+-- what stands after the front, of a given number of parameters
 abbrev pub bytes_after : ℕ → BindFront → List ℕ → ParamsBytes
 bytes_after params f after = record { sends_types = f.sends_types; left = params; nulls = f.nulls; place = 0; types = f.types; values = after }
 
@@ -259,6 +259,6 @@ abbrev pub param_read : Result ExecuteParam FaultOf → Result Param FaultOf
 param_read (Ok p) = Ok (param_of p)
 param_read (Err e) = Err e
 
--- a front of so many parameters has a bit for each and for each type; where types are sent, there is one for each parameter
+-- a front of a given number of parameters has a bit for each and for each type; where types are sent, there is one for each parameter
 abbrev pub HasFrontOf : ℕ → BindFront → Type 0
 HasFrontOf params f = (count : ℕ) × (params ≤ count) × HasFront count f

@@ -80,8 +80,8 @@ module _ (execution : (as_long_data : Bool) → Execution) where
 
   -- why the execution is refused: the first value that its type does not spell, those of parameters first; or memory
   abbrev pub Refuses : TypedExecutionError → Type 0
-  Refuses (refusal.UnspelledValue place) = first_unspelled (execution false).params ≡ Some place
-  Refuses (refusal.UnspelledAttribute place) = (first_unspelled (execution false).params ≡ None) × (first_unspelled (listed_params (execution false)) ≡ Some place)
+  Refuses (refusal.TypeMismatch place) = first_unspelled (execution false).params ≡ Some place
+  Refuses (refusal.AttributeTypeMismatch place) = (first_unspelled (execution false).params ≡ None) × (first_unspelled (listed_params (execution false)) ≡ Some place)
   Refuses refusal.Memory = IsSpelled
 
 -- ---- what a request holds

@@ -24,7 +24,7 @@ missing {A} = record {
 abbrev pub borrowed : List ℕ → Bitmap
 borrowed bytes = record { bytes = bytes; owned = false }
 
--- the bytes that hold so many bits; a count past the machine's numbers has no bytes
+-- the bytes that hold a given number of bits; a count past the machine's numbers has no bytes
 unfoldable pub null_bitmap : ℕ → ℕ → Form Bitmap
 null_bitmap offset count = either (nat_lt (count + 7 + offset) (2 ^ 64)) (map borrowed (bare (bytes_for offset count))) missing
 

@@ -34,7 +34,7 @@ first_four bits = get_or bits 0 0 + 2 * get_or bits 1 0 + 4 * get_or bits 2 0 + 
 abbrev pub first_eight : List ℕ → ℕ
 first_eight bits = first_four bits + 16 * first_four (drop 4 bits)
 
--- so many bytes of bits
+-- a given number of bytes of bits
 abbrev pub packed : ℕ → List ℕ → List ℕ
 packed zero bits = []
 packed (suc n) bits = first_eight bits ∷ packed n (drop 8 bits)

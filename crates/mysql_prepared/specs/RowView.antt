@@ -38,7 +38,7 @@ module _ {C : Type 0} (type_of : C → ColumnType) (unsigned : C → Bool) where
     nulls ← null_bitmap offset (length columns)
     each (λ place column. there (ref_cell nulls.bytes offset place column)) 0 columns
 
--- ProtocolText::ResultsetRow: so many text values
+-- ProtocolText::ResultsetRow: a given number of text values
 abbrev pub text_row_of : ℕ → Form (List (Option Content))
 text_row_of columns = counted columns (there text_value)
 

@@ -24,11 +24,11 @@ sent_type has_names = do
   name ← either has_names lenenc_string (give [])
   give (record { param_type = param_type; name = name })
 
--- so many of them
+-- a given number of them
 abbrev pub types : (has_names : Bool) → ℕ → Form (List NamedType)
 types has_names count = counted count (sent_type has_names)
 
--- so many, of which it is asked alone whether they are there
+-- this many, of which it is asked alone whether they are there
 abbrev pub passed_types : (has_names : Bool) → ℕ → Form (Unit {0})
 passed_types has_names count = map (λ ts. tt) (types has_names count)
 
@@ -45,11 +45,11 @@ abbrev pub types_read : Reading (List NamedType) → List NamedType
 types_read (Ok x) = x.0
 types_read (Err e) = []
 
--- so many types, off the front of the bytes
+-- a given number of types, off the front of the bytes
 abbrev pub types_in : (has_names : Bool) → ℕ → List ℕ → List NamedType
 types_in has_names count bytes = types_read ((types has_names count).reads bytes)
 
--- so many types are there
+-- a given number of types are there
 abbrev pub HasTypes : (has_names : Bool) → ℕ → List ℕ → Type 0
 HasTypes has_names count bytes = (ts : List NamedType) × (rest : List ℕ) × ((types has_names count).reads bytes ≡ Ok (ts, rest))
 

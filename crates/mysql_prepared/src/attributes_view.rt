@@ -1,4 +1,4 @@
-//! The attributes of a query or an execution, where they lie.
+//! Borrowed attributes of a query or an execution.
 #![tactic(auto, using(mysql_wire::proofs::Packets::packets))]
 
 ghost use Rattle.std.specs.Prelude.{false, ◌≡◌, ◌<◌, ◌≤◌, ◌*◌, ◌+◌, ◌++◌, [], ⊤, Ok, length, IsTrue, ◌↔◌};
@@ -44,7 +44,7 @@ pub(crate) fn read_value<'s, 'de>(
     read_param_value(param_type, buf)
 }
 
-/// The bytes between the front of a buffer and what is left of it.
+/// Returns the bytes between the front of a buffer and its rest.
 #[inline(always)]
 pub(crate) fn bytes_before<'de>(buf: &ParseBuf<'de>, rest: &ParseBuf<'_>) -> &'de [u8]
     requires { IsTail rest.now buf.now }
@@ -55,8 +55,16 @@ pub(crate) fn bytes_before<'de>(buf: &ParseBuf<'de>, rest: &ParseBuf<'_>) -> &'d
 
 /// The attributes of a query or an execution, one by one, without memory.
 ///
-/// In a clause it is how many are left, what reading all of them gives, the bytes after those that were read, the bitmap of NULLs, and
-/// the place of the next one in it.
+/// In a clause it is the number of remaining attributes, the result of reading them all, the bytes after those that were read,
+/// the bitmap of NULLs, and the next one's place in it.
+///
+/// ```
+/// let query: ComQueryRef<'_> = ParseBuf::new(alloc, payload).parse(agreed)?;
+/// Ok(match query.attributes() {
+///     Some(attributes) => attributes.view().left(),
+///     None => 0,
+/// })
+/// ```
 #[derive(Drop)]
 pub struct QueryAttributesView<'a> {
     nulls: ParseBuf<'a>,
@@ -89,7 +97,7 @@ impl Clone for QueryAttributesView<'_> {
 impl<'a> QueryAttributesView<'a> {
     ghost use Rattle.mysql_prepared.specs.ExecuteRead.{NextAttributeAsSent};
 
-    /// The attributes of these types from that place of the bitmap on, whose values stand in these bytes.
+    /// Creates a view of attributes of these types from a place of the bitmap on, whose values are these bytes.
     #[inline]
     pub(crate) fn of(
         nulls: ParseBuf<'a>,
@@ -108,8 +116,8 @@ impl<'a> QueryAttributesView<'a> {
         }
     }
 
-    /// Reads what stands before the values of so many attributes of a query: the bitmap of NULLs, a byte that is not 0, and the types
-    /// with the names.
+    /// Reads the fields before the values of a query's `count` attributes: the bitmap of NULLs, a byte that is not 0, and the
+    /// types with the names.
     ///
     /// Missing bytes are `UnexpectedEof`; a byte 0 and a type that is none are `InvalidData`.
     pub fn read<'s>(count: usize, buf: ParseBuf<'a>) -> Result<Self, FaultOf<'s>>
@@ -120,7 +128,7 @@ impl<'a> QueryAttributesView<'a> {
         Ok(QueryAttributesView::of(front.nulls, 0, front.types, rest))
     }
 
-    /// The same attributes once more.
+    /// Copies the view, with the attributes that are left.
     #[inline]
     pub fn again(&self) -> Self
         ensures value { result ≡ self.now }
@@ -133,7 +141,7 @@ impl<'a> QueryAttributesView<'a> {
         }
     }
 
-    /// How many are left.
+    /// The number of remaining attributes.
     #[inline]
     pub fn left(&self) -> usize
         ensures value { result ≡ self.now.left }
@@ -150,9 +158,9 @@ impl<'a> QueryAttributesView<'a> {
         self.values.rest()
     }
 
-    /// The next attribute, or none after the last. After a refusal the view is as it was.
+    /// The next attribute, or none after the last. After an error the view is unchanged.
     ///
-    /// The attributes of a query that was read are good, and none of them is refused.
+    /// The attributes of a query were checked when it was read, so none of them fails.
     #[inline]
     pub fn next_attribute<'s>(&mut self) -> Result<Option<QueryAttribute<'a>>, FaultOf<'s>>
         ensures value { spec.NextAttribute self.old result self.new }
@@ -175,10 +183,10 @@ impl<'a> QueryAttributesView<'a> {
         }))
     }
 
-    /// The next attribute as it was sent, or none after the last: what [`next_attribute`](Self::next_attribute) reads, with its bit in the
-    /// bitmap of NULLs and the bytes of its value. After a refusal, which is the same, the view is as it was.
+    /// Returns the next attribute as it was sent, or `None` after the last: like [`next_attribute`](Self::next_attribute), with
+    /// its bit in the bitmap of NULLs and the bytes of its value. The errors are the same, and leave the view unchanged.
     ///
-    /// A [`ComQuery`](crate::ComQuery) or an execution with these attributes is written as it was read.
+    /// A [`ComQuery`](crate::ComQuery) or an execution with these attributes is written byte for byte as it was read.
     #[inline]
     pub fn next_as_sent<'s>(&mut self) -> Result<Option<TypedExecuteParam<'a>>, FaultOf<'s>>
         ensures value { NextAttributeAsSent self.old result self.new }

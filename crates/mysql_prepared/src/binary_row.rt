@@ -19,20 +19,24 @@ use mysql_wire::{Buffer, ColumnType, IntRepr, LeU64, MySerialize};
 use thiserror::Error;
 
 /// Why a binary row is not written.
+///
+/// ```
+/// write_binary_row(columns, &[ValueRef::Int(7), ValueRef::NULL], out)
+/// ```
 #[derive(Clone, Copy, Debug, PartialEq, Eq, Error)]
 pub enum BinaryRowError {
     /// There is not a value for each column.
-    #[error("Not a value for each column")]
+    #[error("number of values differs from the number of columns")]
     Count,
     /// The column at this place does not take its value: the first one.
-    #[error("Value that its column does not take")]
+    #[error("value does not fit the type of its column")]
     Value(usize),
-    /// Memory for the row was refused.
+    /// Allocating the row failed.
     #[error("Memory")]
     Memory,
 }
 
-/// Whether an integer lies from -half to below half, or without a sign below twice the half.
+/// Whether an integer is in the range of a signed type, from -half to half - 1, or of an unsigned one, below twice the half.
 #[inline]
 fn has_width(is_unsigned: bool, half: u64, n: i64) -> bool
     requires { half ≤ 2147483648 }
@@ -76,11 +80,11 @@ pub(crate) fn takes(column_type: ColumnType, is_unsigned: bool, value: &ValueRef
         ValueRef::UInt(_) => {
             matches!(column_type, ColumnType::MYSQL_TYPE_LONGLONG) && is_unsigned
         }
-        value => ValueKind::of(column_type).suits(value),
+        value => ValueKind::of(column_type).matches_type(value),
     }
 }
 
-/// The same of what is a parameter too: a row has no place for an offset, nor for what was read of an execution.
+/// Whether a row can hold a parameter under a column's type; it has no offsets, and no values kept as raw bytes.
 #[inline(always)]
 pub(crate) fn takes_param(
     column_type: ColumnType,
@@ -111,7 +115,7 @@ fn refused_at<C: TypedColumn, V: AsExecuteParam>(columns: &[C], values: &[V]) ->
     None
 }
 
-/// How many bytes an integer takes in a column of the type.
+/// The length of an integer in a column of the type, in bytes.
 #[inline]
 fn integer_size(column_type: ColumnType) -> usize
     ensures { result ≡ spec.integer_size (kind_of column_type) }
@@ -125,7 +129,7 @@ fn integer_size(column_type: ColumnType) -> usize
     }
 }
 
-/// How many bytes a value takes in a column of the type, or `usize::MAX` where that is less.
+/// The length of a value in a column of the type in bytes, or `usize::MAX` if it is greater.
 #[inline(always)]
 #[tactic(auto, unfolding(mysql_wire::specs::Writing::saturated))]
 pub(crate) fn cell_len(column_type: ColumnType, value: &ValueRef<'_>) -> usize
@@ -137,7 +141,7 @@ pub(crate) fn cell_len(column_type: ColumnType, value: &ValueRef<'_>) -> usize
     }
 }
 
-/// The same of all values of a row.
+/// The length of all values of a row.
 fn values_len<C: TypedColumn, V: AsExecuteParam>(columns: &[C], values: &[V]) -> usize
     requires { length columns.now ≡ length values.now }
     ensures { result ≡ saturated (length (spec.values_bytes C.type_of C.unsigned columns.now (contents V.param values.now))) }
@@ -264,9 +268,13 @@ fn put_row<C: TypedColumn, V: AsExecuteParam>(columns: &[C], values: &[V], out: 
 /// | `TIME` | `Time` |
 /// | `VARCHAR`, `VAR_STRING`, `STRING`, the four `BLOB`s, `DECIMAL`, `NEWDECIMAL`, `ENUM`, `SET`, `BIT`, `JSON`, `VECTOR`, `GEOMETRY` | `Bytes` |
 ///
-/// What is written is read again as the same values; but a negative span of no time is read without its sign. After a refusal
-/// the buffer is as it was. `Count` comes before `Value`, which has the first place, and `Memory` comes last; it does not come
-/// where the buffer has the capacity. The capacity never shrinks.
+/// The row is read back as the same values, except that a negative time span of zero loses its sign. After an error the buffer
+/// is unchanged. `Count` is returned before `Value`, which has the first place, and `Memory` last; it isn't returned if the
+/// buffer has the capacity. The capacity never shrinks.
+///
+/// ```
+/// write_binary_row(columns, &[ValueRef::Int(7), ValueRef::NULL], out)
+/// ```
 pub fn write_binary_row<C: TypedColumn>(
     columns: &[C],
     values: &[ValueRef<'_>],
@@ -296,12 +304,12 @@ pub fn write_binary_row<C: TypedColumn>(
     Ok(())
 }
 
-/// Writes such a row of a server to the front of a slice, from values of any type that are parameters too. It takes no memory.
+/// Writes a server's row to the front of a slice, from values of any type that can be a parameter. It takes no memory.
 ///
-/// No column takes a date with an offset, nor a parameter as it was sent. One that was sent ahead is an empty string.
+/// A date with an offset, and a parameter as it was sent, fit no column. A parameter that was sent ahead is an empty string.
 ///
-/// The answer is how many bytes it takes, or `usize::MAX` where that is less. A slice that is shorter is as it was, and so is one
-/// after a refusal, which is `Count` or `Value`.
+/// Returns the length in bytes, or `usize::MAX` if it is greater. A shorter slice is unchanged, as it is after an error, which
+/// is `Count` or `Value`.
 pub fn write_binary_row_to_slice<C: TypedColumn, V: AsExecuteParam>(
     columns: &[C],
     values: &[V],

@@ -42,7 +42,7 @@ fn put_value<'s, 'de>(
     Ok(())
 }
 
-/// The same, for a type that is seldom met.
+/// Puts a value of a less frequent type into its place.
 #[inline(never)]
 fn put_seldom<'s, 'de>(
     column_type: ColumnType,
@@ -55,7 +55,7 @@ fn put_seldom<'s, 'de>(
     put_value(column_type, is_unsigned, buf, place)
 }
 
-/// The same, with a buffer of its own, so that the caller's need not stand in memory.
+/// Puts a value into its place through a buffer of its own, so that the caller's stays in registers.
 #[inline(always)]
 fn put_apart<'s, 'de>(
     column_type: ColumnType,
@@ -71,8 +71,8 @@ fn put_apart<'s, 'de>(
     Ok(())
 }
 
-/// Puts a value of one of the types that rows mostly have by code of that type alone, and any other by a call: so a place gets
-/// the fields of its own kind, and no value of all kinds is put together first. Types of one form are one.
+/// Reads the types that rows mostly have by code for that type alone, and the others by a call, so that a value is written
+/// directly to its place. Types with the same encoding share an arm.
 macro_rules! put_by_type {
     ($column_type:expr, $is_unsigned:expr, $buf:expr, $place:expr; $($often:ident $(| $alike:ident)*,)*) => {
         match $column_type {
@@ -108,8 +108,18 @@ fn put_unless<'s, 'de, C: TypedColumn>(
 /// values as [`RowDeserializer`](crate::RowDeserializer), and the same fault; [`read_rest`](Self::read_rest) puts them into
 /// places of the caller's.
 ///
-/// In a clause it is how many values are left, those of them that are good, the bytes after the last, or the kind of the fault
-/// that ends them, and the bytes after those that were read.
+/// In a clause it is the number of remaining values, those of them before the first fault, the bytes after the last value or
+/// the kind of that fault, and the bytes after those that were read.
+///
+/// ```
+/// fn binary_values_of(row: BinaryRowView<'_, '_, ServerSide, RowColumn>) -> u64 {
+///     let mut row = row;
+///     let mut count: u64 = 0;
+///     for _ in 0..row.left() {
+///         let Ok(Some(_value)) = row.next_value() else {
+///             break;
+///         };
+/// ```
 #[derive(Drop)]
 pub struct BinaryRowView<'a, 'c, S: SerializationSide, C: TypedColumn> {
     buf: ParseBuf<'a>,
@@ -131,8 +141,8 @@ impl<'a, 'c, S: SerializationSide, C: TypedColumn> Model for BinaryRowView<'a, '
 }
 
 impl<'a, 'c, S: SerializationSide, C: TypedColumn> BinaryRowView<'a, 'c, S, C> {
-    /// Reads what stands before the values: a byte with any value, and the bitmap of NULLs. Fewer bytes are `UnexpectedEof`, and no
-    /// other row is refused here: a fault of a value is `next_value`'s.
+    /// Reads the fields before the values: a byte with any value, and the bitmap of NULLs. Fewer bytes are `UnexpectedEof`;
+    /// faults of the values are returned by `next_value`.
     #[inline(always)]
     pub fn new<'s>(columns: &'c [C], buf: ParseBuf<'a>) -> Result<Self, FaultOf<'s>>
         ensures left { IfOk result (λ row. row.left ≡ length columns.now) }
@@ -154,7 +164,7 @@ impl<'a, 'c, S: SerializationSide, C: TypedColumn> BinaryRowView<'a, 'c, S, C> {
         })
     }
 
-    /// How many values are left.
+    /// The number of remaining values.
     #[inline(always)]
     pub fn left(&self) -> usize
         ensures value { result ≡ self.now.left }
@@ -172,7 +182,7 @@ impl<'a, 'c, S: SerializationSide, C: TypedColumn> BinaryRowView<'a, 'c, S, C> {
         self.buf.rest()
     }
 
-    /// The next value, or none after the last. After a refusal the row is as it was.
+    /// The next value, or none after the last. After an error the row is unchanged.
     #[inline(always)]
     pub fn next_value<'s>(&mut self) -> Result<Option<ValueRef<'a>>, FaultOf<'s>>
         ensures value { GivesOne self.old result self.new }
@@ -189,7 +199,7 @@ impl<'a, 'c, S: SerializationSide, C: TypedColumn> BinaryRowView<'a, 'c, S, C> {
         Ok(Some(value))
     }
 
-    /// Puts the next value, of which there is one, into a place. After a refusal the row and the place are as they were.
+    /// Reads the next value, which exists, into a place. After an error the row and the place are unchanged.
     #[inline(always)]
     fn put_next<'s>(&mut self, place: &mut ValueRef<'a>) -> Result<(), FaultOf<'s>>
         requires { 0 < self.old.left }
@@ -210,10 +220,10 @@ impl<'a, 'c, S: SerializationSide, C: TypedColumn> BinaryRowView<'a, 'c, S, C> {
         Ok(())
     }
 
-    /// Reads the values that are left into the first of these places, of which there is one for each at least.
+    /// Reads the remaining values into the first of these places, of which there are at least as many.
     ///
-    /// After a refusal the values before the one that is refused are good: they are as many as there are fewer
-    /// [`left`](Self::left), and the row stands before that one. The other places are as they were.
+    /// After an error the values before the faulty one are read: [`left`](Self::left) has decreased by their number, and the
+    /// row continues at the faulty one. The other places are unchanged.
     #[inline(always)]
     pub fn read_rest<'s>(&mut self, values: &mut [ValueRef<'a>]) -> Result<(), FaultOf<'s>>
         requires { self.old.left ≤ length values.old }

@@ -1,4 +1,4 @@
-//! What stands before the values of parameters and attributes: the bitmap of NULLs and the types.
+//! The fields before the values of parameters and attributes: the bitmap of NULLs and the types.
 #![tactic(auto, using(mysql_wire::proofs::Packets::packets))]
 
 ghost use Rattle.std.specs.Prelude.{false, ◌≡◌, ◌≤◌, ◌*◌, length, IfOk};
@@ -27,7 +27,7 @@ impl<'a> Model for BindFront<'a> {
     ghost view = { λ f. record { nulls = f.nulls; sends_types = f.sends_types; types = f.types } };
 }
 
-/// How many bytes have a bit for each of so many.
+/// The length of a bitmap of `count` bits in bytes.
 fn bitmap_len(count: usize) -> usize
     ensures value { result ≡ bytes_for 0 count }
 {
@@ -35,7 +35,7 @@ fn bitmap_len(count: usize) -> usize
     count / 8 + more
 }
 
-/// The bitmap, which has a bit for each of so many.
+/// The bitmap, which has a bit for each of `count`.
 #[tactic(auto, using(mysql_wire::proofs::Packets::packets), unfolding(mysql_wire::specs::Form::bytes))]
 fn read_nulls<'s, 'a>(count: usize, buf: &mut ParseBuf<'a>) -> Result<ParseBuf<'a>, FaultOf<'s>>
     ensures value { Answers false result buf.new ((bytes (bytes_for 0 count)).reads buf.old) }
@@ -44,7 +44,7 @@ fn read_nulls<'s, 'a>(count: usize, buf: &mut ParseBuf<'a>) -> Result<ParseBuf<'
     buf.parse(bitmap_len(count))
 }
 
-/// The types of so many, where they are sent: parameters alone may be without.
+/// The types of this many, where they are sent: parameters alone may be without.
 fn read_types<'s, 'a>(
     sends_types: bool,
     has_names: bool,
@@ -65,7 +65,7 @@ fn read_types<'s, 'a>(
 }
 
 impl<'a> BindFront<'a> {
-    /// Reads what stands before the values of so many parameters and attributes, of which these are parameters.
+    /// Reads the fields before the values of `count` parameters and attributes, of which `params` are parameters.
     pub(crate) fn read<'s>(
         has_names: bool,
         count: usize,

@@ -22,7 +22,7 @@ impl ConstFault for InvalidComStmtCloseHeader {
 /// The first byte of the end of a statement: `19`.
 pub type ComStmtCloseHeader = ConstU8<InvalidComStmtCloseHeader, 0x19>;
 
-/// `COM_STMT_CLOSE`: the client gives up a prepared statement. The server answers nothing.
+/// `COM_STMT_CLOSE`: deallocates a prepared statement. The server sends no answer.
 ///
 /// It takes 5 bytes, numbers little-endian:
 ///
@@ -31,7 +31,11 @@ pub type ComStmtCloseHeader = ConstU8<InvalidComStmtCloseHeader, 0x19>;
 /// | 1 | the byte `19` |
 /// | 4 | the statement's number |
 ///
-/// Fewer than 5 bytes are refused as `UnexpectedEof`, another first byte as `InvalidData`.
+/// Fewer than 5 bytes are `UnexpectedEof`, another first byte is `InvalidData`.
+///
+/// ```
+/// connection.command_packet(&ComStmtClose::new(statement.statement_id()))
+/// ```
 #[derive(Clone, Copy, Debug, PartialEq, Eq)]
 pub struct ComStmtClose {
     /// The number that the server gave the statement.

@@ -1,19 +1,19 @@
-//! What finds a column of a row.
+//! Lookup of a row's columns.
 
 ghost use Rattle.std.specs.Prelude.{◌≡◌, Some, None, length, nat_lt, if◌then◌else◌};
 ghost use Rattle.mysql_prepared.specs.Row.{place_of_name};
 
 use mysql_replies::Column;
 
-/// What finds a column: its place, its name, or what a user's own type says.
+/// A lookup of a column: by its position, by its name, or by a rule of a user's own type.
 ///
 /// It is bound by no law. A place at or past the count of the columns finds no value.
 pub trait ColumnIndex {
     ghost use Rattle.std.specs.Prelude.{ℕ, List, Option};
     ghost use Rattle.mysql_replies.specs.declared.column.Column.{Column};
 
-    /// Which answers of [`idx`](Self::idx) there may be for these columns: any, where an implementation does not say. What
-    /// [`Row::get`](crate::Row::get) and the like promise speaks of a place that is found so.
+    /// The possible results of [`idx`](Self::idx) for these columns: any, unless an implementation says more. Clauses of
+    /// [`Row::get`](crate::Row::get) and similar calls are about such a result.
     ghost Finds: { Self → List Column → Option ℕ → Type 0 } = { λ _ _ _. Unit {0} };
 
     /// The place of the column among these.
@@ -21,7 +21,7 @@ pub trait ColumnIndex {
         ensures { Finds self.now columns.now result };
 }
 
-/// The place itself, where there is such a column.
+/// The position itself, if there is such a column.
 impl ColumnIndex for usize {
     ghost Finds = { λ i columns place. place ≡ (if nat_lt i (length columns) then Some i else None) };
 

@@ -24,7 +24,7 @@ use std::borrow::CowSlice;
 /// | 1 | with attributes: how many sets of them, always 1 |
 /// | to the end | the text |
 ///
-/// Where there are attributes, there stand before the text
+/// With attributes, these fields precede the text:
 ///
 /// | Bytes | Field |
 /// |---|---|
@@ -33,7 +33,13 @@ use std::borrow::CowSlice;
 /// | 2 and a name | for each the code of its type, and 128 where it is an unsigned number, else 0; and its name, a length-encoded string |
 /// | as many as they take | the values in their binary form |
 ///
-/// Once both sides have agreed to the flag, each query is to be sent with attributes, of which there may be none.
+/// If both sides agreed on the flag, each query must be sent with attributes, possibly an empty list.
+///
+/// ```
+/// let attributes = [QueryAttribute::new(b"traceparent", ValueRef::Bytes(id))];
+/// let query = ComQuery::new(text).with_attributes(&attributes)?;
+/// Ok(query.serialize(out)?)
+/// ```
 #[derive(Clone, Debug, Drop)]
 pub struct ComQuery<'a, A = QueryAttribute<'a>> {
     attributes: Option<&'a [A]>,
@@ -52,9 +58,9 @@ impl<'a> ComQuery<'a> {
         }
     }
 
-    /// The query for a session with CLIENT_QUERY_ATTRIBUTES, with these attributes, of which there may be none. It takes no memory.
+    /// Creates a query for a session with CLIENT_QUERY_ATTRIBUTES, with these attributes, possibly none. It takes no memory.
     ///
-    /// The first attribute whose type does not spell its value is refused as `UnspelledAttribute`.
+    /// The first attribute whose value doesn't fit its type is `AttributeTypeMismatch`.
     pub fn with_attributes<A: AsExecuteParam>(
         self,
         attributes: &'a [A],
@@ -65,7 +71,7 @@ impl<'a> ComQuery<'a> {
         ensures refused { IfErr result (λ e. spec.RefusesAttribute (sent_params A.param A.named_type attributes.now) e) }
     {
         if let Some(place) = first_unspelled(attributes) {
-            return Err(TypedExecutionError::UnspelledAttribute { place });
+            return Err(TypedExecutionError::AttributeTypeMismatch { place });
         }
         Ok(ComQuery {
             attributes: Some(attributes),
@@ -92,7 +98,7 @@ impl<'a, A> ComQuery<'a, A> {
         RawBytes::new(CowSlice::Borrowed(self.text))
     }
 
-    /// How many attributes there are, where the query can have some.
+    /// The number of attributes, if the query can have some.
     #[inline(always)]
     fn count(&self) -> Option<RawInt<LenEnc>>
         ensures value { ⟦<Option<RawInt<LenEnc>> as MySerialize>⟧.bytes result ≡ spec.count_bytes (spec.attributes self.now) }
@@ -103,7 +109,7 @@ impl<'a, A> ComQuery<'a, A> {
         }
     }
 
-    /// How many sets of them, where the query can have some.
+    /// The number of sets of attributes, if the query can have some.
     #[inline(always)]
     fn sets(&self) -> Option<RawInt<u8>>
         ensures value { ⟦<Option<RawInt<u8>> as MySerialize>⟧.bytes result ≡ spec.set_bytes (spec.attributes self.now) }

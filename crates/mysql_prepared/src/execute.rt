@@ -43,6 +43,14 @@ impl ConstFault for InvalidIterationCount {
 pub type IterationCount = ConstU32<InvalidIterationCount, 1>;
 
 /// Makes the request of one execution.
+///
+/// ```
+/// let builder = ComStmtExecuteRequestBuilder::new(statement.statement_id());
+/// let (request, as_long_data) = builder.build(connection.alloc, values)?;
+/// if as_long_data {
+///     send_ahead(connection, statement, values)?;
+/// }
+/// ```
 #[derive(Clone, Debug, PartialEq, Drop)]
 pub struct ComStmtExecuteRequestBuilder {
     /// The number that the server gave the statement.
@@ -50,7 +58,7 @@ pub struct ComStmtExecuteRequestBuilder {
 }
 
 impl ComStmtExecuteRequestBuilder {
-    /// How many bytes of a request stand before its bitmap.
+    /// The length of the fields before a request's bitmap in bytes.
     pub const NULL_BITMAP_OFFSET: usize = 10;
 
     /// A builder for the statement of that number.
@@ -62,9 +70,9 @@ impl ComStmtExecuteRequestBuilder {
 
     /// The request that executes the statement with these values, and whether byte strings are long data.
     ///
-    /// They are where the request with all its values, of which there are some, is past 16,777,215 bytes. The request
-    /// leaves them out then: each is to be sent ahead of it by `ComStmtSendLongData`. With at most 65,535 values the
-    /// request itself fits 16,777,215 bytes in any case. Without values it takes no memory.
+    /// They are if the request with all its values, of which there are some, is longer than 16,777,215 bytes. The request then
+    /// omits them, and each must be sent before it by `ComStmtSendLongData`. With at most 65,535 values the request itself
+    /// always fits in 16,777,215 bytes. Without values it takes no memory.
     pub fn build<'a>(
         self,
         alloc: Global,
@@ -95,7 +103,7 @@ impl ComStmtExecuteRequestBuilder {
 
 /// `COM_STMT_EXECUTE`: a prepared statement is executed once, with these values.
 ///
-/// It is made by [`ComStmtExecuteRequestBuilder::build`] and written alone, its numbers little-endian:
+/// [`ComStmtExecuteRequestBuilder::build`] creates it, and it is only written, its numbers little-endian:
 ///
 /// | Bytes | Field |
 /// |---|---|
@@ -104,7 +112,7 @@ impl ComStmtExecuteRequestBuilder {
 /// | 1 | `flags`: which cursor is opened, always none |
 /// | 4 | the count of executions, always 1 |
 ///
-/// Without parameters that is all. Else there follow
+/// Without parameters, nothing follows. Otherwise:
 ///
 /// | Bytes | Field |
 /// |---|---|
@@ -112,6 +120,14 @@ impl ComStmtExecuteRequestBuilder {
 /// | 1 | `params_flags`: types follow, always 1 |
 /// | 2 for each | the code of its type, and 128 where it is an unsigned number, else 0 |
 /// | to the end | the values in their binary form, byte strings left out where `as_long_data` |
+///
+/// ```
+/// let builder = ComStmtExecuteRequestBuilder::new(statement.statement_id());
+/// let (request, as_long_data) = builder.build(connection.alloc, values)?;
+/// if as_long_data {
+///     send_ahead(connection, statement, values)?;
+/// }
+/// ```
 #[derive(Clone, Debug, PartialEq, Drop)]
 pub struct ComStmtExecuteRequest<'a> {
     header: ComStmtExecuteHeader,
@@ -122,7 +138,7 @@ pub struct ComStmtExecuteRequest<'a> {
 }
 
 impl<'a> ComStmtExecuteRequest<'a> {
-    /// What stands before the parameters.
+    /// The fields before the parameters.
     #[inline(always)]
     fn head(&self) -> ComStmtExecuteHead
         ensures value { result ≡ request.head_of self.now }
@@ -144,7 +160,7 @@ impl<'a> ComStmtExecuteRequest<'a> {
         self.flags.0
     }
 
-    /// The whole bitmap, also what is past the bytes that are written.
+    /// The whole bitmap, including any bytes past those that are written.
     pub fn bitmap(&self) -> &[u8]
         ensures value { result.now ≡ request.bitmap self.now }
     {
@@ -158,7 +174,7 @@ impl<'a> ComStmtExecuteRequest<'a> {
         self.params.flags.0
     }
 
-    /// The values, in the slice that they were handed in.
+    /// The values, as the slice that the request was created from.
     pub fn params(&self) -> &'a [Value]
         ensures value { result.now ≡ request.params self.now }
     {

@@ -20,7 +20,7 @@ use mysql_values::ParamType;
 use mysql_wire::{CapabilityFlags, FaultOf, Flags, LenEnc, ParseBuf, RawInt};
 use std::marker::Model;
 
-/// How many parameters and attributes there are, of a statement of so many parameters.
+/// The number of parameters and attributes, for a statement of `params` parameters.
 #[tactic(auto, unfolding(mysql_wire::specs::Int::raw))]
 fn read_count<'s>(
     capabilities: CapabilityFlags,
@@ -41,7 +41,7 @@ fn read_count<'s>(
     Ok(count.0 as usize)
 }
 
-/// What stands before the values.
+/// The fields before the values.
 fn read_front<'s, 'a>(
     capabilities: CapabilityFlags,
     head: &ComStmtExecuteHead,
@@ -56,7 +56,7 @@ fn read_front<'s, 'a>(
     BindFront::read(has_names, count, params, buf)
 }
 
-/// The type that is in force: the first of those that are sent, of which there is one, else the earlier one.
+/// Returns the type in force: the next of those that are sent, which exists, or the earlier one.
 #[inline(always)]
 fn next_type<'a>(
     sends_types: bool,
@@ -109,13 +109,13 @@ fn is_null_at(nulls: &ParseBuf<'_>, none: bool, place: usize) -> bool
     is_marked(nulls, place)
 }
 
-/// What follows a [`ComStmtExecuteHead`], read parameter by parameter: the caller passes what the server knows of each.
+/// The fields after a [`ComStmtExecuteHead`], read parameter by parameter: the caller passes what the server knows of each.
 ///
 /// It reads the layout of [`ExecuteParamsView`](crate::ExecuteParamsView), for callers without a list of [`BoundParam`]. It takes no
 /// memory, and the bytes of a value stay in the packet.
 ///
-/// In a clause it is whether types are sent, how many parameters are left, the bitmap of NULLs, the place of the next parameter in
-/// it, the types that are left, and the bytes after the values that were read.
+/// In a clause it is whether types are sent, the number of remaining parameters, the bitmap of NULLs, the next parameter's
+/// place in it, the remaining types, and the bytes after the values that were read.
 #[derive(Drop)]
 pub struct ExecuteParamsBytes<'a> {
     buf: ParseBuf<'a>,
@@ -139,7 +139,7 @@ impl<'a> Model for ExecuteParamsBytes<'a> {
 }
 
 impl<'a> ExecuteParamsBytes<'a> {
-    /// Reads what stands before the values, for a statement of so many parameters.
+    /// Reads the fields before the values, for a statement of `count` parameters.
     ///
     /// Missing bytes are `UnexpectedEof`. `InvalidData` are a type that is none, a count below that of the parameters, and
     /// attributes without types. An execution that sends no types is read under those of an earlier one; where there was none,
@@ -188,7 +188,7 @@ impl<'a> ExecuteParamsBytes<'a> {
         }
     }
 
-    /// How many parameters are left.
+    /// The number of remaining parameters.
     #[inline]
     pub fn left(&self) -> usize
         ensures value { result ≡ self.now.left }
@@ -204,7 +204,7 @@ impl<'a> ExecuteParamsBytes<'a> {
         self.buf.rest()
     }
 
-    /// The attributes, which stand after the parameters: once all of these were read.
+    /// Returns the attributes, which follow the parameters, once all of these were read.
     #[inline]
     pub fn attributes(&self) -> Option<QueryAttributesView<'a>>
         ensures value { IfSome result (λ view. view ≡ attributes_left self.now.nulls self.now.place self.now.types self.now.values) }
@@ -222,8 +222,8 @@ impl<'a> ExecuteParamsBytes<'a> {
         ))
     }
 
-    /// The next of the parameters that are left, of which the server knows this, with its type and its name. After a refusal all is
-    /// as it was.
+    /// Reads the next parameter with its type and its name; `bound` is what the server knows of it. After an error nothing has
+    /// changed.
     ///
     /// A server keeps the types for executions that send none.
     #[inline]
@@ -255,10 +255,10 @@ impl<'a> ExecuteParamsBytes<'a> {
         })
     }
 
-    /// The next of the parameters that are left as it was sent: what [`next_param`](Self::next_param) reads, with its bit in the bitmap of
-    /// NULLs and the bytes of its value. After a refusal, which is the same, all is as it was.
+    /// Reads the next parameter as it was sent: like [`next_param`](Self::next_param), with its bit in the bitmap of NULLs and
+    /// the bytes of its value. The errors are the same, and change nothing.
     ///
-    /// An execution with these parameters is written as it was read.
+    /// An execution with these parameters is written byte for byte as it was read.
     #[inline]
     pub fn next_as_sent<'s>(
         &mut self,

@@ -1,4 +1,4 @@
-//! What stands before the parameters of an execution.
+//! The fields before the parameters of an execution.
 #![tactic(auto, using(mysql_wire::proofs::Packets::packets), unfolding(crate::specs::ExecuteHead::execute_head))]
 
 ghost use Rattle.std.specs.Prelude.{◌≡◌};
@@ -11,8 +11,8 @@ use mysql_wire::{
     RawInt, Sink, parts,
 };
 
-/// What stands before the parameters of `COM_STMT_EXECUTE`: a server reads it first, since the number tells which statement is
-/// executed, and [`ExecuteParamsView`](crate::ExecuteParamsView) reads what follows.
+/// The fields of `COM_STMT_EXECUTE` before the parameters: a server reads them first, since the number says which statement is
+/// executed, and [`ExecuteParamsView`](crate::ExecuteParamsView) reads the rest.
 ///
 /// It takes 10 bytes, numbers little-endian:
 ///
@@ -23,8 +23,13 @@ use mysql_wire::{
 /// | 1 | flags: the cursor that is opened, and 8 (`PARAMETER_COUNT_AVAILABLE`) |
 /// | 4 | the iteration count |
 ///
-/// Fewer than 10 bytes are refused as `UnexpectedEof`, another first byte as `InvalidData`. Clients send an iteration count of 1;
-/// servers ignore it (`parse_packet` in `sql/protocol_classic.cc`), so any number is read.
+/// Fewer than 10 bytes are `UnexpectedEof`, another first byte is `InvalidData`. Clients send an iteration count of 1; servers
+/// ignore it (`parse_packet` in `sql/protocol_classic.cc`), so any number is read.
+///
+/// ```
+/// let head = ComStmtExecuteHead::new(stmt_id, CursorType::CURSOR_TYPE_READ_ONLY);
+/// Ok(head.serialize(out)?)
+/// ```
 #[derive(Clone, Debug, PartialEq, Eq, Drop)]
 pub struct ComStmtExecuteHead {
     header: ComStmtExecuteHeader,

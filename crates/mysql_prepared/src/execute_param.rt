@@ -1,4 +1,4 @@
-//! What an execution sends of a parameter.
+//! Parameters and attributes of an execution.
 #![tactic(auto, using(crate::proofs::SentBytes::plain))]
 
 ghost use Rattle.std.specs.Prelude.{◌≡◌, ◌+◌, ◌++◌, ◌≤◌, length, drop};
@@ -14,7 +14,17 @@ use crate::sent_params::{append_plain, append_sent, is_spelled, plain_len, sent_
 use mysql_values::{DateTimeWithOffset, ParamType, ParamValue, Value, ValueRef};
 use mysql_wire::{Buffer, ColumnType, MySerialize};
 
-/// A parameter of an execution: a value, one whose data was sent ahead, or one as it was sent in the execution that it was read from.
+/// A parameter of an execution: a value, one whose data was sent ahead, or one as it was sent in the execution that it was read
+/// from.
+///
+/// ```
+/// let tiny = ParamType::new(ColumnType::MYSQL_TYPE_TINY, StmtExecuteParamFlags::UNSIGNED);
+/// TypedExecuteParam {
+///     param_type: tiny,
+///     name: b"",
+///     param: ExecuteParam::Value(ValueRef::UInt(value)),
+/// }
+/// ```
 #[derive(Clone, Copy, Debug, PartialEq)]
 pub enum ExecuteParam<'a> {
     /// A value that the request sends.
@@ -24,7 +34,7 @@ pub enum ExecuteParam<'a> {
     /// The data was sent ahead by [`ComStmtSendLongData`](crate::ComStmtSendLongData): the request sends the type of a byte
     /// string, and no value.
     SentAhead,
-    /// What an execution or a query sent of it, which is written again byte for byte:
+    /// The bytes that an execution or a query sent, which are written back unchanged:
     /// [`ExecuteParamsView::next_as_sent`](crate::ExecuteParamsView::next_as_sent) reads it.
     AsSent {
         /// Whether its bit in the bitmap of NULLs is set.
@@ -50,8 +60,8 @@ pub trait AsExecuteParam {
     fn as_execute_param(&self) -> ExecuteParam<'_>
         ensures value { spec.param_of result ≡ param self.now };
 
-    /// The type that it is sent as. Where none is chosen, that is the type of its value, and of a byte string where it was sent ahead or
-    /// is one as it was sent, whose own type a [`TypedExecuteParam`](crate::TypedExecuteParam) has.
+    /// The default type that it is sent as: that of its value; that of a byte string if it was sent ahead, or is kept as it was
+    /// sent, whose own type a [`TypedExecuteParam`](crate::TypedExecuteParam) has.
     fn sent_type(&self) -> ParamType
         ensures value { result ≡ (named_type self.now).param_type };
 
@@ -59,7 +69,8 @@ pub trait AsExecuteParam {
     fn name(&self) -> &[u8]
         ensures value { result.now ≡ (named_type self.now).name };
 
-    /// Whether its bit in a bitmap of NULLs is set: where it is NULL, which one that was sent ahead is not, or has the bit as it was sent.
+    /// Whether its bit in a bitmap of NULLs is set: whether it is NULL, or had the bit when it was sent. One that was sent
+    /// ahead isn't NULL.
     #[inline(always)]
     fn is_null(&self) -> bool
         ensures value { result ≡ is_null (spec.value_of (param self.now)) }
@@ -67,7 +78,7 @@ pub trait AsExecuteParam {
         matches!(typed_value(self.as_execute_param()), ValueRef::NULL)
     }
 
-    /// Whether the type spells the value, if the request sends one.
+    /// Whether the value fits the type, if the request sends one.
     #[inline(always)]
     fn is_spelled(&self) -> bool
         ensures value { result ≡ is_spelled_under (named_type self.now).param_type (param self.now) }
@@ -75,7 +86,7 @@ pub trait AsExecuteParam {
         is_spelled(self.sent_type(), self.as_execute_param())
     }
 
-    /// How many bytes of it the request has, where byte strings are long data or not; or `usize::MAX` where that is less.
+    /// The length of its bytes in the request, with or without byte strings as long data, or `usize::MAX` if it is greater.
     #[inline(always)]
     fn sent_len(&self, as_long_data: bool) -> usize
         ensures value { result ≡ saturated (length (bytes_under as_long_data (named_type self.now).param_type (param self.now))) }
@@ -95,7 +106,8 @@ pub trait AsExecuteParam {
         append_sent(self.sent_type(), self.as_execute_param(), as_long_data, out);
     }
 
-    /// Whether it is a value that a column of the type takes, in a binary row: none takes a date with an offset, nor one as it was sent.
+    /// Whether it fits a column of the type in a binary row. A date with an offset, or a parameter as it was sent, fits no
+    /// column.
     #[inline(always)]
     fn is_taken_by(&self, column_type: ColumnType, is_unsigned: bool) -> bool
         ensures value { result ≡ takes_param column_type is_unsigned (param self.now) }
@@ -103,7 +115,7 @@ pub trait AsExecuteParam {
         takes_param(column_type, is_unsigned, self.as_execute_param())
     }
 
-    /// How many bytes it takes in such a column, or `usize::MAX` where that is less.
+    /// The length in such a column in bytes, or `usize::MAX` if it is greater.
     #[inline(always)]
     fn cell_len(&self, column_type: ColumnType) -> usize
         ensures value { result ≡ saturated (length (bin_in column_type (spec.value_of (param self.now)))) }
@@ -111,7 +123,7 @@ pub trait AsExecuteParam {
         cell_len(column_type, &typed_value(self.as_execute_param()))
     }
 
-    /// Writes it as such a column has it, for which there is capacity.
+    /// Writes it in the encoding of such a column, for which there is capacity.
     #[inline(always)]
     fn append_cell<O: Buffer>(&self, column_type: ColumnType, out: &mut O)
         requires { length (O.held out.old) + length (bin_in column_type (spec.value_of (param self.now))) ≤ O.capacity out.old }
@@ -277,15 +289,21 @@ impl AsExecuteParam for Value {
     }
 }
 
-/// An attribute of a query or an execution: a name and a value that a client sends beside the parameters, under
+/// An attribute of a query or an execution: a name and a value that a client sends in addition to the parameters, under
 /// CLIENT_QUERY_ATTRIBUTES.
+///
+/// ```
+/// let attributes = [QueryAttribute::new(b"traceparent", ValueRef::Bytes(id))];
+/// let query = ComQuery::new(text).with_attributes(&attributes)?;
+/// Ok(query.serialize(out)?)
+/// ```
 #[derive(Clone, Copy, Debug, PartialEq)]
 pub struct QueryAttribute<'a> {
     /// The type of the value.
     pub param_type: ParamType,
     /// The name.
     pub name: &'a [u8],
-    /// The value.
+    /// The value of the attribute.
     pub value: ParamValue<'a>,
 }
 
@@ -322,7 +340,7 @@ impl<'a> ExecuteParam<'a> {
     }
 }
 
-/// It is sent as its value, with its own type and name.
+/// An attribute is sent as its value, with its own type and name.
 impl AsExecuteParam for QueryAttribute<'_> {
     ghost use Rattle.mysql_prepared.specs.ExecuteParam.{attribute_param};
     ghost use Rattle.mysql_prepared.specs.SentParam.{attribute_type};

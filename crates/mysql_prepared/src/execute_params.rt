@@ -22,7 +22,7 @@ use std::borrow::CowSlice;
 /// How a bitmap is written: 8,192 bytes hold the bits of as many parameters as a statement can have.
 type WrittenBitmap = BareBytes<8192>;
 
-/// How many bytes a request has that sends all its values, of which there are some.
+/// The length of a request that sends all its values, of which there are some, in bytes.
 fn whole_len(params: &[Value]) -> usize
     ensures { result ≡ saturated (whole_size params.now) }
 {
@@ -30,14 +30,14 @@ fn whole_len(params: &[Value]) -> usize
     items_len(params).saturating_add(head)
 }
 
-/// The parameters of an execution: nothing where there are none, else
+/// The parameters of an execution: nothing if there are none, otherwise
 ///
 /// | Bytes | Field |
 /// |---|---|
 /// | 1 for 8 parameters | the bitmap of NULLs, its first 8,192 bytes |
 /// | 1 | flags: types follow |
 /// | 2 for each | types |
-/// | to the end | values, but for byte strings where these are sent ahead, as long data |
+/// | to the end | values, except for byte strings where these are sent ahead, as long data |
 #[derive(Clone, Debug, PartialEq, Drop)]
 pub(crate) struct ExecuteParams<'a> {
     pub(crate) bitmap: NullBitmap<'a, ClientSide>,

@@ -25,14 +25,14 @@ pub struct BoundParam {
 /// The parameters and the attributes of `COM_STMT_EXECUTE`, as a server reads them, one by one: what follows a
 /// [`ComStmtExecuteHead`].
 ///
-/// Where both sides have CLIENT_QUERY_ATTRIBUTES, and the statement has parameters or the flags have `PARAMETER_COUNT_AVAILABLE`,
-/// there stands first
+/// If both sides agreed on CLIENT_QUERY_ATTRIBUTES, and the statement has parameters or the flags have
+/// `PARAMETER_COUNT_AVAILABLE`, these fields come first:
 ///
 /// | Bytes | Field |
 /// |---|---|
 /// | 1 to 9 | how many parameters and attributes there are, length-encoded: no fewer than the statement has parameters |
 ///
-/// Without that flag they are the parameters alone. Where there are none, nothing follows; else, numbers little-endian:
+/// Without that flag there are only parameters. If there are none, nothing follows; otherwise, with little-endian numbers:
 ///
 /// | Bytes | Field |
 /// |---|---|
@@ -44,8 +44,18 @@ pub struct BoundParam {
 /// It takes no memory, and the bytes of a value stay in the packet. A parameter that was sent ahead is that, whatever its bit says.
 /// Servers read it in `parse_com_stmt_execute` (`sql/protocol_classic.cc`).
 ///
-/// In a clause it is whether types are sent, how many parameters are left, those of them that are good with their types, the bytes
-/// after the last, or the kind of the fault that ends them, the bytes after those that were read, and which attributes follow.
+/// In a clause it is whether types are sent, the number of remaining parameters, those of them before the first fault with
+/// their types, the bytes after the last or the kind of that fault, the bytes after those that were read, and which attributes
+/// follow.
+///
+/// ```
+/// for _ in 0..params.left() {
+///     let Ok(Some(_param)) = params.next_param() else {
+///         break;
+///     };
+///     count = count.saturating_add(1);
+/// }
+/// ```
 #[derive(Drop)]
 pub struct ExecuteParamsView<'a, 'c> {
     bytes: ExecuteParamsBytes<'a>,
@@ -64,7 +74,7 @@ impl<'a, 'c> Model for ExecuteParamsView<'a, 'c> {
 }
 
 impl<'a, 'c> ExecuteParamsView<'a, 'c> {
-    /// Reads what stands before the values, for the parameters of the statement, which are as many as it has.
+    /// Reads the fields before the values, for the parameters of the statement.
     ///
     /// Missing bytes are `UnexpectedEof`. `InvalidData` are a type that is none, a count below that of the parameters, and
     /// attributes without types. An execution that sends no types is read under those of an earlier one; where there was none,
@@ -94,7 +104,7 @@ impl<'a, 'c> ExecuteParamsView<'a, 'c> {
         self.bytes.sends_types()
     }
 
-    /// How many parameters are left.
+    /// The number of remaining parameters.
     #[inline]
     pub fn left(&self) -> usize
         ensures value { result ≡ self.now.left }
@@ -112,7 +122,7 @@ impl<'a, 'c> ExecuteParamsView<'a, 'c> {
         self.bytes.rest()
     }
 
-    /// The attributes, which stand after the parameters: once all of these were read.
+    /// Returns the attributes, which follow the parameters, once all of these were read.
     #[inline]
     pub fn attributes(&self) -> Option<QueryAttributesView<'a>>
         ensures value { IfSome result (λ view. view ≡ attributes_at self.now.attributes self.now.rest) }
@@ -122,7 +132,7 @@ impl<'a, 'c> ExecuteParamsView<'a, 'c> {
         self.bytes.attributes()
     }
 
-    /// The next parameter with its type and its name, or none after the last. After a refusal the view is as it was.
+    /// The next parameter with its type and its name, or none after the last. After an error the view is unchanged.
     ///
     /// A server keeps the types for executions that send none.
     #[inline]
@@ -137,11 +147,11 @@ impl<'a, 'c> ExecuteParamsView<'a, 'c> {
         Ok(Some(param))
     }
 
-    /// The next parameter as it was sent, or none after the last: what [`next_param`](Self::next_param) reads, with its bit in the bitmap of
-    /// NULLs and the bytes of its value. After a refusal, which is the same, the view is as it was.
+    /// Returns the next parameter as it was sent, or `None` after the last: like [`next_param`](Self::next_param), with its bit
+    /// in the bitmap of NULLs and the bytes of its value. The errors are the same, and leave the view unchanged.
     ///
-    /// An execution with these parameters is written as it was read:
-    /// [`ComStmtExecuteOptionsBuilder`](crate::ComStmtExecuteOptionsBuilder) says how.
+    /// An execution with these parameters is written byte for byte as it was read, by a
+    /// [`ComStmtExecuteOptionsBuilder`](crate::ComStmtExecuteOptionsBuilder).
     #[inline]
     pub fn next_as_sent<'s>(&mut self) -> Result<Option<TypedExecuteParam<'a>>, FaultOf<'s>>
         ensures value { GivesAsSent self.old result self.new }

@@ -23,7 +23,7 @@ use std::mem;
 /// Which cursor an execution opens over its rows: `COM_STMT_FETCH` asks for them.
 #[derive(Clone, Copy, Debug, PartialEq, Eq)]
 pub enum Cursor {
-    /// CURSOR_TYPE_READ_ONLY, the one that servers open.
+    /// CURSOR_TYPE_READ_ONLY, the only type of cursor that servers open.
     ReadOnly,
     /// CURSOR_TYPE_FOR_UPDATE.
     ForUpdate,
@@ -44,23 +44,21 @@ fn cursor_type(cursor: Cursor) -> CursorType
 
 /// Makes executions of a prepared statement with options: a cursor, types of an earlier execution, attributes of the query.
 ///
+/// An execution like one that was read, with other attributes:
+///
 /// ```
-/// // a proxy that writes an execution again byte for byte as it was read
-/// while let Some(param) = view.next_as_sent()? {
-///     params.push(param)?;
+/// let plain = ComStmtExecuteOptionsBuilder::<'_, TypedExecuteParam<'_>>::from_head(head);
+/// ComStmtExecuteOptionsBuilder {
+///     stmt_id: plain.stmt_id,
+///     flags: plain.flags,
+///     iteration_count: plain.iteration_count,
+///     sends_types,
+///     attributes,
 /// }
-/// if let Some(mut view) = view.attributes() {
-///     while let Some(attribute) = view.next_as_sent()? {
-///         attributes.push(attribute)?;
-///     }
-/// }
-/// let builder = ComStmtExecuteOptionsBuilder {
-///     sends_types: view.sends_types(),
-///     attributes: Some(&attributes), // None without CLIENT_QUERY_ATTRIBUTES
-///     ..ComStmtExecuteOptionsBuilder::from_head(&head)
-/// };
-/// let as_long_data = builder.write_ref(&params, out)?;
 /// ```
+///
+/// A proxy that writes an execution again byte for byte passes the parameters of
+/// [`next_as_sent`](crate::ExecuteParamsView::next_as_sent).
 #[derive(Clone, Copy, Debug, PartialEq)]
 pub struct ComStmtExecuteOptionsBuilder<'a, A = QueryAttribute<'a>> {
     /// The statement's number.
@@ -69,8 +67,8 @@ pub struct ComStmtExecuteOptionsBuilder<'a, A = QueryAttribute<'a>> {
     pub flags: CursorType,
     /// The iteration count, which servers ignore: 1 in executions of clients.
     pub iteration_count: u32,
-    /// Whether the types of parameters are sent. Without them the server reads the values by the types that it was sent last. Where there
-    /// are attributes, types are sent in any case.
+    /// Whether the types of parameters are sent. Without them the server uses the types that it was sent last. With attributes,
+    /// types are always sent.
     pub sends_types: bool,
     /// The attributes of the query, `None` where CLIENT_QUERY_ATTRIBUTES is not agreed on: of any type that is a parameter, with a name.
     pub attributes: Option<&'a [A]>,
@@ -121,7 +119,7 @@ impl ComStmtExecuteRequestBuilder {
         ComStmtExecuteOptionsBuilder::new(self.stmt_id).with_earlier_types()
     }
 
-    /// The builder of an execution under CLIENT_QUERY_ATTRIBUTES with these attributes of the query, of which there may be none.
+    /// Creates the builder of an execution under CLIENT_QUERY_ATTRIBUTES with these attributes, possibly none.
     ///
     /// Once both sides have agreed on the flag, each execution is to be built this way.
     pub fn with_query_attributes<'a, A>(
@@ -233,8 +231,8 @@ impl<'a, A> ComStmtExecuteOptionsBuilder<'a, A> {
         }
     }
 
-    /// Sends no types: the server reads the values by the types that it was sent last for the statement. The types of parameters are
-    /// those of that execution.
+    /// Sends no types: the server uses the types that it was sent last for the statement. The parameters are encoded under the
+    /// types of that execution.
     pub fn with_earlier_types(self) -> Self
         ensures stmt_id { result.stmt_id ≡ self.entry.stmt_id }
         ensures flags { result.flags.0 ≡ self.entry.flags.0 }
@@ -293,7 +291,7 @@ impl<'a, A> ComStmtExecuteOptionsBuilder<'a, A> {
 }
 
 impl<'a, A: AsExecuteParam> ComStmtExecuteOptionsBuilder<'a, A> {
-    /// Refuses the first value that its type does not spell.
+    /// Checks that each value fits its type, and returns an error for the first one that doesn't.
     #[inline(always)]
     fn check<V: AsExecuteParam>(&self, params: &[V]) -> Result<(), TypedExecutionError>
         ensures spelled { OnOk result (request.IsSpelled (request.asked A.param A.named_type self.now (sent_params V.param V.named_type params.now))) }
@@ -301,10 +299,10 @@ impl<'a, A: AsExecuteParam> ComStmtExecuteOptionsBuilder<'a, A> {
         ensures no_memory { result ≢ Err refusal.Memory }
     {
         if let Some(place) = first_unspelled(params) {
-            return Err(TypedExecutionError::UnspelledValue { place });
+            return Err(TypedExecutionError::TypeMismatch { place });
         }
         if let Some(place) = first_unspelled(self.listed()) {
-            return Err(TypedExecutionError::UnspelledAttribute { place });
+            return Err(TypedExecutionError::AttributeTypeMismatch { place });
         }
         Ok(())
     }
@@ -359,7 +357,7 @@ impl<'a, A: AsExecuteParam> ComStmtExecuteOptionsBuilder<'a, A> {
     /// They are where the request with all its values is past 16,777,215 bytes. The request then leaves out the parameters that are
     /// byte strings: each is to be sent ahead of it by [`ComStmtSendLongData`](crate::ComStmtSendLongData). Attributes stay.
     ///
-    /// A value that its type does not spell is refused: the first such parameter, or if there is none the first such attribute.
+    /// A value that doesn't fit its type is an error: the first such parameter, or if there is none the first such attribute.
     pub fn build_ref<V: AsExecuteParam>(
         self,
         params: &'a [V],
@@ -380,7 +378,7 @@ impl<'a, A: AsExecuteParam> ComStmtExecuteOptionsBuilder<'a, A> {
     /// Writes the execution with these parameters to the end of a buffer and returns whether byte strings are long data: the bytes of
     /// the request that [`build_ref`](Self::build_ref) makes.
     ///
-    /// The buffer grows at most once. After a refusal it is as it was. `Memory` is returned only where the buffer has to grow.
+    /// The buffer grows at most once. After an error it is unchanged. `Memory` is returned only where the buffer has to grow.
     pub fn write_ref<V: AsExecuteParam>(
         self,
         params: &[V],
@@ -405,8 +403,8 @@ impl<'a, A: AsExecuteParam> ComStmtExecuteOptionsBuilder<'a, A> {
         Ok(request.as_long_data())
     }
 
-    /// Writes the execution with these parameters to the front of a slice, and returns its length in bytes (or `usize::MAX` where that is
-    /// less) and whether byte strings are long data. It takes no memory. A shorter slice is as it was.
+    /// Writes the execution with these parameters to the front of a slice, and returns its length in bytes (or `usize::MAX`
+    /// where that is less) and whether byte strings are long data. It takes no memory. A shorter slice is unchanged.
     #[tactic(auto, using(crate::proofs::ExecutionBytes::taken), unfolding(mysql_wire::specs::Writing::saturated))]
     pub fn write_to_slice<V: AsExecuteParam>(
         self,

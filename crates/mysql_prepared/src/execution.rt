@@ -13,8 +13,8 @@ use mysql_wire::{CursorType, LenEnc, MySerialize, Parts, RawInt, Sink, parts};
 
 /// `COM_STMT_EXECUTE` with the options that [`ComStmtExecuteOptionsBuilder`](crate::ComStmtExecuteOptionsBuilder) has.
 ///
-/// It is made by [`ComStmtExecuteOptionsBuilder::build_ref`](crate::ComStmtExecuteOptionsBuilder::build_ref) and only written, its
-/// numbers little-endian:
+/// [`ComStmtExecuteOptionsBuilder::build_ref`](crate::ComStmtExecuteOptionsBuilder::build_ref) creates it, and it is only
+/// written, its numbers little-endian:
 ///
 /// | Bytes | Field |
 /// |---|---|
@@ -33,8 +33,8 @@ use mysql_wire::{CursorType, LenEnc, MySerialize, Parts, RawInt, Sink, parts};
 /// | 2 and a name | where types follow, for each: the code of its type and its flags (128 where it is an unsigned number); under CLIENT_QUERY_ATTRIBUTES also its name, a length-encoded string |
 /// | to the end | the values in the binary form of their types, without NULLs, without parameters that were sent ahead, and without parameters that are byte strings where `as_long_data` |
 ///
-/// Attributes stand after the parameters. They are sent with their types always, since a server calls an execution with attributes and
-/// without types malformed (`parse_query_bind_params` in `sql/protocol_classic.cc`).
+/// Attributes follow the parameters. They are always sent with their types, since a server rejects an execution with attributes
+/// and without types as malformed (`parse_query_bind_params` in `sql/protocol_classic.cc`).
 #[derive(Clone, Debug, Drop)]
 pub struct ComStmtExecuteWithOptions<'a, V, A = QueryAttribute<'a>> {
     pub(crate) head: ComStmtExecuteHead,
@@ -66,7 +66,7 @@ impl<'a, V, A> ComStmtExecuteWithOptions<'a, V, A> {
         self.head.iteration_count()
     }
 
-    /// The parameters, in the slice that they were handed in.
+    /// The parameters, as the slice that the request was created from.
     pub fn params(&self) -> &'a [V]
         ensures value { result.now ≡ request.params self.now }
     {

@@ -44,7 +44,7 @@ pub(crate) fn put_over<P: MySerialize>(value: &P, out: &mut [u8])
 pub trait ItemForm<T> {
     ghost item_bytes: { Self → T → List ℕ };
 
-    /// How many bytes an item takes, or `usize::MAX` where that is less.
+    /// The length of an item in bytes, or `usize::MAX` if it is greater.
     fn item_len(&self, item: &T) -> usize
         ensures value { result ≡ saturated (length (item_bytes self.now item.now)) };
 

@@ -46,7 +46,7 @@ use mysql_values::FromValue;
 use mysql_wire::MyDeserialize;
 use std::hash::Hash;
 
-/// What is written of a statement packet is read again, whatever follows.
+/// A statement packet is read back, whatever bytes follow.
 #[tactic(auto, using(mysql_wire::proofs::Packets::packets, crate::proofs::StmtAgain::stmt_again))]
 pub fn stmt_packet_round_trips()
     ensures spelled { (p : StmtPacket) (rest : List ℕ) → stmt.fits tt p rest → (stmt.form tt).Spells p (stmt.bytes p ++ rest) rest }
@@ -54,8 +54,7 @@ pub fn stmt_packet_round_trips()
     ensures plain { (p : StmtPacket) (rest : List ℕ) → StmtPacketFits p → (stmt.form tt).Spells p (stmt.bytes p ++ rest) rest }
 {}
 
-/// What is written of a statement packet with its metadata byte is read again under the flags that it was read under, whatever
-/// follows.
+/// A statement packet with its metadata byte is read back under the flags that it was read under, whatever bytes follow.
 pub fn stmt_packet_with_metadata_round_trips()
     ensures spelled { (capabilities : CapabilityFlags) (p : StmtPacketWithMetadata) (rest : List ℕ) → stmt_with_metadata.fits capabilities p rest →
         (stmt_with_metadata.form capabilities).Spells p (stmt_with_metadata.bytes p ++ rest) rest }
@@ -77,14 +76,14 @@ pub fn stmt_packet_size() -> Option<usize>
     <crate::stmt::StmtPacket as MyDeserialize>::SIZE
 }
 
-/// Bytes spell at most one statement packet, with one rest after it.
+/// Bytes are the encoding of at most one statement packet, with one rest after it.
 #[tactic(auto, using(mysql_wire::specs::Once::once))]
 pub fn stmt_packet_once()
     ensures value { (p q : StmtPacket) (bytes rest left : List ℕ) → (stmt.form tt).Spells p bytes rest → (stmt.form tt).Spells q bytes left → p ≡ q }
     ensures rest { (p q : StmtPacket) (bytes rest left : List ℕ) → (stmt.form tt).Spells p bytes rest → (stmt.form tt).Spells q bytes left → rest ≡ left }
 {}
 
-/// What is written of the data of one parameter is read again, where nothing follows.
+/// The data of one parameter is read back if nothing follows.
 pub fn long_data_round_trips()
     ensures spelled { (p : ComStmtSendLongData) (rest : List ℕ) → long_data.fits tt p rest → (long_data.form tt).Spells p (long_data.bytes p ++ rest) rest }
     ensures read { (p : ComStmtSendLongData) (rest : List ℕ) → long_data.fits tt p rest → (long_data.form tt).reads (long_data.bytes p ++ rest) ≡ Ok (p, rest) }
@@ -95,7 +94,7 @@ pub fn borrowed_long_data_reads_long_data()
     ensures read { (bytes : List ℕ) → (⟦<crate::long_data_ref::ComStmtSendLongDataRef<'static> as MyDeserialize<'static>>⟧.form tt).reads bytes ≡ (long_data.form tt).reads bytes }
 {}
 
-/// What is written of the end of a statement is read again, whatever follows.
+/// The end of a statement is read back, whatever bytes follow.
 pub fn close_round_trips()
     ensures spelled { (p : ComStmtClose) (rest : List ℕ) → close.fits tt p rest → (close.form tt).Spells p (close.bytes p ++ rest) rest }
     ensures read { (p : ComStmtClose) (rest : List ℕ) → close.fits tt p rest → (close.form tt).reads (close.bytes p ++ rest) ≡ Ok (p, rest) }
@@ -115,7 +114,7 @@ pub fn long_data_has_no_constant_size() -> Option<usize>
     <crate::long_data::ComStmtSendLongData as MyDeserialize>::SIZE
 }
 
-/// What is written of a bitmap of NULLs is read again for the count of its values, whatever follows.
+/// A bitmap of NULLs is read back for the count of its values, whatever bytes follow.
 pub fn null_bitmap_round_trips()
     ensures spelled { (offset count : ℕ) (bytes rest : List ℕ) → count + 7 + offset < 2 ^ 64 → length bytes ≡ bytes_for offset count →
         (null_bitmap offset count).Spells (borrowed bytes) (bytes ++ rest) rest }
@@ -123,7 +122,7 @@ pub fn null_bitmap_round_trips()
         (null_bitmap offset count).reads (bytes ++ rest) ≡ Ok (borrowed bytes, rest) }
 {}
 
-/// Bytes spell at most one row of these columns, with one rest after it, in either protocol.
+/// Bytes are the encoding of at most one row of these columns, with one rest after it, in either protocol.
 #[tactic(auto, using(mysql_wire::specs::Once::once))]
 pub fn row_once()
     ensures text { (columns : List Column) (v w : List (Option Content)) (bytes rest left : List ℕ) → (text_row columns).Spells v bytes rest → (text_row columns).Spells w bytes left → (v ≡ w) × (rest ≡ left) }
@@ -139,7 +138,7 @@ pub fn views_read_rows()
     ensures text { (columns : List Column) (bytes : List ℕ) → (text_row_of (length columns)).reads bytes ≡ (text_row columns).reads bytes }
 {}
 
-/// What is written of a text row is read again as the same cells, whatever follows.
+/// A text row is read back as the same cells, whatever bytes follow.
 #[tactic(auto, using(crate::proofs::TextRowAgain::text_rows))]
 pub fn text_row_round_trips()
     ensures spelled { (cells : List (Option (List ℕ))) (rest : List ℕ) → All TextCellFits cells →
@@ -148,8 +147,8 @@ pub fn text_row_round_trips()
         (text_row_of (length cells)).reads (text_row_bytes cells ++ rest) ≡ Ok (text_contents cells, rest) }
 {}
 
-/// What is written of a binary row, which its columns take, is read again as the same values, whatever follows. Their numbers
-/// have their widths, as those of every [`ValueRef`](mysql_values::ValueRef) have, and a span of no time has no sign.
+/// A binary row, which its columns take, is read back as the same values, whatever bytes follow. Their numbers have their
+/// widths, as those of every [`ValueRef`](mysql_values::ValueRef) have, and a span of no time has no sign.
 #[tactic(auto, using(crate::proofs::BinaryRowAgain::binary_rows))]
 pub fn binary_row_round_trips<C: TypedColumn>()
     ensures spelled { (columns : List C) (values : List Content) (bytes rest : List ℕ) → IsTrue (takes_row C.type_of C.unsigned columns values) → All IsInRange values
@@ -160,15 +159,15 @@ pub fn binary_row_round_trips<C: TypedColumn>()
         → (bin_row_of C.type_of C.unsigned 2 columns).reads (bytes ++ rest) ≡ Ok (map Some values, rest) }
 {}
 
-/// What is written of the head of an execution is read again, whatever follows.
+/// The head of an execution is read back, whatever bytes follow.
 pub fn execute_head_round_trips()
     ensures spelled { (p : ComStmtExecuteHead) (rest : List ℕ) → head.execute_head.fits tt p rest → (head.execute_head.form tt).Spells p (head.execute_head.bytes p ++ rest) rest }
     ensures read { (p : ComStmtExecuteHead) (rest : List ℕ) → head.execute_head.fits tt p rest → (head.execute_head.form tt).reads (head.execute_head.bytes p ++ rest) ≡ Ok (p, rest) }
 {}
 
-/// What is written of an execution is read again, whatever follows: its head, and then, under the capabilities of the session, its
-/// parameters and its attributes, each with its type and its name. The server knows how many parameters there are, which were sent
-/// ahead, and where no types are sent, those of an earlier execution. A number of a narrow type is read as a signed one. Of parameters
+/// An execution is read back, whatever bytes follow: its head, and then, under the capabilities of the session, its parameters
+/// and its attributes, each with its type and its name. The server knows how many parameters there are, which were sent ahead,
+/// and where no types are sent, those of an earlier execution. A number of a narrow type is read as a signed one. Of parameters
 /// as they were sent nothing is said.
 pub fn execution_round_trips()
     ensures head { (e : Execution) (rest : List ℕ) → head.stmt_id e.head < 2 ^ 32 → head.cursor_flags e.head < 2 ^ 8 → head.iteration_count e.head < 2 ^ 32
@@ -188,7 +187,7 @@ pub fn execute_head_size() -> Option<usize>
     <crate::execute_head::ComStmtExecuteHead as MyDeserialize>::SIZE
 }
 
-/// The bitmap of an execution stands after its first ten bytes.
+/// The bitmap of an execution follows its first ten bytes.
 #[tactic(auto, using(crate::proofs::HeadLength::head_length))]
 pub fn null_bitmap_offset() -> usize
     ensures value { result ≡ 10 }
@@ -229,8 +228,8 @@ pub fn equal_rows_hold_the_same()
     ensures same { (x y : Cells) → IsTrue (⟦<crate::row::Row as PartialEq>⟧.eq x y) ↔ ((held x.cells ≡ held y.cells) × (x.columns ≡ y.columns)) }
 {}
 
-/// A value of which [`Row::get_opt`](crate::Row::get_opt) answered a copy, converted, converts itself. So where an index
-/// finds one place alone, its value may be asked for by `get` and `take`.
+/// If [`Row::get_opt`](crate::Row::get_opt) returned a converted copy of a value, the value itself converts. So if an index
+/// always finds the same position, `get` and `take` may be called for it.
 pub fn get_after_get_opt<T: FromValue, I: ColumnIndex>()
     ensures value { (value : Value) (x : T) → CopyConvertsTo T.Converts value (Ok x) → IsConvertible T.Converts value }
     ensures found { (index : I) (columns : List Column) (cells : List (Option Value)) (x : T) → ((p q : Option ℕ) → I.Finds index columns p → I.Finds index columns q → p ≡ q)

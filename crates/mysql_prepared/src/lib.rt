@@ -1,5 +1,5 @@
-//! Prepared statements: what a server answers to one that it prepared, what an execution, long data and a close are
-//! written as, the bitmaps of NULLs, and the rows of results.
+//! Prepared statements: the answer to a preparation, executions, long data and closes, bitmaps of NULLs, and the rows of
+//! results.
 #![tactic(auto)]
 
 mod attributes_view;

@@ -25,8 +25,8 @@ impl ConstFault for InvalidComStmtSendLongDataHeader {
 /// The first byte of the data of one parameter: `18`.
 pub type ComStmtSendLongDataHeader = ConstU8<InvalidComStmtSendLongDataHeader, 0x18>;
 
-/// `COM_STMT_SEND_LONG_DATA`: some bytes of one parameter, sent ahead of the execution that they
-/// are for. The server joins what it got for a parameter, and answers nothing.
+/// `COM_STMT_SEND_LONG_DATA`: bytes of one parameter, sent before the execution. The server joins the bytes that it receives
+/// for a parameter, and sends no answer.
 ///
 /// Numbers are little-endian:
 ///
@@ -37,7 +37,13 @@ pub type ComStmtSendLongDataHeader = ConstU8<InvalidComStmtSendLongDataHeader, 0
 /// | 2 | which parameter, the first being 0 |
 /// | to the end | the data |
 ///
-/// Fewer than seven bytes are refused as `UnexpectedEof`, another first byte as `InvalidData`. The data stays in the packet.
+/// Fewer than seven bytes are `UnexpectedEof`, another first byte is `InvalidData`. The data stays in the packet.
+///
+/// ```
+/// let content = CowSlice::Borrowed(bytes.as_slice());
+/// let part = ComStmtSendLongData::new(statement.statement_id(), place, content);
+/// connection.command_packet(&part)?;
+/// ```
 #[derive(Clone, Debug, PartialEq, Eq, Drop)]
 pub struct ComStmtSendLongData<'a> {
     header: ComStmtSendLongDataHeader,
@@ -83,9 +89,9 @@ impl<'a> ComStmtSendLongData<'a> {
         self.content.as_bytes()
     }
 
-    /// The same packet, on memory of its own.
+    /// Copies the data, so that the packet borrows nothing.
     ///
-    /// Where that is refused, the packet is given up, and the bytes that it borrowed stay. Empty data takes no memory.
+    /// If the allocation fails, the packet is dropped; the bytes that it borrowed aren't affected. Empty data takes no memory.
     pub fn into_owned(self, alloc: Global) -> Result<ComStmtSendLongData<'static>, AllocError>
         ensures value { IfOk result (λ owned. owned ≡ self.entry) }
         ensures no_memory { spec.content self.entry ≡ [] → IsOk result }

@@ -1,4 +1,4 @@
-//! The data of one parameter, sent ahead of an execution, where it lies.
+//! Borrowed data of one parameter, sent before an execution.
 #![tactic(auto, using(mysql_wire::proofs::Packets::packets), unfolding(crate::specs::LongData::long_data))]
 
 ghost use Rattle.std.specs.Prelude.{◌≡◌, ⊤, refl};
@@ -15,6 +15,11 @@ use std::marker::Model;
 /// The data of one parameter, which stays in the packet: a [`ComStmtSendLongData`] for as long as the packet lives.
 ///
 /// It is read of the same bytes with the same faults, and in a clause it is that packet.
+///
+/// ```
+/// let part: ComStmtSendLongDataRef<'_> = ParseBuf::new(alloc, payload).parse(())?;
+/// Ok((part.param_index(), part.data()))
+/// ```
 #[derive(Drop)]
 pub struct ComStmtSendLongDataRef<'a> {
     stmt_id: u32,
@@ -56,7 +61,7 @@ impl<'a> ComStmtSendLongDataRef<'a> {
         self.content
     }
 
-    /// The packet in its other form, which borrows the data still. It takes no memory.
+    /// Converts to a [`ComStmtSendLongData`], which still borrows the data. It takes no memory.
     #[inline]
     pub fn to_packet(&self) -> ComStmtSendLongData<'a>
         ensures value { result ≡ self.now }

@@ -18,11 +18,17 @@ use std::marker::{Model, PhantomData};
 /// A bitmap of NULLs, borrowed or owned: a bit for each column or parameter, set where its value is
 /// NULL.
 ///
-/// The bits are the binary digits of one number, whose bytes lie little-endian. The bit of
-/// value `i` is the digit at `i + T::BIT_OFFSET`: a server leaves two digits out, a client none.
+/// The bits are the binary digits of one number, whose bytes are little-endian. The bit of value `i` is the digit at `i +
+/// T::BIT_OFFSET`: a server skips two digits, a client none.
 ///
 /// In a clause a bitmap is its bytes, and whether it owns them. Bitmaps with the same bytes are
 /// equal.
+///
+/// ```
+/// let mut nulls = NullBitmap::new(alloc, 10)?;
+/// nulls.set(alloc, 3, true)?;
+/// Ok(nulls)
+/// ```
 pub struct NullBitmap<'a, T> {
     bytes: CowSlice<'a, u8>,
     side: PhantomData<T>,
@@ -45,7 +51,7 @@ impl<'a, T> Model for NullBitmap<'a, T> {
 }
 
 impl<T: SerializationSide> NullBitmap<'static, T> {
-    /// The bitmap of so many values, none of which is NULL.
+    /// Creates the bitmap of `num_columns` values, none of which is NULL.
     ///
     /// The count, with seven and the side's offset, fits `usize`. A bitmap without bytes takes no memory.
     pub fn new(alloc: Global, num_columns: usize) -> Result<Self, AllocError>
@@ -58,7 +64,7 @@ impl<T: SerializationSide> NullBitmap<'static, T> {
         Ok(NullBitmap::from_bytes(CowSlice::Owned(bytes)))
     }
 
-    /// Copies the bitmap of so many values off the front of the bytes.
+    /// Copies the bitmap of `num_columns` values off the front of the bytes.
     ///
     /// The count, with seven and the side's offset, fits `usize`, and the bytes are there, as their
     /// length and [`bitmap_len`](Self::bitmap_len) tell. An allocation that fails takes none of them.
@@ -78,7 +84,7 @@ impl<T: SerializationSide> NullBitmap<'static, T> {
     }
 }
 
-/// So many bytes without a bit that is set. None takes no memory.
+/// `len` bytes without a bit that is set. None takes no memory.
 pub(crate) fn clear_bits(alloc: Global, len: usize) -> Result<Vec<u8>, AllocError>
     ensures value { IfOk result (λ bytes. bytes.items ≡ replicate len 0) }
     ensures no_memory { len ≡ 0 → IsOk result }
@@ -89,7 +95,7 @@ pub(crate) fn clear_bits(alloc: Global, len: usize) -> Result<Vec<u8>, AllocErro
     vec![in alloc; 0; len]
 }
 
-/// A copy of the bytes. Where there is none, it takes no memory.
+/// Copies the bytes. An empty bitmap takes no memory.
 fn copy_of(alloc: Global, bytes: &[u8]) -> Result<Vec<u8>, AllocError>
     ensures value { IfOk result (λ copy. copy.items ≡ bytes.now) }
     ensures no_memory { bytes.now ≡ [] → IsOk result }
@@ -101,7 +107,7 @@ fn copy_of(alloc: Global, bytes: &[u8]) -> Result<Vec<u8>, AllocError>
 }
 
 impl<'a, T> NullBitmap<'a, T> {
-    /// The bitmap that lies in these bytes.
+    /// Creates a bitmap from its bytes.
     pub fn from_bytes(bytes: CowSlice<'a, u8>) -> Self
         ensures value { result.bytes ≡ cow_slice_items bytes.entry }
         ensures owned { result.owned ≡ is_owned bytes.entry }
@@ -112,7 +118,7 @@ impl<'a, T> NullBitmap<'a, T> {
         }
     }
 
-    /// The bytes.
+    /// Returns the bytes of the bitmap.
     #[inline]
     pub fn as_bytes(&self) -> &[u8]
         ensures value { result.now ≡ self.now.bytes }
@@ -122,7 +128,7 @@ impl<'a, T> NullBitmap<'a, T> {
 }
 
 impl<T: SerializationSide> NullBitmap<'_, T> {
-    /// How many bytes hold the bits of so many values: the least whose bits are enough.
+    /// The length of a bitmap of `num_columns` values in bytes.
     ///
     /// The count, with seven and the side's offset, fits `usize`.
     #[inline]
@@ -135,7 +141,7 @@ impl<T: SerializationSide> NullBitmap<'_, T> {
         (num_columns + 7 + T::BIT_OFFSET) / 8
     }
 
-    /// Whether value `i` is NULL. Its bit lies in the bytes.
+    /// Whether value `i` is NULL. The bytes contain its bit.
     #[inline]
     pub fn is_null(&self, i: usize) -> bool
         requires { i + T.BIT_OFFSET < 8 * length self.now.bytes }
@@ -146,9 +152,9 @@ impl<T: SerializationSide> NullBitmap<'_, T> {
         (bytes[at] >> bit) & 1 == 1
     }
 
-    /// Says whether value `i` is NULL. Its bit lies in the bytes, and every other bit stays.
+    /// Sets whether value `i` is NULL. The bytes contain its bit; the other bits are unchanged.
     ///
-    /// Borrowed bytes are copied first. Where that is refused, nothing changes.
+    /// Borrowed bytes are copied first. If that allocation fails, nothing changes.
     pub fn set(&mut self, alloc: Global, i: usize, is_null: bool) -> Result<(), AllocError>
         requires { i + T.BIT_OFFSET < 8 * length self.old.bytes }
         ensures len { length self.new.bytes ≡ length self.old.bytes }
@@ -212,7 +218,7 @@ impl<T> Clone for NullBitmap<'_, T> {
 
     ghost is_infallible = { λ b. IsTrue b.owned → b.bytes ≡ [] };
 
-    /// The same bytes, copied where the bitmap owns them. Borrowed bytes, and none, take no memory.
+    /// Copies the bytes if the bitmap owns them. A borrowed or empty bitmap needs no allocation.
     fn clone(&self) -> Result<Self, AllocError> {
         let bytes = match &self.bytes {
             CowSlice::Borrowed(bytes) => CowSlice::Borrowed(bytes),
@@ -252,8 +258,7 @@ impl<T> Debug for NullBitmap<'_, T> {
 
 /// For the context `n`: the bytes that hold the bits of `n` values, borrowed.
 ///
-/// Bytes that are not there are `UnexpectedEof`, and so is a count that, with seven and the side's
-/// offset, is past `usize`.
+/// Missing bytes are `UnexpectedEof`, and so is a count that, with seven and the side's offset, overflows `usize`.
 impl<'de, T: SerializationSide> MyDeserialize<'de> for NullBitmap<'de, T> {
     const SIZE: Option<usize> = None;
 
@@ -282,7 +287,7 @@ impl<'de, T: SerializationSide> MyDeserialize<'de> for NullBitmap<'de, T> {
     ghost size_is = { λ count. size-null_bitmap T.BIT_OFFSET count };
 }
 
-/// The bytes.
+/// A bitmap is written as its bytes.
 impl<T> MySerialize for NullBitmap<'_, T> {
     ghost bytes = { λ b. b.bytes };
 

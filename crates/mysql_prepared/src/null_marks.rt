@@ -11,7 +11,7 @@ use mysql_values::{ClientSide, SerializationSide};
 use std::alloc::{AllocError, Global};
 use std::borrow::CowSlice;
 
-/// Sets the bits of the values that are NULL, after so many other bits, in a bitmap in which they are clear.
+/// Sets the bits of the values that are NULL, after `before` other bits, in a bitmap in which they are clear.
 fn mark_nulls<V: AsExecuteParam>(nulls: &mut [u8], before: usize, values: &[V])
     requires fits { before + length values.now < 2 ^ 64 }
     requires there { before + length values.now ≤ 8 * length nulls.old }
@@ -27,7 +27,7 @@ fn mark_nulls<V: AsExecuteParam>(nulls: &mut [u8], before: usize, values: &[V])
     }
 }
 
-/// The same in a bitmap as this side has it, in which no bit is set.
+/// Marks NULLs in a bitmap with this side's offset, in which no bit is set.
 fn mark_side<S: SerializationSide, V: AsExecuteParam>(nulls: &mut [u8], values: &[V])
     requires count { length values.now + 7 + S.BIT_OFFSET < 2 ^ 64 }
     requires len { length nulls.old ≡ bytes_for S.BIT_OFFSET (length values.now) }
@@ -37,7 +37,7 @@ fn mark_side<S: SerializationSide, V: AsExecuteParam>(nulls: &mut [u8], values: 
     mark_nulls(nulls, S::BIT_OFFSET, values);
 }
 
-/// Writes so many zeros.
+/// Writes `count` zeros.
 fn append_zeros(count: usize, out: &mut Vec<u8>)
     requires { vec_len out.old + count ≤ vec_capacity out.old }
     ensures items { out.new.items ≡ out.old.items ++ replicate count 0 }

@@ -1,4 +1,4 @@
-//! What one packet carries.
+//! The maximum length of a payload in one frame.
 
-/// The most bytes that one packet carries.
+/// The maximum length of a payload in one frame, in bytes.
 pub(crate) const MAX_PAYLOAD_LEN: usize = 0xff_ffff;

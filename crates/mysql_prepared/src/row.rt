@@ -17,7 +17,13 @@ use std::rc::RcSlice;
 
 /// A row of a result: a value for each of its columns, if it was not taken.
 ///
-/// In a clause a row is its values beside its columns, as many as these.
+/// In a clause a row is its values and its columns, of which there are as many.
+///
+/// ```
+/// let mut buf = ParseBuf::new(alloc, payload);
+/// let row: RowDeserializer<ServerSide, P> = buf.parse(columns.clone()?)?;
+/// Ok(row.into_inner())
+/// ```
 #[derive(Debug)]
 pub struct Row {
     values: Vec<Option<Value>>,
@@ -64,7 +70,7 @@ pub fn new_row(
     Ok(new_row_raw(cells, columns))
 }
 
-/// The row of these values, one for each column, as far as they are there. It takes no memory.
+/// Creates a row from its values, of which some may have been taken. It takes no memory.
 pub fn new_row_raw(values: Vec<Option<Value>>, columns: RcSlice<Column>) -> Row
     requires { length values.items ≡ length (rc_slice_items columns) }
     ensures cells { result.cells ≡ values.items }
@@ -74,7 +80,7 @@ pub fn new_row_raw(values: Vec<Option<Value>>, columns: RcSlice<Column>) -> Row
 }
 
 impl Row {
-    /// How many columns there are, and so how many values with those that were taken.
+    /// The number of columns, which is also that of the values, including those that were taken.
     pub fn len(&self) -> usize
         ensures cells { result ≡ length self.now.cells }
         ensures columns { result ≡ length self.now.columns }
@@ -115,8 +121,8 @@ impl Row {
 
     /// A copy of the value that the index finds, converted. `None` where it finds no value.
     ///
-    /// The value converts, as [`get_opt`](Self::get_opt) tells. The copy of a string of at least one byte takes memory, and nothing
-    /// else does.
+    /// The value must convert ([`get_opt`](Self::get_opt) returns an error instead). Only the copy of a nonempty string takes
+    /// memory.
     pub fn get<T: FromValue, I: ColumnIndex + Drop>(
         &self,
         index: I,
@@ -135,8 +141,8 @@ impl Row {
         Ok(T::from_value_opt(copy).ok())
     }
 
-    /// A copy of the value that the index finds, converted, or the copy where it does not convert. `None` where the
-    /// index finds no value. The copy of a string of at least one byte takes memory, and nothing else does.
+    /// Returns a converted copy of the value at the index, or the copy if it doesn't convert. `None` if there is no value. Only
+    /// the copy of a nonempty string takes memory.
     pub fn get_opt<T: FromValue, I: ColumnIndex + Drop>(
         &self,
         index: I,
@@ -166,8 +172,8 @@ impl Row {
         T::from_value_opt(value).ok()
     }
 
-    /// Takes the value that the index finds out of the row, and converts it, or answers it where it does not convert.
-    /// `None` where the index finds no value.
+    /// Takes the value at the index out of the row, and converts it, or returns it if it doesn't convert. `None` if there is no
+    /// value.
     ///
     /// The value is gone in both cases. Other values stay.
     pub fn take_opt<T: FromValue, I: ColumnIndex + Drop>(
@@ -182,9 +188,9 @@ impl Row {
         Some(T::from_value_opt(value))
     }
 
-    /// The values, all of which are there.
+    /// Returns the values, none of which was taken.
     ///
-    /// Where the allocation fails, the row is given up.
+    /// If the allocation fails, the row is dropped.
     pub fn unwrap(self, alloc: Global) -> Result<Vec<Value>, AllocError>
         requires { AllThere self.cells }
         ensures value { IfOk result (λ values. map Some values.items ≡ self.cells) }
@@ -198,7 +204,7 @@ impl Row {
         Ok(values)
     }
 
-    /// The values, as far as they are there. It takes no memory.
+    /// Returns the values, of which some may have been taken. It takes no memory.
     pub fn unwrap_raw(self) -> Vec<Option<Value>>
         ensures value { result.items ≡ self.cells }
     {
@@ -206,7 +212,7 @@ impl Row {
         values
     }
 
-    /// Puts a value at this place, which lies in the row.
+    /// Sets the value at a position in the row.
     pub fn place(&mut self, index: usize, value: Value)
         requires { index < length self.old.cells }
         ensures cells { self.new.cells ≡ slice_set self.old.cells index (Some value) }
@@ -221,7 +227,7 @@ impl Clone for Row {
 
     ghost is_clone = { λ row copy. (held copy.cells ≡ held row.cells) × (copy.columns ≡ row.columns) };
 
-    /// The same values, copied, beside a share of the same columns.
+    /// Copies the values; the columns are shared.
     fn clone(&self) -> Result<Self, AllocError> {
         let values = self.values.clone()?;
         let columns = self.columns()?;

@@ -15,8 +15,14 @@ use std::rc::RcSlice;
 
 /// A row that is read from a packet of a result, in the protocol `P` (`Text` or `Binary`).
 ///
-/// `S` is the side that wrote it: it says where the bits of a binary row's bitmap begin. The columns are those of the
+/// `S` is the side that wrote it, which determines where the bits of a binary row's bitmap begin. The columns are those of the
 /// same result.
+///
+/// ```
+/// let mut buf = ParseBuf::new(alloc, payload);
+/// let row: RowDeserializer<ServerSide, P> = buf.parse(columns.clone()?)?;
+/// Ok(row.into_inner())
+/// ```
 #[derive(Drop)]
 #[derive_where(Debug)]
 pub struct RowDeserializer<S, P>(Row, PhantomData<(S, P)>);
@@ -43,7 +49,7 @@ impl<S, P> RowDeserializer<S, P> {
 impl<S, P> Clone for RowDeserializer<S, P> {
     ghost is_clone = { λ read copy. copy ≡ read };
 
-    /// The same values, copied, beside a share of the same columns.
+    /// Copies the values; the columns are shared.
     fn clone(&self) -> Result<Self, AllocError> {
         Ok(RowDeserializer(self.0.clone()?, PhantomData))
     }

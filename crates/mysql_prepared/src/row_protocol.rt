@@ -10,21 +10,21 @@ use mysql_replies::Column;
 use mysql_values::{Binary, SerializationSide, Text, TextValue, Value, ValueDeserializer};
 use mysql_wire::{FaultOf, MyDeserialize, ParseBuf, Skip};
 
-/// How the values of a row lie in the bytes: [`Text`] or [`Binary`].
+/// The encoding of a row's values: [`Text`] or [`Binary`].
 pub trait RowProtocol {
     ghost use Rattle.std.specs.Prelude.{ℕ, Bool, List, Option};
     ghost use Rattle.mysql_wire.specs.Form.{Form};
     ghost use Rattle.mysql_replies.specs.declared.column.Column.{Column};
     ghost use Rattle.mysql_values.specs.Value.{Content};
 
-    /// How the values of these columns are spelled, where so many bits of a bitmap stand for nothing.
+    /// The grammar of the values of these columns, if the bitmap has this many unused bits.
     ghost grammar: { ℕ → List Column → Form (List (Option Content)) };
 
-    /// Whether a reading of these columns may take memory, and so may answer `Memory`, by the bytes that it reads: it may
-    /// not, unless an implementation says when it may.
+    /// Whether reading these columns from these bytes may take memory, and so may return `Memory`: never, unless an
+    /// implementation says otherwise.
     ghost takes_memory: { ℕ → List Column → List ℕ → Bool } = { λ _ _ _. false };
 
-    /// Reads a value for each column. After a refusal the buffer is as it was.
+    /// Reads a value for each column. After an error the buffer is unchanged.
     fn read_cells<'s, 'de, S: SerializationSide>(
         columns: &[Column],
         buf: &mut ParseBuf<'de>,

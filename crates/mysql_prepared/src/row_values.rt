@@ -52,7 +52,7 @@ pub(crate) fn is_null_at<S: SerializationSide>(
 
 /// The values of a binary row after its bitmap, which has a bit for each column.
 ///
-/// Most rows have no NULL: then no bit is looked at apart from the others.
+/// Most rows have no NULL: then the bits aren't tested one by one.
 #[inline(never)]
 pub(crate) fn read_values<'s, S: SerializationSide>(
     nulls: &NullBitmap<'_, S>,

@@ -15,8 +15,8 @@ use crate::items::{ItemForm, Items};
 use mysql_values::{ParamType, ParamValue, TypedValue, ValueRef};
 use mysql_wire::{Buffer, BytesRepr, LenEnc, MySerialize};
 
-/// The value whose type the parameter is sent as: a byte string where it was sent ahead, a date where it has an offset. As it was sent
-/// it is NULL where its bit is set, else a byte string.
+/// The value whose type the parameter is sent as: a byte string if it was sent ahead, a date if it has an offset. A parameter
+/// as it was sent is NULL if its bit is set, otherwise a byte string.
 #[inline(always)]
 pub(crate) fn typed_value(param: ExecuteParam<'_>) -> ValueRef<'_>
     ensures value { ref_content result ≡ value_of (param_of param.entry) }
@@ -41,8 +41,8 @@ pub(crate) fn typed_value(param: ExecuteParam<'_>) -> ValueRef<'_>
     }
 }
 
-/// The length of a parameter that is sent as the type of its value, or `usize::MAX` where that is less: 0 of one that was sent ahead,
-/// and of a byte string that is long data. The bytes of one as it was sent are all sent.
+/// The length of a parameter that is sent as the type of its value, or `usize::MAX` if it is greater: 0 if it was sent ahead,
+/// or is a byte string sent as long data. All bytes of a parameter as it was sent are sent.
 #[inline(always)]
 pub(crate) fn plain_len(param: ExecuteParam<'_>, as_long_data: bool) -> usize
     ensures value { result ≡ saturated (length (param_bytes as_long_data (param_of param.entry))) }
@@ -74,7 +74,7 @@ pub(crate) fn append_plain<O: Buffer>(param: ExecuteParam<'_>, as_long_data: boo
     }
 }
 
-/// Whether the type spells the value of the parameter, if the request sends one.
+/// Whether the value of the parameter fits the type, if the request sends one.
 #[inline(always)]
 pub(crate) fn is_spelled(param_type: ParamType, param: ExecuteParam<'_>) -> bool
     ensures value { result ≡ is_spelled_under param_type (param_of param.entry) }
@@ -105,8 +105,8 @@ fn sent_value(
     }
 }
 
-/// The length of a parameter under a type, or `usize::MAX` where that is less: 0 of one that was sent ahead, and of a byte string that is
-/// long data. The bytes of one as it was sent are all sent.
+/// The length of a parameter under a type, or `usize::MAX` if it is greater: 0 if it was sent ahead, or is a byte string sent
+/// as long data. All bytes of a parameter as it was sent are sent.
 #[inline(always)]
 pub(crate) fn sent_len(param_type: ParamType, param: ExecuteParam<'_>, as_long_data: bool) -> usize
     ensures value { result ≡ saturated (length (bytes_under as_long_data param_type (param_of param.entry))) }

@@ -1,4 +1,4 @@
-//! The types of parameters and attributes with their names, where they lie.
+//! Borrowed types of parameters and attributes, with their names.
 #![tactic(auto, using(mysql_wire::proofs::Packets::packets))]
 
 ghost use Rattle.std.specs.Prelude.{false, ◌≡◌, ◌≤◌, [], length, IfOk, OnErr};
@@ -47,7 +47,7 @@ fn read_type<'s, 'a>(
     })
 }
 
-/// Reads past so many types.
+/// Reads past `count` types.
 fn skip_types<'s>(has_names: bool, count: usize, buf: &mut ParseBuf<'_>) -> Result<(), FaultOf<'s>>
     ensures value { Answers false result buf.new ((spec.passed_types has_names count).reads buf.old) }
 {
@@ -91,7 +91,7 @@ impl<'a> SentParamTypes<'a> {
         }
     }
 
-    /// Reads so many types. Missing bytes are `UnexpectedEof`, and a type that is none is `InvalidData`. On an error the buffer is
+    /// Reads `count` types. Missing bytes are `UnexpectedEof`, and a type that is none is `InvalidData`. On an error the buffer is
     /// unchanged.
     #[tactic(auto, using(crate::proofs::SentTypes::places))]
     pub fn read<'s>(
@@ -114,7 +114,7 @@ impl<'a> SentParamTypes<'a> {
         })
     }
 
-    /// How many are left.
+    /// The number of remaining types.
     #[inline]
     pub fn left(&self) -> usize
         ensures value { result ≡ length self.now }
@@ -136,7 +136,7 @@ impl<'a> SentParamTypes<'a> {
         }
     }
 
-    /// The same types once more.
+    /// Copies the view, with the types that are left.
     #[inline(always)]
     pub fn again(&self) -> Self
         ensures value { result ≡ self.now }

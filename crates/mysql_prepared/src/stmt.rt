@@ -1,4 +1,4 @@
-//! The answer to a prepared statement.
+//! The answer to the preparation of a statement.
 #![tactic(auto, using(mysql_wire::proofs::Packets::packets), unfolding(crate::specs::Stmt::stmt))]
 
 ghost use Rattle.std.specs.Prelude.{◌≡◌, Some};
@@ -20,7 +20,7 @@ impl ConstFault for InvalidStmtPacketStatus {
     const MESSAGE: &'static str = "Invalid statement packet status";
 }
 
-/// What a server answers to a statement that it prepared: `COM_STMT_PREPARE_OK`.
+/// A server's answer to the preparation of a statement: `COM_STMT_PREPARE_OK`.
 ///
 /// It takes 12 bytes, numbers little-endian:
 ///
@@ -33,7 +33,12 @@ impl ConstFault for InvalidStmtPacketStatus {
 /// | 1 | skipped, with any value; written as 0 |
 /// | 2 | `warning_count` |
 ///
-/// Fewer than 12 bytes are refused as `UnexpectedEof`, another status as `InvalidData`.
+/// Fewer than 12 bytes are `UnexpectedEof`, another status is `InvalidData`.
+///
+/// ```
+/// let mut buf = ParseBuf::new(alloc, payload);
+/// let packet: StmtPacket = buf.parse(())?; // or UnexpectedEof, InvalidData(text): the buffer is as it was
+/// ```
 #[derive(Clone, Debug, PartialEq, Eq, Hash, Drop)]
 pub struct StmtPacket {
     status: ConstU8<InvalidStmtPacketStatus, 0>,
@@ -75,7 +80,7 @@ impl<'de> MyDeserialize<'de> for StmtPacket {
 }
 
 impl StmtPacket {
-    /// The answer for the statement of that number, with so many columns, parameters and warnings.
+    /// Creates the answer for the statement with this number, with these counts of columns, parameters and warnings.
     pub fn new(statement_id: u32, num_columns: u16, num_params: u16, warning_count: u16) -> Self
         ensures value { result ≡ spec.stmt_packet_of statement_id num_columns num_params warning_count }
     {
@@ -96,21 +101,21 @@ impl StmtPacket {
         self.statement_id.0
     }
 
-    /// How many columns a row of the statement's result has.
+    /// The number of columns of the statement's result.
     pub fn num_columns(&self) -> u16
         ensures value { result ≡ spec.num_columns self.now }
     {
         self.num_columns.0
     }
 
-    /// How many parameters the statement asks.
+    /// The number of the statement's parameters.
     pub fn num_params(&self) -> u16
         ensures value { result ≡ spec.num_params self.now }
     {
         self.num_params.0
     }
 
-    /// How many warnings the server counts.
+    /// The number of warnings.
     pub fn warning_count(&self) -> u16
         ensures value { result ≡ spec.warning_count self.now }
     {

@@ -1,4 +1,4 @@
-//! The answer to a prepared statement, under the flags of the connection.
+//! The answer to the preparation of a statement, under the flags of the connection.
 #![tactic(auto, using(mysql_wire::proofs::Packets::packets), unfolding(crate::specs::StmtWithMetadata::stmt_with_metadata))]
 
 ghost use Rattle.std.specs.Prelude.{◌≡◌, None, refl};
@@ -9,15 +9,20 @@ use mysql_wire::{
     AnyWidth, CapabilityFlags, FaultOf, Flags, MyDeserialize, ParseBuf, Parts, RawInt, Sink, parts,
 };
 
-/// What a server answers to a statement that it prepared, `COM_STMT_PREPARE_OK`, under the capabilities that both sides have
-/// agreed to.
+/// A server's answer to the preparation of a statement, `COM_STMT_PREPARE_OK`, under the capabilities that both sides agreed
+/// on.
 ///
 /// | Bytes | Field |
 /// |---|---|
 /// | 12 | the [`StmtPacket`] |
 /// | 1 | `metadata`, with CLIENT_OPTIONAL_RESULTSET_METADATA (`02000000`, in hexadecimal) alone: 1 where definitions of columns and parameters follow, 0 where they don't |
 ///
-/// Fewer bytes are refused as `UnexpectedEof`, another status of the statement packet as `InvalidData`. The metadata byte has any value.
+/// Fewer bytes are `UnexpectedEof`, another status of the statement packet is `InvalidData`. The metadata byte has any value.
+///
+/// ```
+/// let answer: StmtPacketWithMetadata = ParseBuf::new(alloc, payload).parse(agreed)?;
+/// Ok(answer.metadata() != Some(0) && answer.packet().num_columns() > 0)
+/// ```
 #[derive(Clone, Debug, PartialEq, Eq, Drop)]
 pub struct StmtPacketWithMetadata {
     packet: StmtPacket,
@@ -27,8 +32,8 @@ pub struct StmtPacketWithMetadata {
 impl StmtPacketWithMetadata {
     /// The statement packet with that metadata byte, or without one.
     ///
-    /// It is read again under capabilities with CLIENT_OPTIONAL_RESULTSET_METADATA where there is a byte, and under others
-    /// where there is none.
+    /// It is read back under capabilities with CLIENT_OPTIONAL_RESULTSET_METADATA if it has the byte, and under others if it
+    /// doesn't.
     pub fn new(packet: StmtPacket, metadata: Option<u8>) -> Self
         ensures packet { spec.packet_of result ≡ packet }
         ensures metadata { spec.metadata_of result ≡ metadata }

@@ -41,8 +41,13 @@ impl<'a> ItemForm<Option<&'a [u8]>> for AsText {
 
 /// Writes a text row (`ProtocolText::ResultsetRow`) to the end of a buffer, which grows once at the most.
 ///
-/// Each cell is the byte `fb` where there is no value, else a length-encoded string. Where that allocation fails, the buffer
-/// is as it was; it does not fail where the buffer has the capacity. The capacity never shrinks.
+/// Each cell is a length-encoded string, or the byte `fb` for NULL. If the allocation fails, the buffer is unchanged; it
+/// doesn't fail if the buffer has the capacity. The capacity never shrinks.
+///
+/// ```
+/// text_row_round_trips();
+/// write_text_row(cells, out)
+/// ```
 #[tactic(auto, using(crate::proofs::SentBytes::cells))]
 pub fn write_text_row(cells: &[Option<&[u8]>], out: &mut Vec<u8>) -> Result<(), AllocError>
     ensures ok { OnOk result (out.new.items ≡ out.old.items ++ text_row_bytes (map option_copied cells.now)) }

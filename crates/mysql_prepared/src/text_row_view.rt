@@ -13,8 +13,8 @@ use std::marker::Model;
 /// values as [`RowDeserializer`](crate::RowDeserializer), and the same fault; [`read_rest`](Self::read_rest) puts them into
 /// places of the caller's.
 ///
-/// In a clause it is how many values are left, those of them that are good, the bytes after the last, or the kind of the fault
-/// that ends them, and the bytes after those that were read.
+/// In a clause it is the number of remaining values, those of them before the first fault, the bytes after the last value or
+/// the kind of that fault, and the bytes after those that were read.
 ///
 /// ```
 /// let mut row = TextRowView::new(2, ParseBuf::new(alloc, payload));
@@ -35,7 +35,7 @@ impl<'a> Model for TextRowView<'a> {
 }
 
 impl<'a> TextRowView<'a> {
-    /// The row of so many columns.
+    /// The row of `columns` columns.
     #[inline(always)]
     pub fn new(columns: usize, buf: ParseBuf<'a>) -> Self
         ensures left { result.left ≡ columns }
@@ -45,7 +45,7 @@ impl<'a> TextRowView<'a> {
         TextRowView { buf, left: columns }
     }
 
-    /// How many values are left.
+    /// The number of remaining values.
     #[inline(always)]
     pub fn left(&self) -> usize
         ensures value { result ≡ self.now.left }
@@ -63,7 +63,7 @@ impl<'a> TextRowView<'a> {
         self.buf.rest()
     }
 
-    /// The next value, which is NULL or bytes, or none after the last. After a refusal the row is as it was.
+    /// The next value, which is NULL or bytes, or none after the last. After an error the row is unchanged.
     #[inline(always)]
     pub fn next_value<'s>(&mut self) -> Result<Option<ValueRef<'a>>, FaultOf<'s>>
         ensures value { GivesOne self.old result self.new }
@@ -78,10 +78,10 @@ impl<'a> TextRowView<'a> {
         Ok(Some(value))
     }
 
-    /// Reads the values that are left into the first of these places, of which there is one for each at least.
+    /// Reads the remaining values into the first of these places, of which there are at least as many.
     ///
-    /// After a refusal the values before the one that is refused are good: they are as many as there are fewer
-    /// [`left`](Self::left), and the row stands before that one. The other places are as they were.
+    /// After an error the values before the faulty one are read: [`left`](Self::left) has decreased by their number, and the
+    /// row continues at the faulty one. The other places are unchanged.
     #[inline(always)]
     pub fn read_rest<'s>(&mut self, values: &mut [ValueRef<'a>]) -> Result<(), FaultOf<'s>>
         requires { self.old.left ≤ length values.old }

@@ -1,4 +1,4 @@
-//! What a reader of binary rows asks of a column.
+//! The properties of a column that a reader of binary rows needs.
 
 ghost use Rattle.std.specs.Prelude.{◌≡◌};
 
@@ -7,7 +7,7 @@ use mysql_wire::{ColumnFlags, ColumnType, Flags};
 
 /// A column as a reader of binary rows sees it: its type, and whether its numbers have no sign.
 ///
-/// [`Column`] and [`ColumnRef`] are ones, and so is a type of the caller's own, which may keep these two alone.
+/// [`Column`] and [`ColumnRef`] implement it, and so can a type of the caller's that keeps only these two.
 pub trait TypedColumn {
     ghost use Rattle.std.specs.Prelude.{Bool};
     ghost use Rattle.mysql_wire.specs.declared.codes.column_type.ColumnType.{ColumnType};

@@ -1,4 +1,4 @@
-//! A parameter of an execution with the type that is chosen for it, and why an execution is refused.
+//! Parameters of an execution with chosen types, and the errors of an execution.
 
 ghost use Rattle.std.specs.Prelude.{◌≡◌, not, position};
 ghost use Rattle.mysql_prepared.specs.SentParam as spec;
@@ -9,9 +9,18 @@ use mysql_values::ParamType;
 use std::alloc::AllocError;
 use thiserror::Error;
 
-/// A parameter of an execution, and the type that it has: the one that is sent, or that of an earlier execution where none is sent.
+/// A parameter of an execution, and its type: the one that is sent, or that of an earlier execution if none is sent.
 ///
-/// A value is spelled under it: a number in as many bytes as the type says.
+/// A value is encoded under it: an integer in the width of the type.
+///
+/// ```
+/// let tiny = ParamType::new(ColumnType::MYSQL_TYPE_TINY, StmtExecuteParamFlags::UNSIGNED);
+/// TypedExecuteParam {
+///     param_type: tiny,
+///     name: b"",
+///     param: ExecuteParam::Value(ValueRef::UInt(value)),
+/// }
+/// ```
 #[derive(Clone, Copy, Debug, PartialEq)]
 pub struct TypedExecuteParam<'a> {
     /// The type.
@@ -22,7 +31,7 @@ pub struct TypedExecuteParam<'a> {
     pub param: ExecuteParam<'a>,
 }
 
-/// It is sent with its own type and name.
+/// A parameter with a chosen type is sent with that type and its own name.
 impl AsExecuteParam for TypedExecuteParam<'_> {
     ghost use Rattle.mysql_prepared.specs.ExecuteParam.{param_of};
 
@@ -46,23 +55,23 @@ impl AsExecuteParam for TypedExecuteParam<'_> {
     }
 }
 
-/// Why an execution or a query with attributes was refused.
+/// The error of an execution or a query with attributes that can't be sent.
 #[derive(Clone, Copy, Debug, PartialEq, Eq, Error)]
 pub enum TypedExecutionError {
-    /// The type of the parameter at this place does not spell its value. It is the first such parameter.
-    #[error("Value that its type does not spell")]
-    UnspelledValue {
+    /// The value of the parameter at this place doesn't fit its type. It is the first such parameter.
+    #[error("value of a parameter does not fit its type")]
+    TypeMismatch {
         /// The place.
         place: usize,
     },
-    /// The type of the attribute at this place does not spell its value. It is the first such attribute, and the types of all
-    /// parameters spell their values.
-    #[error("Value of an attribute that its type does not spell")]
-    UnspelledAttribute {
+    /// The value of the attribute at this place doesn't fit its type. It is the first such attribute, and all parameters fit
+    /// their types.
+    #[error("value of an attribute does not fit its type")]
+    AttributeTypeMismatch {
         /// The place.
         place: usize,
     },
-    /// Memory was refused.
+    /// The allocation failed.
     #[error("Memory")]
     Memory,
 }
@@ -78,7 +87,7 @@ impl From<AllocError> for TypedExecutionError {
     }
 }
 
-/// The place of the first value that its type does not spell.
+/// Returns the place of the first value that doesn't fit its type.
 #[inline(always)]
 fn unspelled_at<V: AsExecuteParam>(values: &[V]) -> Option<usize>
     ensures value { result ≡ position (λ v. not (spec.is_spelled_under (V.named_type v).param_type (V.param v))) values.now }
@@ -86,7 +95,7 @@ fn unspelled_at<V: AsExecuteParam>(values: &[V]) -> Option<usize>
     values.iter().position(|value| !value.is_spelled())
 }
 
-/// The same of the values as they are sent.
+/// The position of the first value that its type cannot encode.
 #[inline(always)]
 #[tactic(auto, using(crate::proofs::SentBytes::first_of))]
 pub(crate) fn first_unspelled<V: AsExecuteParam>(values: &[V]) -> Option<usize>

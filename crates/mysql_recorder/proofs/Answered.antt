@@ -2,29 +2,30 @@
 use Rattle.std.proofs.Common.{◌≡◌, ◌⊎◌, inl, inr, ℕ, Bool, true, false, List, [], ◌∷◌, ◌++◌, Option, Some, None, Result, Ok, Err, OnOk, MatchResult, refl, sym, ap, subst, ◌∙◌, append_assoc, append-nil}
 use Rattle.std.specs.Io.KnownBytes.{Appends}
 use Rattle.mysql_conversation.specs.Pipelined.{Numbered}
-use Rattle.mysql_conversation.specs.declared.kind.Side.{Side}
-use Rattle.mysql_conversation.specs.declared.kind_name.KindName.{KindName}
-use Rattle.mysql_conversation.specs.declared.pipeline.Refusal.{Refusal}
-use Rattle.mysql_fields.specs.Entries.{Stays}
-use Rattle.mysql_fields.specs.Fields.{Said}
-use Rattle.mysql_fields.specs.declared.entry.Layout.{Layout}
-use Rattle.mysql_fields.specs.declared.entry.Layout.TheVariants as layouts
+use Rattle.mysql_conversation.specs.declared.packet_kind.Side.{Side}
+use Rattle.mysql_conversation.specs.declared.packet_kind_tag.PacketKindTag.{PacketKindTag}
+use Rattle.mysql_conversation.specs.declared.pipeline.SessionError.{SessionError}
+use Rattle.mysql_show.specs.Appended.{Stays}
+use Rattle.mysql_show.specs.Fields.{Said}
+use Rattle.mysql_recorder.specs.declared.entry.Layout.{Layout}
+use Rattle.mysql_recorder.specs.declared.entry.Layout.TheVariants as layouts
 use Rattle.mysql_recorder.specs.Answers.{BeginsMade, Ends, EndsWith, error_line, error_name, FailsIn, GoesNoFurther, HasLost, IsAnswer, IsDone, IsErrorWritten, IsLineEnd, IsMade, IsRefused, lost_status, LostIn, RefusedIn, SaysError, SaysName, Takes}
 use Rattle.mysql_recorder.specs.Losses.{IsAtFeed, IsLost, Loses, LosesIn}
-use Rattle.mysql_output.specs.Output.{Answer, IsWritten}
+use Rattle.mysql_show.specs.Output.{Answer, IsWritten}
 use Rattle.mysql_recorder.specs.Recorded as recorded
 use Rattle.mysql_recorder.specs.Recorded.{Recorded}
 use Rattle.mysql_recorder.specs.Refusals.{IfRefused}
 use Rattle.mysql_recorder.specs.Refused.{ShowsRefused}
 use Rattle.mysql_recorder.specs.Shown as shown
-use Rattle.mysql_recorder.specs.Shown.{AppendsEntry, Entry, entry_line, entry_of, Item, Writes}
+use Rattle.mysql_recorder.specs.Entries.{AppendsEntry, Entry, entry_line}
+use Rattle.mysql_recorder.specs.Shown.{entry_of, Item, Writes}
 use Rattle.mysql_recorder.specs.Stops.{StopsAfter, StopsIn}
 use Rattle.mysql_recorder.specs.declared.error.RecordingError.{RecordingError}
 use Rattle.mysql_recorder.specs.declared.error.RecordingError.TheVariants as error
 use Rattle.mysql_recorder.specs.declared.recording.Recording.{Recording}
 use Rattle.mysql_recorder.proofs.Frames.{writes_then}
 use Rattle.mysql_recorder.proofs.Losses.{feed_more, is_lost_where}
-use Rattle.mysql_output.proofs.Outputs.{cut_after, cut_longer, written_after}
+use Rattle.mysql_show.proofs.Outputs.{cut_after, cut_longer, written_after}
 use Rattle.mysql_recorder.proofs.Seen.{recorded_shown}
 use Rattle.mysql_recorder.proofs.Stays.{stays_same, stays_then}
 
@@ -47,25 +48,25 @@ writes_after : (w : List ℕ) (layout : Layout) (xs : List Item) (a b : List ℕ
 writes_after w layout [] a b h = ap (λ (l : List ℕ). w ++ l) h
 writes_after w layout (x ∷ xs) a b h = (w ++ h.0, appends_after w layout (entry_of x) a h.0 h.1, writes_after w layout xs h.0 b h.2)
 
-refused_after : (w : List ℕ) (all : List KindName) (layout : Layout) (side : Side) (sequence : ℕ) (payload : List ℕ) (items : List Numbered) (why : Refusal) (a b : List ℕ)
+refused_after : (w : List ℕ) (all : List PacketKindTag) (layout : Layout) (side : Side) (sequence : ℕ) (payload : List ℕ) (items : List Numbered) (why : SessionError) (a b : List ℕ)
     → ShowsRefused all layout side sequence payload items why a b → ShowsRefused all layout side sequence payload items why (w ++ a) (w ++ b)
 refused_after w all layout side sequence payload items why a b h = (h.0, h.1, h.2, is_after w a b _ h.3, h.4, h.5, h.6)
 
-stops_in_after : (w : List ℕ) (all : List KindName) (layout : Layout) (side : Side) (bytes : List ℕ) (items : List Item) (why : Refusal) (a b : List ℕ)
+stops_in_after : (w : List ℕ) (all : List PacketKindTag) (layout : Layout) (side : Side) (bytes : List ℕ) (items : List Item) (why : SessionError) (a b : List ℕ)
     → StopsIn all layout side bytes items why a b → StopsIn all layout side bytes items why (w ++ a) (w ++ b)
 stops_in_after w all layout side bytes items why a b h =
     (h.0, h.1, h.2, h.3, h.4, h.5, w ++ h.6, h.7, h.8, h.9, writes_after w layout h.0 a h.6 h.10, h.11, refused_after w all layout side h.1 h.2 _ why h.6 b h.12)
 
-stops_after_after : (w : List ℕ) (all : List KindName) (layout : Layout) (text : List ℕ) (items : List Item) (why : Refusal) (a b : List ℕ)
+stops_after_after : (w : List ℕ) (all : List PacketKindTag) (layout : Layout) (text : List ℕ) (items : List Item) (why : SessionError) (a b : List ℕ)
     → StopsAfter all layout text items why a b → StopsAfter all layout text items why (w ++ a) (w ++ b)
 stops_after_after w all layout text items why a b h = record { side = h.side; bytes = h.bytes; shown = h.shown; stops = stops_in_after w all layout h.side _ items why a b h.stops }
 
-loses_in_after : (w : List ℕ) (all : List KindName) (layout : Layout) (limit : ℕ) (side : Side) (bytes : List ℕ) (items : List Item) (a b : List ℕ)
+loses_in_after : (w : List ℕ) (all : List PacketKindTag) (layout : Layout) (limit : ℕ) (side : Side) (bytes : List ℕ) (items : List Item) (a b : List ℕ)
     → LosesIn all layout limit side bytes items a b → LosesIn all layout limit side bytes items (w ++ a) (w ++ b)
 loses_in_after w all layout limit side bytes items a b (inl h) = inl (h.0, h.1, h.2, h.3, writes_after w layout h.0 a b h.4, h.5, h.6)
 loses_in_after w all layout limit side bytes items a b (inr h) = inr (h.0, stops_in_after w all layout side bytes items h.0 a b h.1)
 
-lost_after : (w : List ℕ) (all : List KindName) (layout : Layout) (limit : ℕ) (ends : Type 0) (text : List ℕ) (items : List Item) (a b : List ℕ)
+lost_after : (w : List ℕ) (all : List PacketKindTag) (layout : Layout) (limit : ℕ) (ends : Type 0) (text : List ℕ) (items : List Item) (a b : List ℕ)
     → IsLost all layout limit ends text items a b → IsLost all layout limit ends text items (w ++ a) (w ++ b)
 lost_after w all layout limit ends text items a b (inl h) = inl (record { side = h.side; bytes = h.bytes; shown = h.shown; loses = loses_in_after w all layout limit h.side _ items a b h.loses })
 lost_after w all layout limit ends text items a b (inr h) = inr (h.0, h.1, ap (λ (l : List ℕ). w ++ l) h.2)
@@ -77,15 +78,15 @@ writes_more layout xs ys w t h g = writes_then layout xs ys [] w (w ++ t) h (sub
 -- ---- amid an input
 
 -- of this input what is shown stands there, and the recording stands after it
-abbrev pub IsAmid : List KindName → Layout → ℕ → Recording → List ℕ → List ℕ → Type 0
+abbrev pub IsAmid : List PacketKindTag → Layout → ℕ → Recording → List ℕ → List ℕ → Type 0
 IsAmid all layout limit r input text =
     ((items : List Item) × Recorded r input items × Writes layout items [] text) ⊎ ((recorded.has_lost r ≡ true) × LostIn all layout limit IsAtFeed input text)
 
-pub amid_made : (all : List KindName) (layout : Layout) (limit : ℕ) (r : Recording) (x w : List ℕ) → IsAmid all layout limit r x w → IsMade all layout limit x w
+pub amid_made : (all : List PacketKindTag) (layout : Layout) (limit : ℕ) (r : Recording) (x w : List ℕ) → IsAmid all layout limit r x w → IsMade all layout limit x w
 amid_made all layout limit r x w (inl h) = let seen = recorded_shown r x h.0 h.1 in inl (seen.0, (h.0, seen.1, h.2))
 amid_made all layout limit r x w (inr h) = inr h.1
 
-lost_more : (all : List KindName) (layout : Layout) (limit : ℕ) (x p w t : List ℕ) → LostIn all layout limit IsAtFeed x w → LostIn all layout limit IsAtFeed (x ++ p) (w ++ t)
+lost_more : (all : List PacketKindTag) (layout : Layout) (limit : ℕ) (x p w t : List ℕ) → LostIn all layout limit IsAtFeed x w → LostIn all layout limit IsAtFeed (x ++ p) (w ++ t)
 lost_more all layout limit x p w t l = (
   l.0,
   l.1 ++ p,
@@ -98,12 +99,12 @@ lost_more all layout limit x p w t l = (
   stays_then l.4 w (w ++ t) l.8 (t, refl),
 )
 
-lost_ends : (all : List KindName) (layout : Layout) (limit : ℕ) (x w t : List ℕ) → LostIn all layout limit IsAtFeed x w → LostIn all layout limit IsLineEnd x (w ++ t)
+lost_ends : (all : List PacketKindTag) (layout : Layout) (limit : ℕ) (x w t : List ℕ) → LostIn all layout limit IsAtFeed x w → LostIn all layout limit IsLineEnd x (w ++ t)
 lost_ends all layout limit x w t l =
     (l.0, l.1, l.2, l.3, l.4, l.5, l.6, is_lost_where all layout limit (IsAtFeed l.1) (IsLineEnd l.1) l.0 l.2 l.3 l.4 (λ f. inl f) l.7, stays_then l.4 w (w ++ t) l.8 (t, refl))
 
 -- something is lost in a piece; what is shown up to there is followed by what stays of it
-lost_here : (r : Result (Unit {0}) RecordingError) (all : List KindName) (old new : Recording) (x p w t : List ℕ) (items : List Item)
+lost_here : (r : Result (Unit {0}) RecordingError) (all : List PacketKindTag) (old new : Recording) (x p w t : List ℕ) (items : List Item)
     → Recorded old x items → Writes (recorded.layout old) items [] w → Loses r all p old new [] t → recorded.has_lost new ≡ true
     → (mid : List ℕ) × OnOk r (Stays mid t) × ((text : List ℕ) → Stays mid text → LostIn all (recorded.layout old) (recorded.longest old) IsAtFeed (x ++ p) (w ++ text))
 lost_here r all old new x p w t items h writes loses lost =
@@ -123,7 +124,7 @@ lost_here r all old new x p w t items h writes loses lost =
       ),
     )
 
-amid_here : (all : List KindName) (old new : Recording) (x p w t : List ℕ) → Takes (Ok tt) all p old new t
+amid_here : (all : List PacketKindTag) (old new : Recording) (x p w t : List ℕ) → Takes (Ok tt) all p old new t
     → IsAmid all (recorded.layout old) (recorded.longest old) old x w → IsAmid all (recorded.layout old) (recorded.longest old) new (x ++ p) (w ++ t)
 amid_here all old new x p w t takes (inl h) =
     elim (takes.goes x h.0 h.1) as (λ _. IsAmid all (recorded.layout old) (recorded.longest old) new (x ++ p) (w ++ t)) [
@@ -132,13 +133,13 @@ amid_here all old new x p w t takes (inl h) =
     ]
 amid_here all old new x p w t takes (inr h) = inr (takes.lost h.0, lost_more all (recorded.layout old) (recorded.longest old) x p w t h.1)
 
-pub amid_more : (all : List KindName) (layout : Layout) (limit : ℕ) (old new : Recording) (x p w t : List ℕ) → recorded.layout old ≡ layout → recorded.longest old ≡ limit
+pub amid_more : (all : List PacketKindTag) (layout : Layout) (limit : ℕ) (old new : Recording) (x p w t : List ℕ) → recorded.layout old ≡ layout → recorded.longest old ≡ limit
     → Takes (Ok tt) all p old new t → IsAmid all layout limit old x w → IsAmid all layout limit new (x ++ p) (w ++ t)
 amid_more all layout limit old new x p w t same long takes =
     subst (λ s. IsAmid all s limit old x w → IsAmid all s limit new (x ++ p) (w ++ t)) same
     (subst (λ n. IsAmid all (recorded.layout old) n old x w → IsAmid all (recorded.layout old) n new (x ++ p) (w ++ t)) long (amid_here all old new x p w t takes))
 
-pub amid_none : (all : List KindName) (layout : Layout) (limit : ℕ) (r : Recording) → Recorded r [] [] → IsAmid all layout limit r [] []
+pub amid_none : (all : List PacketKindTag) (layout : Layout) (limit : ℕ) (r : Recording) → Recorded r [] [] → IsAmid all layout limit r [] []
 amid_none all layout limit r h = inl ([], h, refl)
 
 -- ---- answers
@@ -169,32 +170,32 @@ line_for : (layout : Layout) (e : RecordingError) → (line : List ℕ) × SaysE
 line_for layout e = line_named layout (error_name e)
 
 -- the first three
-done : (all : List KindName) (layout : Layout) (limit : ℕ) (sums : Bool) (at_end : Type 0) (input : List ℕ) (answer : Answer) → at_end → IsDone layout sums input answer
+done : (all : List PacketKindTag) (layout : Layout) (limit : ℕ) (sums : Bool) (at_end : Type 0) (input : List ℕ) (answer : Answer) → at_end → IsDone layout sums input answer
     → IsAnswer all layout limit sums at_end input answer
 done all layout limit sums at_end input answer e h = inl (e, h)
 
-lost : (all : List KindName) (layout : Layout) (limit : ℕ) (sums : Bool) (at_end : Type 0) (input : List ℕ) (answer : Answer) → at_end → HasLost all layout limit sums input answer
+lost : (all : List PacketKindTag) (layout : Layout) (limit : ℕ) (sums : Bool) (at_end : Type 0) (input : List ℕ) (answer : Answer) → at_end → HasLost all layout limit sums input answer
     → IsAnswer all layout limit sums at_end input answer
 lost all layout limit sums at_end input answer e h = inr (inl (e, h))
 
-refused : (all : List KindName) (layout : Layout) (limit : ℕ) (sums : Bool) (at_end : Type 0) (input : List ℕ) (answer : Answer) → IsRefused all layout sums input answer
+refused : (all : List PacketKindTag) (layout : Layout) (limit : ℕ) (sums : Bool) (at_end : Type 0) (input : List ℕ) (answer : Answer) → IsRefused all layout sums input answer
     → IsAnswer all layout limit sums at_end input answer
 refused all layout limit sums at_end input answer h = inr (inr (inl h))
 
-no_further : (all : List KindName) (layout : Layout) (limit : ℕ) (sums : Bool) (at_end : Type 0) (input : List ℕ) (answer : Answer) → GoesNoFurther all layout limit sums input answer
+no_further : (all : List PacketKindTag) (layout : Layout) (limit : ℕ) (sums : Bool) (at_end : Type 0) (input : List ℕ) (answer : Answer) → GoesNoFurther all layout limit sums input answer
     → IsAnswer all layout limit sums at_end input answer
 no_further all layout limit sums at_end input answer h = inr (inr (inr (inl h)))
 
-pub cut_off : (all : List KindName) (layout : Layout) (limit : ℕ) (sums : Bool) (at_end : Type 0) (r : Recording) (x w : List ℕ) → IsAmid all layout limit r x w
+pub cut_off : (all : List PacketKindTag) (layout : Layout) (limit : ℕ) (sums : Bool) (at_end : Type 0) (r : Recording) (x w : List ℕ) → IsAmid all layout limit r x w
     → IsAnswer all layout limit sums at_end x (record { text = w; status = 3 })
 cut_off all layout limit sums at_end r x w h = inr (inr (inr (inr (record { made = amid_made all layout limit r x w h; status = refl }))))
 
 -- what is shown of a front of it
-begins_made : (all : List KindName) (layout : Layout) (limit : ℕ) (r : Recording) (x p w t : List ℕ) → IsAmid all layout limit r x w → BeginsMade all layout limit (x ++ p) (w ++ t)
+begins_made : (all : List PacketKindTag) (layout : Layout) (limit : ℕ) (r : Recording) (x p w t : List ℕ) → IsAmid all layout limit r x w → BeginsMade all layout limit (x ++ p) (w ++ t)
 begins_made all layout limit r x p w t h = (x, p, w, refl, amid_made all layout limit r x w h, (t, refl))
 
 -- after something is lost
-after_lost : (all : List KindName) (layout : Layout) (limit : ℕ) (sums : Bool) (at_end : Type 0) (r : Recording) (x p w t text line : List ℕ) (e : RecordingError) (answer : Answer)
+after_lost : (all : List PacketKindTag) (layout : Layout) (limit : ℕ) (sums : Bool) (at_end : Type 0) (r : Recording) (x p w t text line : List ℕ) (e : RecordingError) (answer : Answer)
     → IsAmid all layout limit r x w → LostIn all layout limit IsAtFeed (x ++ p) text → SaysError layout e line → EndsWith sums ((w ++ t) ++ line) 1 answer
     → IsAnswer all layout limit sums at_end (x ++ p) answer
 after_lost all layout limit sums at_end r x p w t text line e answer h l says ends =
@@ -209,8 +210,8 @@ after_lost all layout limit sums at_end r x p w t text line e answer h l says en
     })
 
 -- for another reason
-for_another : (all : List KindName) (layout : Layout) (limit : ℕ) (sums : Bool) (at_end : Type 0) (r : Recording) (x p w t line : List ℕ) (e : RecordingError) (answer : Answer)
-    → IsAmid all layout limit r x w → ((P : Refusal → Type 0) → IfRefused e P) → SaysError layout e line → EndsWith sums ((w ++ t) ++ line) 1 answer
+for_another : (all : List PacketKindTag) (layout : Layout) (limit : ℕ) (sums : Bool) (at_end : Type 0) (r : Recording) (x p w t line : List ℕ) (e : RecordingError) (answer : Answer)
+    → IsAmid all layout limit r x w → ((P : SessionError → Type 0) → IfRefused e P) → SaysError layout e line → EndsWith sums ((w ++ t) ++ line) 1 answer
     → IsAnswer all layout limit sums at_end (x ++ p) answer
 for_another all layout limit sums at_end r x p w t line e answer h other says ends =
     no_further all layout limit sums at_end (x ++ p) answer (record {
@@ -224,7 +225,7 @@ for_another all layout limit sums at_end r x p w t line e answer h other says en
     })
 
 -- a packet doesn't come, or it is for another reason
-stopped : (all : List KindName) (layout : Layout) (limit : ℕ) (sums : Bool) (at_end : Type 0) (r : Recording) (x p w t line : List ℕ) (e : RecordingError) (answer : Answer)
+stopped : (all : List PacketKindTag) (layout : Layout) (limit : ℕ) (sums : Bool) (at_end : Type 0) (r : Recording) (x p w t line : List ℕ) (e : RecordingError) (answer : Answer)
     → IsAmid all layout limit r x w → IfRefused e (λ why. RefusedIn all layout why (x ++ p) (w ++ t)) → SaysError layout e line → EndsWith sums ((w ++ t) ++ line) 1 answer
     → IsAnswer all layout limit sums at_end (x ++ p) answer
 stopped all layout limit sums at_end r x p w t line (error.Refused why) answer h stops says ends =
@@ -246,7 +247,7 @@ stopped all layout limit sums at_end r x p w t line error.Missing answer h stops
     for_another all layout limit sums at_end r x p w t line error.Missing answer h (λ P. tt) says ends
 
 -- of what stops amid a piece
-piece_refused : (all : List KindName) (layout : Layout) (e : RecordingError) (x p w t : List ℕ) (items : List Item) → Writes layout items [] w
+piece_refused : (all : List PacketKindTag) (layout : Layout) (e : RecordingError) (x p w t : List ℕ) (items : List Item) → Writes layout items [] w
     → IfRefused e (λ why. (front : List ℕ) × (back : List ℕ) × (here : List Item) × (mid : List ℕ) × (p ≡ front ++ back)
     × Writes layout here [] mid × StopsAfter all layout (x ++ front) (items ++ here) why mid t)
     → IfRefused e (λ why. RefusedIn all layout why (x ++ p) (w ++ t))
@@ -258,7 +259,7 @@ piece_refused all layout error.OutOfOrder x p w t items writes s = tt
 piece_refused all layout error.TooLong x p w t items writes s = tt
 piece_refused all layout error.Missing x p w t items writes s = tt
 
-end_refused : (all : List KindName) (layout : Layout) (e : RecordingError) (x w t : List ℕ) (items : List Item) → Writes layout items [] w
+end_refused : (all : List PacketKindTag) (layout : Layout) (e : RecordingError) (x w t : List ℕ) (items : List Item) → Writes layout items [] w
     → IfRefused e (λ why. StopsAfter all layout x items why [] t) → IfRefused e (λ why. RefusedIn all layout why (x ++ []) (w ++ t))
 end_refused all layout (error.Refused why) x w t items writes s =
     (x, [], items, w, refl, writes, subst (λ l. StopsAfter all layout x items why l (w ++ t)) (append-nil w) (stops_after_after w all layout x items why [] t s))
@@ -268,7 +269,7 @@ end_refused all layout error.OutOfOrder x w t items writes s = tt
 end_refused all layout error.TooLong x w t items writes s = tt
 end_refused all layout error.Missing x w t items writes s = tt
 
-piece_stops : (all : List KindName) (sums : Bool) (at_end : Type 0) (old new : Recording) (x p w t line : List ℕ) (e : RecordingError) (answer : Answer) → Takes (Err e) all p old new t
+piece_stops : (all : List PacketKindTag) (sums : Bool) (at_end : Type 0) (old new : Recording) (x p w t line : List ℕ) (e : RecordingError) (answer : Answer) → Takes (Err e) all p old new t
     → IsAmid all (recorded.layout old) (recorded.longest old) old x w → SaysError (recorded.layout old) e line → EndsWith sums ((w ++ t) ++ line) 1 answer
     → IsAnswer all (recorded.layout old) (recorded.longest old) sums at_end (x ++ p) answer
 piece_stops all sums at_end old new x p w t line e answer takes (inl h) says ends =
@@ -281,7 +282,7 @@ piece_stops all sums at_end old new x p w t line e answer takes (inl h) says end
 piece_stops all sums at_end old new x p w t line e answer takes (inr h) says ends =
     after_lost all (recorded.layout old) (recorded.longest old) sums at_end old x p w t (w ++ t) line e answer (inr h) (lost_more all (recorded.layout old) (recorded.longest old) x p w t h.1) says ends
 
-end_stops : (all : List KindName) (sums : Bool) (at_end : Type 0) (old new : Recording) (x w t line : List ℕ) (e : RecordingError) (answer : Answer) → Ends (Err e) all old new t
+end_stops : (all : List PacketKindTag) (sums : Bool) (at_end : Type 0) (old new : Recording) (x w t line : List ℕ) (e : RecordingError) (answer : Answer) → Ends (Err e) all old new t
     → IsAmid all (recorded.layout old) (recorded.longest old) old x w → SaysError (recorded.layout old) e line → EndsWith sums ((w ++ t) ++ line) 1 answer
     → IsAnswer all (recorded.layout old) (recorded.longest old) sums at_end (x ++ []) answer
 end_stops all sums at_end old new x w t line e answer takes (inl h) says ends =
@@ -290,7 +291,7 @@ end_stops all sums at_end old new x w t line e answer takes (inr h) says ends =
     after_lost all (recorded.layout old) (recorded.longest old) sums at_end old x [] w t (w ++ t) line e answer (inr h) (lost_more all (recorded.layout old) (recorded.longest old) x [] w t h.1) says ends
 
 -- the input is at its end
-no_more : (all : List KindName) (old new : Recording) (x w t : List ℕ) (items : List Item) → Recorded old x items → Writes (recorded.layout old) items [] w
+no_more : (all : List PacketKindTag) (old new : Recording) (x w t : List ℕ) (items : List Item) → Recorded old x items → Writes (recorded.layout old) items [] w
     → Ends (Ok tt) all old new t → recorded.has_lost new ≡ true → LostIn all (recorded.layout old) (recorded.longest old) IsLineEnd x (w ++ t)
 no_more all old new x w t items h writes says lost_now =
     let l = says.loses lost_now x items h in (
@@ -307,7 +308,7 @@ no_more all old new x w t items h writes says lost_now =
       stays_after w l.0 t l.2,
     )
 
-finished : (all : List KindName) (sums has_lost : Bool) (at_end : Type 0) (old new : Recording) (x w t : List ℕ) (answer : Answer) → Ends (Ok tt) all old new t → recorded.has_lost new ≡ has_lost → at_end
+finished : (all : List PacketKindTag) (sums has_lost : Bool) (at_end : Type 0) (old new : Recording) (x w t : List ℕ) (answer : Answer) → Ends (Ok tt) all old new t → recorded.has_lost new ≡ has_lost → at_end
     → IsAmid all (recorded.layout old) (recorded.longest old) old x w → EndsWith sums (w ++ t) (lost_status has_lost) answer
     → IsAnswer all (recorded.layout old) (recorded.longest old) sums at_end x answer
 finished all sums true at_end old new x w t answer says is here (inl h) ends =
@@ -325,12 +326,12 @@ finished all sums false at_end old new x w t answer says is here (inr h) ends = 
 -- ---- what is written of it
 
 -- An answer that is written, where it is amid this input it is that of this one.
-pub record IsGiven (all : List KindName) (layout : Layout) (limit : ℕ) (sums : Bool) (at_end : Type 0) (r : Recording) (x w input : List ℕ) (old new : Option (List ℕ)) (status : ℕ) : Type 0 where
+pub record IsGiven (all : List PacketKindTag) (layout : Layout) (limit : ℕ) (sums : Bool) (at_end : Type 0) (r : Recording) (x w input : List ℕ) (old new : Option (List ℕ)) (status : ℕ) : Type 0 where
   pub answer : Answer
   pub answers : IsAmid all layout limit r x w → IsAnswer all layout limit sums at_end input answer
   pub written : IsWritten answer old new status
 
-error_given : (all : List KindName) (sums : Bool) (at_end : Type 0) (r : Recording) (x w t input : List ℕ) (e : RecordingError) (a b c : Option (List ℕ)) (status : ℕ) → Appends a b w
+error_given : (all : List PacketKindTag) (sums : Bool) (at_end : Type 0) (r : Recording) (x w t input : List ℕ) (e : RecordingError) (a b c : Option (List ℕ)) (status : ℕ) → Appends a b w
     → ((line : List ℕ) (answer : Answer) → IsAmid all (recorded.layout r) (recorded.longest r) r x w → SaysError (recorded.layout r) e line → EndsWith sums ((w ++ t) ++ line) 1 answer
     → IsAnswer all (recorded.layout r) (recorded.longest r) sums at_end input answer)
     → FailsIn t b c status ⊎ IsErrorWritten (recorded.layout r) sums e t b c status
@@ -351,7 +352,7 @@ error_given all sums at_end r x w t input e a b c status first stops (inr h) =
       written = written_after w h.1 a b c status first h.4;
     }
 
-pub piece_given : (r : Result (Unit {0}) RecordingError) (all : List KindName) (sums : Bool) (at_end : Type 0) (old new : Recording) (x p w t : List ℕ) (a b c : Option (List ℕ)) (status : ℕ) → Appends a b w
+pub piece_given : (r : Result (Unit {0}) RecordingError) (all : List PacketKindTag) (sums : Bool) (at_end : Type 0) (old new : Recording) (x p w t : List ℕ) (a b c : Option (List ℕ)) (status : ℕ) → Appends a b w
     → Takes r all p old new t → FailsIn t b c status ⊎ MatchResult r (λ _. ⊥) (λ e. IsErrorWritten (recorded.layout old) sums e t b c status)
     → IsGiven all (recorded.layout old) (recorded.longest old) sums at_end old x w (x ++ p) a c status
 piece_given (Ok u) all sums at_end old new x p w t a b c status first takes (inl fails) = record {
@@ -363,7 +364,7 @@ piece_given (Ok u) all sums at_end old new x p w t a b c status first takes (inr
 piece_given (Err e) all sums at_end old new x p w t a b c status first takes ends =
     error_given all sums at_end old x w t (x ++ p) e a b c status first (λ line answer h says with. piece_stops all sums at_end old new x p w t line e answer takes h says with) ends
 
-pub end_given : (r : Result (Unit {0}) RecordingError) (all : List KindName) (sums : Bool) (at_end : Type 0) (old new : Recording) (x w t : List ℕ) (a b c : Option (List ℕ)) (status : ℕ) → Appends a b w
+pub end_given : (r : Result (Unit {0}) RecordingError) (all : List PacketKindTag) (sums : Bool) (at_end : Type 0) (old new : Recording) (x w t : List ℕ) (a b c : Option (List ℕ)) (status : ℕ) → Appends a b w
     → Ends r all old new t → at_end
     → FailsIn t b c status ⊎ MatchResult r
     (λ _. (answer : Answer) × EndsWith sums t (lost_status (recorded.has_lost new)) answer × IsWritten answer b c status)

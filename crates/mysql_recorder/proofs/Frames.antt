@@ -1,7 +1,7 @@
 -- Packets of streams, piece by piece.
 use Rattle.std.proofs.Common.{◌≡◌, Bool, true, false, ℕ, ◌+◌, ◌<◌, ◌≤◌, zero, suc, List, [], ◌∷◌, ◌++◌, length, slice_index, refl, sym, ap, subst, ◌∙◌, append_assoc, append-nil, length-append, arith}
-use Rattle.mysql_conversation.specs.declared.kind.Side.{Side}
-use Rattle.mysql_fields.specs.declared.entry.Layout.{Layout}
+use Rattle.mysql_conversation.specs.declared.packet_kind.Side.{Side}
+use Rattle.mysql_recorder.specs.declared.entry.Layout.{Layout}
 use Rattle.mysql_frames.specs.FrameReader.{ReaderState, NoneWhole, HandsOut, HoldsAll}
 use Rattle.mysql_frames.specs.Frames.{FramedIn, Framed, most, next}
 use Rattle.mysql_frames.proofs.Peel.{four}

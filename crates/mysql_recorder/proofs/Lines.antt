@@ -1,7 +1,7 @@
 -- One more byte of a line.
 use Rattle.std.proofs.Common.{zero, suc, length, take, get_or, ◌<◌, Result, Ok, Err, OnOk, ◌≡◌, inl, inr, ℕ, ◌+◌, ◌*◌, ◌≤◌, List, [], ◌∷◌, ◌++◌, refl, sym, ap, ◌∙◌, subst, append_assoc, append-nil, ◌%◌, Option, Some, None, IfSome, arith}
-use Rattle.mysql_conversation.specs.declared.kind.Side.{Side}
-use Rattle.mysql_conversation.specs.declared.kind.Side.TheVariants.{Client}
+use Rattle.mysql_conversation.specs.declared.packet_kind.Side.{Side}
+use Rattle.mysql_conversation.specs.declared.packet_kind.Side.TheVariants.{Client}
 use Rattle.mysql_recorder.specs.Lines.{Heard, heard, IsLowerDigit, IsDigit, IsSpace, Spells, nothing, space, byte, IsSign, SaysBytes, IsHalf, Stands, Passes, next_place, place_from}
 use Rattle.mysql_recorder.specs.Refusals.{IfLine}
 use Rattle.mysql_recorder.specs.declared.error.RecordingError.{RecordingError}

@@ -1,13 +1,13 @@
 -- Where something is lost, step by step.
 use Rattle.std.proofs.Common.{◌≡◌, ◌≢◌, ◌⊎◌, inl, inr, ℕ, ◌+◌, ◌<◌, true, false, List, [], ◌∷◌, ◌++◌, Result, Ok, Err, IfOk, OnOk, Some, refl, sym, ap, subst, ◌∙◌, append_assoc, append-nil, length, get_or, take, drop, drop-cons, take-append-drop, suc, add-one}
 use Rattle.std.proofs.lemmas.List.{take_more}
-use Rattle.mysql_conversation.specs.declared.kind.Side.{Side}
-use Rattle.mysql_conversation.specs.declared.kind.Side.TheVariants as side
-use Rattle.mysql_conversation.specs.declared.kind_name.KindName.{KindName}
-use Rattle.mysql_conversation.specs.declared.pipeline.Refusal.{Refusal}
+use Rattle.mysql_conversation.specs.declared.packet_kind.Side.{Side}
+use Rattle.mysql_conversation.specs.declared.packet_kind.Side.TheVariants as side
+use Rattle.mysql_conversation.specs.declared.packet_kind_tag.PacketKindTag.{PacketKindTag}
+use Rattle.mysql_conversation.specs.declared.pipeline.SessionError.{SessionError}
 use Rattle.mysql_conversation.specs.Pipelined.{Numbered}
-use Rattle.mysql_fields.specs.Entries.{Stays}
-use Rattle.mysql_fields.specs.declared.entry.Layout.{Layout}
+use Rattle.mysql_show.specs.Appended.{Stays}
+use Rattle.mysql_recorder.specs.declared.entry.Layout.{Layout}
 use Rattle.mysql_frames.specs.FrameReader.{HandsOut, NoneWhole, AllLonger}
 use Rattle.mysql_frames.specs.declared.error.FrameError.{FrameError}
 use Rattle.mysql_frames.specs.declared.error.FrameError.TheVariants as frame
@@ -41,17 +41,17 @@ use Rattle.mysql_recorder.proofs.Wholes.{followed_session}
 -- ---- one side
 
 -- a packet is handed out that doesn't come
-pub loses_packet : (all : List KindName) (side : Side) (bytes input rest : List ℕ) (items here : List Item) (s old new : Stream) (p po : Packets) (a b c : List ℕ) (sequence : ℕ) (payload : List ℕ)
+pub loses_packet : (all : List PacketKindTag) (side : Side) (bytes input rest : List ℕ) (items here : List Item) (s old new : Stream) (p po : Packets) (a b c : List ℕ) (sequence : ℕ) (payload : List ℕ)
     → Reads side bytes input items here s old p po a b
     → HandsOut (as_sent old.reader input) input payload new.reader rest → sequence ≡ (as_sent old.reader input).number
     → po.layout ≡ p.layout
-    → ((xs : List Numbered) → IsFollowed po.followed xs → (why : Refusal) × ShowsRefused all po.layout side sequence payload xs why b c)
+    → ((xs : List Numbered) → IsFollowed po.followed xs → (why : SessionError) × ShowsRefused all po.layout side sequence payload xs why b c)
     → LosesIn all p.layout s.reader.limit side (s.reader.held ++ bytes) items a c
 loses_packet all side bytes input rest items here s old new p po a b c sequence payload r h n l shows =
     let shown = shows (placed (items ++ here)) r.followed in
     inr (shown.0, stops_in all side bytes input rest items here s old new p po a b c sequence payload shown.0 r h n l shown.1)
 
-module _ (all : List KindName) (side : Side) (bytes input : List ℕ) (items here : List Item) (s old : Stream) (p po : Packets) (a b : List ℕ) (r : Reads side bytes input items here s old p po a b) where
+module _ (all : List PacketKindTag) (side : Side) (bytes input : List ℕ) (items here : List Item) (s old : Stream) (p po : Packets) (a b : List ℕ) (r : Reads side bytes input items here s old p po a b) where
   number_of : IsNumberOf (as_sent old.reader input).number (old.reader.held ++ input)
   number_of long = numbered_sent old.reader input r.numbered long
 
@@ -85,7 +85,7 @@ module _ (all : List KindName) (side : Side) (bytes input : List ℕ) (items her
 
 -- ---- both sides
 
-pub client_loses : (r : Result Came RecordingError) (all : List KindName) (s : Sides) (bytes before after : List ℕ)
+pub client_loses : (r : Result Came RecordingError) (all : List PacketKindTag) (s : Sides) (bytes before after : List ℕ)
     → IfOk r (λ came. came ≢ came_as.Whole → (items : List Item) → IsAt s.client s.packets items
     → LosesIn all s.packets.layout s.client.reader.limit side.Client (s.client.reader.held ++ bytes) items before after)
     → IfOk r (λ came. came ≢ came_as.Whole → PieceLosesIn all side.Client bytes s before after)
@@ -93,7 +93,7 @@ client_loses (Ok came) all s bytes before after h = λ w pieces items k.
     subst (λ limit. LosesIn all s.packets.layout limit side.Client (s.client.reader.held ++ bytes) items before after) k.client.limit (h w items (k.client.numbered, k.followed))
 client_loses (Err e) all s bytes before after h = tt
 
-pub server_loses : (r : Result Came RecordingError) (all : List KindName) (s : Sides) (bytes before after : List ℕ)
+pub server_loses : (r : Result Came RecordingError) (all : List PacketKindTag) (s : Sides) (bytes before after : List ℕ)
     → IfOk r (λ came. came ≢ came_as.Whole → (items : List Item) → IsAt s.server s.packets items
     → LosesIn all s.packets.layout s.server.reader.limit side.Server (s.server.reader.held ++ bytes) items before after)
     → IfOk r (λ came. came ≢ came_as.Whole → PieceLosesIn all side.Server bytes s before after)
@@ -102,12 +102,12 @@ server_loses (Ok came) all s bytes before after h = λ w pieces items k.
 server_loses (Err e) all s bytes before after h = tt
 
 -- nothing more is lost
-pub piece_keeps : (r : Result (Unit {0}) RecordingError) (all : List KindName) (side : Side) (bytes : List ℕ) (old new : Sides) (before after : List ℕ)
+pub piece_keeps : (r : Result (Unit {0}) RecordingError) (all : List PacketKindTag) (side : Side) (bytes : List ℕ) (old new : Sides) (before after : List ℕ)
     → has_lost new ≡ has_lost old → PieceLoses r all side bytes old new before after
 piece_keeps r all side bytes old new before after e lost pieces items h = absurd (let no : true ≡ false = sym lost ∙ e ∙ h.nothing_lost in cc)
 
 -- what came of a piece
-pub came_loses : (came : Came) (r : Result (Unit {0}) RecordingError) (all : List KindName) (side : Side) (bytes : List ℕ) (old mid new : Sides) (before m after : List ℕ)
+pub came_loses : (came : Came) (r : Result (Unit {0}) RecordingError) (all : List PacketKindTag) (side : Side) (bytes : List ℕ) (old mid new : Sides) (before m after : List ℕ)
     → (came ≢ came_as.Whole → PieceLosesIn all side bytes old before m) → (came ≡ came_as.Whole → sides.IsSame mid new × (after ≡ m)) → has_lost mid ≡ has_lost old → OnOk r (Stays m after)
     → PieceLoses r all side bytes old new before after
 came_loses came_as.Whole r all side bytes old mid new before m after loses same kept stays = piece_keeps r all side bytes old new before after ((same refl).0.has_lost ∙ kept)
@@ -116,23 +116,23 @@ came_loses (came_as.NoFrames x n) r all side bytes old mid new before m after lo
 
 -- ---- lines and texts
 
-pub line_loses : (r : Result (Unit {0}) RecordingError) (all : List KindName) (old new : Recording) (bytes before after : List ℕ) → bytes ≡ old.line.bytes.items
+pub line_loses : (r : Result (Unit {0}) RecordingError) (all : List PacketKindTag) (old new : Recording) (bytes before after : List ℕ) → bytes ≡ old.line.bytes.items
     → PieceLoses r all old.line.side bytes old.sides new.sides before after → LineLoses r all old new before after
 line_loses r all old new bytes before after is h = subst (λ b. PieceLoses r all old.line.side b old.sides new.sides before after) is h
 
-pub text_keeps : (r : Result (Unit {0}) RecordingError) (all : List KindName) (ends : Type 0) (old new : Recording) (before after : List ℕ)
+pub text_keeps : (r : Result (Unit {0}) RecordingError) (all : List PacketKindTag) (ends : Type 0) (old new : Recording) (before after : List ℕ)
     → recorded.has_lost new ≡ recorded.has_lost old → TextLoses r all ends old new before after
 text_keeps r all ends old new before after e lost text items h = absurd (let no : true ≡ false = sym lost ∙ e ∙ h.stand.nothing_lost in cc)
 
 -- what waits of a line is lost
-waits_loses : (r : Result (Unit {0}) RecordingError) (all : List KindName) (ends : Type 0) (old new : Recording) (before after : List ℕ)
+waits_loses : (r : Result (Unit {0}) RecordingError) (all : List PacketKindTag) (ends : Type 0) (old new : Recording) (before after : List ℕ)
     → LineLoses r all old new before after → recorded.has_lost new ≡ true → (text : List ℕ) (items : List Item) → Recorded old text items
     → (mid : List ℕ) × IsLost all (recorded.layout old) (recorded.longest old) ends text items before mid × OnOk r (Stays mid after)
 waits_loses r all ends old new before after loses lost text items h =
     let l = loses lost h.pieces items h.stand in
     (l.0, inl (record { side = old.line.side; bytes = old.line.bytes.items; shown = shown_of old text items h; loses = l.1 }), l.2)
 
-pub text_loses : (r : Result (Unit {0}) RecordingError) (all : List KindName) (ends : Type 0) (old new : Recording) (before after : List ℕ)
+pub text_loses : (r : Result (Unit {0}) RecordingError) (all : List PacketKindTag) (ends : Type 0) (old new : Recording) (before after : List ℕ)
     → LineLoses r all old new before after → TextLoses r all ends old new before after
 text_loses r all ends old new before after loses = λ lost text items h. waits_loses r all ends old new before after loses lost text items h
 
@@ -165,13 +165,13 @@ mark_ends old text items h untaken mark =
     }
 
 -- a line that ends
-pub end_loses : (r : Result (Unit {0}) RecordingError) (all : List KindName) (ends : Type 0) (old new : Recording) (before after : List ℕ)
+pub end_loses : (r : Result (Unit {0}) RecordingError) (all : List PacketKindTag) (ends : Type 0) (old new : Recording) (before after : List ℕ)
     → LineEndLoses r all old new before after → ends → TextLoses r all ends old new before after
 end_loses r all ends old new before after (inl loses) here = text_loses r all ends old new before after loses
 end_loses r all ends old new before after (inr mark) here = λ lost text items h. (before, inr (mark_ends old text items h mark.0 mark.1, here, refl), mark.2)
 
 -- the byte that ends a line
-pub feed_loses : (r : Result (Unit {0}) RecordingError) (all : List KindName) (old mid new : Recording) (c : ℕ) (before after : List ℕ)
+pub feed_loses : (r : Result (Unit {0}) RecordingError) (all : List PacketKindTag) (old mid new : Recording) (c : ℕ) (before after : List ℕ)
     → ((line : List ℕ) (said : List Heard) → Stands old.place line said → Passes (Some says.End) c line said mid.place) → mid.line ≡ old.line → mid.sides ≡ old.sides
     → LineEndLoses r all mid new before after → TextLoses r all (c ≡ 10) old new before after
 feed_loses r all old mid new c before after passes line same loses lost text items h =
@@ -184,13 +184,13 @@ feed_loses r all old mid new c before after passes line same loses lost text ite
 -- ---- one step after another
 
 -- what is appended then changes nothing else
-pub then_loses : (q r : Result (Unit {0}) RecordingError) (all : List KindName) (ends : Type 0) (old mid new : Recording) (x y z : List ℕ)
+pub then_loses : (q r : Result (Unit {0}) RecordingError) (all : List PacketKindTag) (ends : Type 0) (old mid new : Recording) (x y z : List ℕ)
     → TextLoses q all ends old mid x y → recorded.has_lost new ≡ recorded.has_lost mid → ((m : List ℕ) → OnOk q (Stays m y) → OnOk r (Stays m z)) → TextLoses r all ends old new x z
 then_loses q r all ends old mid new x y z loses same stays lost text items h =
     let l = loses (sym same ∙ lost) text items h in
     (l.0, l.1, stays l.0 l.2)
 
-pub is_lost_where : (all : List KindName) (layout : Layout) (limit : ℕ) (ends others : Type 0) (text : List ℕ) (items : List Item) (before after : List ℕ)
+pub is_lost_where : (all : List PacketKindTag) (layout : Layout) (limit : ℕ) (ends others : Type 0) (text : List ℕ) (items : List Item) (before after : List ℕ)
     → (ends → others) → IsLost all layout limit ends text items before after → IsLost all layout limit others text items before after
 is_lost_where all layout limit ends others text items before after f (inl h) = inl h
 is_lost_where all layout limit ends others text items before after f (inr h) = inr (h.0, f h.1, h.2)
@@ -198,11 +198,11 @@ is_lost_where all layout limit ends others text items before after f (inr h) = i
 pub feed_more : (back more : List ℕ) → IsAtFeed back → IsAtFeed (back ++ more)
 feed_more back more h = (h.0 ++ more, ap (λ t. t ++ more) h.1)
 
-pub loses_none : (r : Result (Unit {0}) RecordingError) (all : List KindName) (input : List ℕ) (old new : Recording) (before after : List ℕ)
+pub loses_none : (r : Result (Unit {0}) RecordingError) (all : List PacketKindTag) (input : List ℕ) (old new : Recording) (before after : List ℕ)
     → recorded.has_lost new ≡ recorded.has_lost old → Loses r all input old new before after
 loses_none r all input old new before after e lost text items h = absurd (let no : true ≡ false = sym lost ∙ e ∙ h.stand.nothing_lost in cc)
 
-pub loses_then : (r : Result (Unit {0}) RecordingError) (all : List KindName) (ends : Type 0) (a b : List ℕ) (old mid new : Recording) (x y z : List ℕ)
+pub loses_then : (r : Result (Unit {0}) RecordingError) (all : List PacketKindTag) (ends : Type 0) (a b : List ℕ) (old mid new : Recording) (x y z : List ℕ)
     → recorded.GoesOn a old mid x y → Loses (Ok tt) all a old mid x y → recorded.layout mid ≡ recorded.layout old → recorded.longest mid ≡ recorded.longest old
     → TextLoses r all ends mid new y z → (ends → IsAtFeed b) → OnOk r (Stays y z) → Loses r all (a ++ b) old new x z
 loses_then r all ends a b old mid new x y z first before same long loses feed stays lost text items h =
@@ -236,21 +236,21 @@ loses_then r all ends a b old mid new x y z first before same long loses feed st
 
 -- ---- the bytes of an input, one after another
 
-pub loop_loses : (all : List KindName) (xs : List ℕ) (i c : ℕ) (old mid new : Recording) (x y z : List ℕ) → i < length xs → c ≡ get_or xs i 0
+pub loop_loses : (all : List PacketKindTag) (xs : List ℕ) (i c : ℕ) (old mid new : Recording) (x y z : List ℕ) → i < length xs → c ≡ get_or xs i 0
     → recorded.GoesOn (take i xs) old mid x y → Loses (Ok tt) all (take i xs) old mid x y → recorded.layout mid ≡ recorded.layout old → recorded.longest mid ≡ recorded.longest old
     → TextLoses (Ok tt) all (c ≡ 10) mid new y z → Stays y z → Loses (Ok tt) all (take (i + 1) xs) old new x z
 loop_loses all xs i c old mid new x y z below is first before same long loses stays =
     subst (λ t. Loses (Ok tt) all t old new x z) (ap (λ b. take i xs ++ b ∷ []) is ∙ sym (take_more xs i 0 below))
     (loses_then (Ok tt) all (c ≡ 10) (take i xs) (c ∷ []) old mid new x y z first before same long loses (λ e. ([], ap (λ b. b ∷ []) e)) stays)
 
-pub rest_loses : (r : Result (Unit {0}) RecordingError) (all : List KindName) (xs : List ℕ) (n : ℕ) (old mid new : Recording) (x y z : List ℕ) → take n xs ≡ xs
+pub rest_loses : (r : Result (Unit {0}) RecordingError) (all : List PacketKindTag) (xs : List ℕ) (n : ℕ) (old mid new : Recording) (x y z : List ℕ) → take n xs ≡ xs
     → recorded.GoesOn (take n xs) old mid x y → Loses (Ok tt) all (take n xs) old mid x y → recorded.layout mid ≡ recorded.layout old → recorded.longest mid ≡ recorded.longest old
     → TextLoses r all ⊥ mid new y z → OnOk r (Stays y z) → Loses r all xs old new x z
 rest_loses r all xs n old mid new x y z whole first before same long loses stays =
     subst (λ t. Loses r all t old new x z) (append-nil (take n xs) ∙ whole)
     (loses_then r all ⊥ (take n xs) [] old mid new x y z first before same long loses (λ no. absurd no) stays)
 
-pub byte_loses : (r : Result (Unit {0}) RecordingError) (all : List KindName) (xs : List ℕ) (i c : ℕ) (old mid new : Recording) (x y z : List ℕ) → i < length xs → c ≡ get_or xs i 0
+pub byte_loses : (r : Result (Unit {0}) RecordingError) (all : List PacketKindTag) (xs : List ℕ) (i c : ℕ) (old mid new : Recording) (x y z : List ℕ) → i < length xs → c ≡ get_or xs i 0
     → recorded.GoesOn (take i xs) old mid x y → Loses (Ok tt) all (take i xs) old mid x y → recorded.layout mid ≡ recorded.layout old → recorded.longest mid ≡ recorded.longest old
     → TextLoses r all (c ≡ 10) mid new y z → OnOk r (Stays y z) → Loses r all xs old new x z
 byte_loses r all xs i c old mid new x y z below is first before same long loses stays =

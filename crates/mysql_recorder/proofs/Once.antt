@@ -1,7 +1,7 @@
 -- The packets of one side, and that they are one list.
 use Rattle.std.proofs.Common.{◌≡◌, ℕ, Bool, true, false, List, [], ◌∷◌, ◌++◌, if◌then◌else◌, refl, sym, ap, subst, ◌∙◌, append_assoc, append-nil}
-use Rattle.mysql_conversation.specs.declared.kind.Side.{Side}
-use Rattle.mysql_conversation.specs.declared.kind.Side.TheVariants.{Client, Server}
+use Rattle.mysql_conversation.specs.declared.packet_kind.Side.{Side}
+use Rattle.mysql_conversation.specs.declared.packet_kind.Side.TheVariants.{Client, Server}
 use Rattle.mysql_frames.specs.Frames.{Framed, FramedIn, most}
 use Rattle.mysql_frames.proofs.Peel.{framed_once}
 use Rattle.mysql_frames.proofs.Streams.{framed_more}

@@ -1,6 +1,6 @@
 -- One packet more of a piece.
 use Rattle.std.proofs.Common.{◌≡◌, ℕ, List, [], ◌∷◌, ◌++◌, refl, sym, ap, subst, ◌∙◌, append_assoc, append-nil}
-use Rattle.mysql_conversation.specs.declared.kind.Side.{Side}
+use Rattle.mysql_conversation.specs.declared.packet_kind.Side.{Side}
 use Rattle.mysql_conversation.specs.Pipelined.{Numbered}
 use Rattle.mysql_frames.specs.FrameReader.{ReaderState, HandsOut, HoldsAll}
 use Rattle.mysql_frames.specs.Frames.{Framed}

@@ -3,28 +3,28 @@ use Rattle.std.proofs.Common.{◌≡◌, ◌≢◌, ℕ, List, [], ◌∷◌, �
 use Rattle.mysql_conversation.specs.Piped.{place}
 use Rattle.mysql_conversation.specs.Pipelined.{Numbered}
 use Rattle.mysql_conversation.specs.Session.{IsSessionBeginning}
-use Rattle.mysql_conversation.specs.declared.kind.Kind.{Kind}
-use Rattle.mysql_conversation.specs.declared.kind.Side.{Side}
-use Rattle.mysql_conversation.specs.declared.kind_name.KindName.{KindName}
-use Rattle.mysql_conversation.specs.declared.pipeline.Refusal.{Refusal}
-use Rattle.mysql_conversation.specs.declared.pipeline.Refusal.TheVariants as refusal
-use Rattle.mysql_fields.specs.Entries.{Stays}
-use Rattle.mysql_fields.specs.declared.entry.Layout.{Layout}
+use Rattle.mysql_conversation.specs.declared.packet_kind.PacketKind.{PacketKind}
+use Rattle.mysql_conversation.specs.declared.packet_kind.Side.{Side}
+use Rattle.mysql_conversation.specs.declared.packet_kind_tag.PacketKindTag.{PacketKindTag}
+use Rattle.mysql_conversation.specs.declared.pipeline.SessionError.{SessionError}
+use Rattle.mysql_conversation.specs.declared.pipeline.SessionError.TheVariants as refusal
+use Rattle.mysql_show.specs.Appended.{Stays}
+use Rattle.mysql_recorder.specs.declared.entry.Layout.{Layout}
 use Rattle.mysql_recorder.specs.Followed.{IsFollowed}
 use Rattle.mysql_recorder.specs.Reasons.{IsReasonOf}
 use Rattle.mysql_recorder.proofs.Reasons.{refused_for}
 use Rattle.mysql_recorder.specs.Refused.{ShowsRefused, refused_entry, refused_fields}
 use Rattle.mysql_recorder.specs.Refusals.{Refuses, IfRefused}
-use Rattle.mysql_recorder.specs.Shown.{entry_text}
+use Rattle.mysql_recorder.specs.Entries.{entry_text}
 use Rattle.mysql_recorder.specs.declared.error.RecordingError.{RecordingError}
 use Rattle.mysql_recorder.specs.declared.error.RecordingError.TheVariants as error
 use Rattle.mysql_recorder.specs.declared.followed.Followed.{Followed}
 use Rattle.mysql_recorder.specs.declared.packets.Taken.{Taken}
 use Rattle.mysql_recorder.specs.declared.packets.Taken.TheVariants as taken_as
 
-module _ (all : List KindName) (layout : Layout) (old new : Followed) (side : Side) (sequence : ℕ) (payload : List ℕ) (why : Refusal) (before after : List ℕ)
+module _ (all : List PacketKindTag) (layout : Layout) (old new : Followed) (side : Side) (sequence : ℕ) (payload : List ℕ) (why : SessionError) (before after : List ℕ)
     (stays : (items : List Numbered) → IsFollowed old items → IsFollowed new items)
-    (unasked : (items : List Numbered) (kind : Kind) (number : ℕ) → why ≡ refusal.Unexpected → IsFollowed old items → IsSessionBeginning (items ++ place side payload kind number ∷ []) → ⊥)
+    (unasked : (items : List Numbered) (kind : PacketKind) (number : ℕ) → why ≡ refusal.UnexpectedPacket → IsFollowed old items → IsSessionBeginning (items ++ place side payload kind number ∷ []) → ⊥)
     (reason : IsReasonOf old.connection side payload why) where
   shows : (items : List Numbered) → IsFollowed old items → Refuses all layout new side sequence payload why before after → ShowsRefused all layout side sequence payload items why before after
   shows items h r =
@@ -34,7 +34,7 @@ module _ (all : List KindName) (layout : Layout) (old new : Followed) (side : Si
 
   pub refused_ok : (r : Result Taken RecordingError)
       → IfOk r (λ taken. (taken ≢ taken_as.Shown) × Refuses all layout new side sequence payload why before after)
-      → IfOk r (λ taken. taken ≢ taken_as.Shown → (items : List Numbered) → IsFollowed old items → (reason : Refusal) × ShowsRefused all layout side sequence payload items reason before after)
+      → IfOk r (λ taken. taken ≢ taken_as.Shown → (items : List Numbered) → IsFollowed old items → (reason : SessionError) × ShowsRefused all layout side sequence payload items reason before after)
   refused_ok (Ok taken) h = λ e items f. (why, shows items f h.1)
   refused_ok (Err e) h = tt
 
@@ -50,7 +50,7 @@ module _ (all : List KindName) (layout : Layout) (old new : Followed) (side : Si
   refused_err (Err error.Missing) h = λ items f. tt
 
 -- what is shown of it stands after what stood before
-pub refused_stays : {E : Type 0} (r : Result Taken E) (all : List KindName) (layout : Layout) (f : Followed) (side : Side) (sequence : ℕ) (payload : List ℕ) (why : Refusal) (before after : List ℕ)
+pub refused_stays : {E : Type 0} (r : Result Taken E) (all : List PacketKindTag) (layout : Layout) (f : Followed) (side : Side) (sequence : ℕ) (payload : List ℕ) (why : SessionError) (before after : List ℕ)
     → IfOk r (λ taken. (taken ≢ taken_as.Shown) × Refuses all layout f side sequence payload why before after) → IfOk r (λ taken. Stays before after)
 refused_stays (Ok taken) all layout f side sequence payload why before after h =
     (entry_text layout (refused_entry side sequence f.last payload) (refused_fields payload why h.1.0), h.1.2)

@@ -1,7 +1,7 @@
 -- What a recording has shown.
 use Rattle.std.proofs.Common.{◌≡◌, ◌⊎◌, inl, inr, ℕ, true, List, [], ◌∷◌, ◌++◌, sym, subst, ◌∙◌, append-nil}
 use Rattle.mysql_conversation.specs.Session.{IsSessionBeginning}
-use Rattle.mysql_conversation.specs.declared.kind.Side.TheVariants as side
+use Rattle.mysql_conversation.specs.declared.packet_kind.Side.TheVariants as side
 use Rattle.mysql_recorder.specs.Frames.{AreFrames, Piece, joined, ComeIn, packets_of, bytes_of}
 use Rattle.mysql_recorder.specs.Lines.{Heard, heard}
 use Rattle.mysql_recorder.specs.Recorded.{Recorded, IsFinished, IsShown, Takes, Finishes, has_lost, layout}

@@ -1,9 +1,11 @@
 -- What stands in an output stays there.
 use Rattle.std.proofs.Common.{ℕ, List, [], ◌++◌, Result, Ok, Err, OnOk, sym, ap, ◌∙◌, append_assoc, append-nil, codes}
-use Rattle.mysql_fields.specs.Entries.{Begins, Stays}
-use Rattle.mysql_fields.specs.declared.entry.Layout.{Layout}
-use Rattle.mysql_fields.specs.declared.entry.Layout.TheVariants as layouts
-use Rattle.mysql_recorder.specs.Shown.{Appends, Entry, entry_line}
+use Rattle.mysql_show.specs.Appended.{Stays}
+use Rattle.mysql_recorder.specs.Entries.{Begins}
+use Rattle.mysql_recorder.specs.declared.entry.Layout.{Layout}
+use Rattle.mysql_recorder.specs.declared.entry.Layout.TheVariants as layouts
+use Rattle.mysql_recorder.specs.Entries.{Entry, entry_line}
+use Rattle.mysql_recorder.specs.Shown.{Appends}
 
 pub stays_same : (a : List ℕ) → Stays a a
 stays_same a = ([], sym (append-nil a))

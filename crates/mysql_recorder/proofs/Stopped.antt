@@ -1,10 +1,10 @@
 -- A packet that doesn't come, step by step.
 use Rattle.std.proofs.Common.{◌≡◌, ◌≢◌, ◌⊎◌, inl, inr, ℕ, true, List, ◌++◌, Result, Ok, Err, IfOk, IfErr, OnOk, refl, sym, subst, ◌∙◌, take, drop, take-append-drop}
 use Rattle.mysql_conversation.specs.Agreements.{Agreed}
-use Rattle.mysql_conversation.specs.declared.kind.Side.{Side}
-use Rattle.mysql_conversation.specs.declared.kind.Side.TheVariants as side
-use Rattle.mysql_conversation.specs.declared.kind_name.KindName.{KindName}
-use Rattle.mysql_conversation.specs.declared.pipeline.Refusal.{Refusal}
+use Rattle.mysql_conversation.specs.declared.packet_kind.Side.{Side}
+use Rattle.mysql_conversation.specs.declared.packet_kind.Side.TheVariants as side
+use Rattle.mysql_conversation.specs.declared.packet_kind_tag.PacketKindTag.{PacketKindTag}
+use Rattle.mysql_conversation.specs.declared.pipeline.SessionError.{SessionError}
 use Rattle.mysql_conversation.specs.Pipelined.{Numbered}
 use Rattle.mysql_frames.specs.FrameReader.{HandsOut}
 use Rattle.mysql_frames.specs.Frames.{Framed}
@@ -35,7 +35,7 @@ use Rattle.mysql_recorder.proofs.Texts.{shown_of}
 use Rattle.mysql_recorder.proofs.Wholes.{followed_session}
 
 -- what is so of each reason
-pub if_refused : (e : RecordingError) (P Q : Refusal → Type 0) → ((why : Refusal) → P why → Q why) → IfRefused e P → IfRefused e Q
+pub if_refused : (e : RecordingError) (P Q : SessionError → Type 0) → ((why : SessionError) → P why → Q why) → IfRefused e P → IfRefused e Q
 if_refused (error.Refused why) P Q f h = f why h
 if_refused error.Memory P Q f h = tt
 if_refused error.Line P Q f h = tt
@@ -43,7 +43,7 @@ if_refused error.OutOfOrder P Q f h = tt
 if_refused error.TooLong P Q f h = tt
 if_refused error.Missing P Q f h = tt
 
-pub never : (e : RecordingError) (Q : Refusal → Type 0) → IfRefused e (λ why. ⊥) → IfRefused e Q
+pub never : (e : RecordingError) (Q : SessionError → Type 0) → IfRefused e (λ why. ⊥) → IfRefused e Q
 never e Q h = if_refused e (λ why. ⊥) Q (λ why n. absurd n) h
 
 pub at_shown : {P : Type 0} (r : Result Taken RecordingError) → r ≡ Ok taken_as.Shown → IfOk r (λ t. t ≡ taken_as.Shown → P) → P
@@ -68,7 +68,7 @@ goes_on_came (came_as.Refused a n) (Ok u) more old mid new before m after goes s
 goes_on_came (came_as.NoFrames x n) (Ok u) more old mid new before m after goes same lost = is_lost more old new before after (lost (λ e. cc))
 
 -- a packet is handed out that doesn't come
-pub stops_in : (all : List KindName) (side : Side) (bytes input rest : List ℕ) (items here : List Item) (s old new : Stream) (p po : Packets) (a b c : List ℕ) (sequence : ℕ) (payload : List ℕ) (why : Refusal)
+pub stops_in : (all : List PacketKindTag) (side : Side) (bytes input rest : List ℕ) (items here : List Item) (s old new : Stream) (p po : Packets) (a b c : List ℕ) (sequence : ℕ) (payload : List ℕ) (why : SessionError)
     → Reads side bytes input items here s old p po a b
     → HandsOut (as_sent old.reader input) input payload new.reader rest → sequence ≡ (as_sent old.reader input).number
     → po.layout ≡ p.layout → ShowsRefused all po.layout side sequence payload (placed (items ++ here)) why b c
@@ -89,7 +89,7 @@ stops_in all side bytes input rest items here s old new p po a b c sequence payl
   subst (λ y. ShowsRefused all y side sequence payload (placed (items ++ here)) why b c) l shown,
 )
 
-pub reads_refused : (all : List KindName) (side : Side) (bytes input rest : List ℕ) (items here : List Item) (s old new : Stream) (p po : Packets) (a b c : List ℕ) (sequence : ℕ) (payload : List ℕ) (e : RecordingError)
+pub reads_refused : (all : List PacketKindTag) (side : Side) (bytes input rest : List ℕ) (items here : List Item) (s old new : Stream) (p po : Packets) (a b c : List ℕ) (sequence : ℕ) (payload : List ℕ) (e : RecordingError)
     → Reads side bytes input items here s old p po a b
     → HandsOut (as_sent old.reader input) input payload new.reader rest → sequence ≡ (as_sent old.reader input).number
     → po.layout ≡ p.layout
@@ -100,51 +100,51 @@ reads_refused all side bytes input rest items here s old new p po a b c sequence
     (λ why shown. stops_in all side bytes input rest items here s old new p po a b c sequence payload why r h n l shown)
     (shows (placed (items ++ here)) r.followed)
 
-pub client_stops : (r : Result Came RecordingError) (all : List KindName) (s : Sides) (bytes before after : List ℕ)
+pub client_stops : (r : Result Came RecordingError) (all : List PacketKindTag) (s : Sides) (bytes before after : List ℕ)
     → IfErr r (λ e. (items : List Item) → IsAt s.client s.packets items → IfRefused e (λ why. StopsIn all s.packets.layout side.Client (s.client.reader.held ++ bytes) items why before after))
     → IfErr r (λ e. PieceStops all side.Client bytes s e before after)
 client_stops (Ok came) all s bytes before after h = tt
 client_stops (Err e) all s bytes before after h = λ pieces items k. h items (k.client.numbered, k.followed)
 
-pub server_stops : (r : Result Came RecordingError) (all : List KindName) (s : Sides) (bytes before after : List ℕ)
+pub server_stops : (r : Result Came RecordingError) (all : List PacketKindTag) (s : Sides) (bytes before after : List ℕ)
     → IfErr r (λ e. (items : List Item) → IsAt s.server s.packets items → IfRefused e (λ why. StopsIn all s.packets.layout side.Server (s.server.reader.held ++ bytes) items why before after))
     → IfErr r (λ e. PieceStops all side.Server bytes s e before after)
 server_stops (Ok came) all s bytes before after h = tt
 server_stops (Err e) all s bytes before after h = λ pieces items k. h items (k.server.numbered, k.followed)
 
 -- what is refused in no case
-pub piece_never : (r : Result (Unit {0}) RecordingError) (all : List KindName) (side : Side) (bytes : List ℕ) (s : Sides) (before after : List ℕ)
+pub piece_never : (r : Result (Unit {0}) RecordingError) (all : List PacketKindTag) (side : Side) (bytes : List ℕ) (s : Sides) (before after : List ℕ)
     → IfErr r (λ e. IfRefused e (λ why. ⊥)) → IfErr r (λ e. PieceStops all side bytes s e before after)
 piece_never (Ok u) all side bytes s before after h = tt
 piece_never (Err e) all side bytes s before after h = λ pieces items k. never e _ h
 
 -- ---- recordings
 
-pub line_stops : (r : Result (Unit {0}) RecordingError) (all : List KindName) (old : Recording) (bytes before after : List ℕ) → bytes ≡ old.line.bytes.items
+pub line_stops : (r : Result (Unit {0}) RecordingError) (all : List PacketKindTag) (old : Recording) (bytes before after : List ℕ) → bytes ≡ old.line.bytes.items
     → IfErr r (λ e. PieceStops all old.line.side bytes old.sides e before after) → IfErr r (λ e. LineStops all old e before after)
 line_stops (Ok u) all old bytes before after is h = tt
 line_stops (Err e) all old bytes before after is h = subst (λ b. PieceStops all old.line.side b old.sides e before after) is h
 
-after_text : (all : List KindName) (r : Recording) (text : List ℕ) (items : List Item) (e : RecordingError) (before after : List ℕ) → Recorded r text items → LineStops all r e before after
+after_text : (all : List PacketKindTag) (r : Recording) (text : List ℕ) (items : List Item) (e : RecordingError) (before after : List ℕ) → Recorded r text items → LineStops all r e before after
     → IfRefused e (λ why. StopsAfter all (recorded.layout r) text items why before after)
 after_text all r text items e before after h stops =
     if_refused e _ (λ why. StopsAfter all (recorded.layout r) text items why before after)
     (λ why s. record { side = r.line.side; bytes = r.line.bytes.items; shown = shown_of r text items h; stops = s }) (stops h.pieces items h.stand)
 
-pub text_stops : (r : Result (Unit {0}) RecordingError) (all : List KindName) (old : Recording) (before after : List ℕ)
+pub text_stops : (r : Result (Unit {0}) RecordingError) (all : List PacketKindTag) (old : Recording) (before after : List ℕ)
     → IfErr r (λ e. LineStops all old e before after) → IfErr r (λ e. TextStops all old e before after)
 text_stops (Ok u) all old before after h = tt
 text_stops (Err e) all old before after h = λ text items k. after_text all old text items e before after k h
 
 -- the same of the place after a byte, which changes neither the line nor the sides
-pub text_stops_at : (r : Result (Unit {0}) RecordingError) (all : List KindName) (old mid : Recording) (before after : List ℕ) → mid.line ≡ old.line → mid.sides ≡ old.sides
+pub text_stops_at : (r : Result (Unit {0}) RecordingError) (all : List PacketKindTag) (old mid : Recording) (before after : List ℕ) → mid.line ≡ old.line → mid.sides ≡ old.sides
     → IfErr r (λ e. LineStops all mid e before after) → IfErr r (λ e. TextStops all old e before after)
 text_stops_at r all old mid before after line sides h =
     text_stops r all old before after
     (subst (λ l. IfErr r (λ e. PieceStops all l.side l.bytes.items old.sides e before after)) line (subst (λ s. IfErr r (λ e. PieceStops all mid.line.side mid.line.bytes.items s e before after)) sides h))
 
 -- after a front of the text
-pub stops_after : (all : List KindName) (xs : List ℕ) (i : ℕ) (old mid new : Recording) (x y z : List ℕ) (e : RecordingError)
+pub stops_after : (all : List PacketKindTag) (xs : List ℕ) (i : ℕ) (old mid new : Recording) (x y z : List ℕ) (e : RecordingError)
     → recorded.GoesOn (take i xs) old mid x y → (recorded.has_lost mid ≡ true → recorded.has_lost new ≡ true) → recorded.layout mid ≡ recorded.layout old
     → TextStops all mid e y z → Stops all xs old new e x z
 stops_after all xs i old mid new x y z e first lost same stops text items h =
@@ -158,7 +158,7 @@ stops_after all xs i old mid new x y z e first lost same stops text items h =
           (stops (text ++ take i xs) (items ++ f.0) f.1))
     ]
 
-pub stops_on_err : (r : Result (Unit {0}) RecordingError) (all : List KindName) (xs : List ℕ) (i : ℕ) (old mid new : Recording) (x y z : List ℕ)
+pub stops_on_err : (r : Result (Unit {0}) RecordingError) (all : List PacketKindTag) (xs : List ℕ) (i : ℕ) (old mid new : Recording) (x y z : List ℕ)
     → recorded.GoesOn (take i xs) old mid x y → (recorded.has_lost mid ≡ true → recorded.has_lost new ≡ true) → recorded.layout mid ≡ recorded.layout old
     → IfErr r (λ e. TextStops all mid e y z) → IfErr r (λ e. Stops all xs old new e x z)
 stops_on_err (Ok u) all xs i old mid new x y z first lost same stops = tt

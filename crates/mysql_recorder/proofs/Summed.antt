@@ -1,8 +1,8 @@
 -- Sums that are appended.
 use Rattle.std.proofs.Common.{ℕ, List, ◌++◌, Result, Ok, Err, OnOk, codes}
-use Rattle.mysql_fields.specs.Entries.{Stays}
-use Rattle.mysql_fields.specs.declared.entry.Layout.{Layout}
-use Rattle.mysql_fields.specs.declared.entry.Layout.TheVariants as layout
+use Rattle.mysql_show.specs.Appended.{Stays}
+use Rattle.mysql_recorder.specs.declared.entry.Layout.{Layout}
+use Rattle.mysql_recorder.specs.declared.entry.Layout.TheVariants as layout
 use Rattle.mysql_recorder.specs.Sums.{AppendsSomeSums, AppendsSums, count_line}
 
 sums_stay : (how : Layout) (count : ℕ) (a b : List ℕ) → AppendsSums how count a b → Stays a b

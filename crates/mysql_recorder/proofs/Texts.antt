@@ -1,6 +1,6 @@
 -- One more byte of a text.
 use Rattle.std.proofs.Common.{◌≡◌, ◌⊎◌, inl, inr, ℕ, List, [], ◌∷◌, ◌++◌, Option, Some, None, refl, sym, ap, subst, ◌∙◌, append_assoc, append-nil}
-use Rattle.mysql_conversation.specs.declared.kind.Side.{Side}
+use Rattle.mysql_conversation.specs.declared.packet_kind.Side.{Side}
 use Rattle.mysql_recorder.specs.Frames.{joined}
 use Rattle.mysql_recorder.specs.Lines.{Heard, heard, Line, IsLine, AreLines, text_of, said_by, Stands, Passes, says_of, IsOfSide, StaysOf, IsRead}
 use Rattle.mysql_recorder.specs.Recorded.{IsReadTo, IsShown, Recorded}

@@ -6,17 +6,17 @@ use Rattle.mysql_conversation.specs.Piped.{PipeTaken, place, stands}
 use Rattle.mysql_conversation.specs.Pipelined.{Numbered}
 use Rattle.mysql_conversation.specs.Session.{SessionTaken, IsSession, IsSessionBeginning}
 use Rattle.mysql_conversation.specs.Standing.{start, PipeRun}
-use Rattle.mysql_conversation.specs.declared.kind.Kind.{Kind}
-use Rattle.mysql_conversation.specs.declared.kind.Opening.TheVariants.{Commands}
-use Rattle.mysql_conversation.specs.declared.kind.Side.{Side}
-use Rattle.mysql_conversation.specs.declared.kind.Side.TheVariants.{Client}
-use Rattle.mysql_conversation.specs.declared.pipeline.Refusal.{Refusal}
-use Rattle.mysql_conversation.specs.declared.pipeline.Refusal.TheVariants as refusal
+use Rattle.mysql_conversation.specs.declared.packet_kind.PacketKind.{PacketKind}
+use Rattle.mysql_conversation.specs.declared.packet_kind.InitialPhase.TheVariants.{Commands}
+use Rattle.mysql_conversation.specs.declared.packet_kind.Side.{Side}
+use Rattle.mysql_conversation.specs.declared.packet_kind.Side.TheVariants.{Client}
+use Rattle.mysql_conversation.specs.declared.pipeline.SessionError.{SessionError}
+use Rattle.mysql_conversation.specs.declared.pipeline.SessionError.TheVariants as refusal
 use Rattle.mysql_conversation.specs.declared.pipeline.Pipeline.{Pipeline}
 use Rattle.mysql_conversation.specs.declared.session.Session.{Session}
 use Rattle.mysql_conversation.proofs.SessionEnds.{taken_is_beginning}
 use Rattle.mysql_recorder.specs.Followed as follows
-use Rattle.mysql_recorder.specs.Followed.{highest_exchange, IsAtRest, IsFollowed, IsTakenUpAfter}
+use Rattle.mysql_recorder.specs.Followed.{highest_exchange, IsAtRest, IsFollowed, IsResyncedAfter}
 use Rattle.mysql_recorder.specs.Frames.{Piece}
 use Rattle.mysql_recorder.specs.Shown.{Item, placed}
 use Rattle.mysql_recorder.specs.Sides.{HasEnded, InStep, IsWhole, Stand}
@@ -39,9 +39,9 @@ of_session c s items e h =
 pub not_whole : (c : Connection) (p : Pipeline) (a : Agreed) (items : List Numbered) → c ≡ connection.TakenUp p a → follows.IsWhole c items → ⊥
 not_whole c p a items e h = let none : connection.TakenUp p a ≡ connection.Whole h.0 = sym e ∙ h.1 in cc
 
-pub whole_refused : {T : Type 0} (r : Result T Refusal) (c : Connection) (s : Session) (side : Side) (payload : List ℕ) → c ≡ connection.Whole s
-    → IfErr r (λ why. (items : List Numbered) (kind : Kind) (number : ℕ) → why ≡ refusal.Unexpected → SessionTaken s items → IsSessionBeginning (items ++ place side payload kind number ∷ []) → ⊥)
-    → IfErr r (λ why. (items : List Numbered) (kind : Kind) (number : ℕ) → why ≡ refusal.Unexpected → follows.IsWhole c items → IsSessionBeginning (items ++ place side payload kind number ∷ []) → ⊥)
+pub whole_refused : {T : Type 0} (r : Result T SessionError) (c : Connection) (s : Session) (side : Side) (payload : List ℕ) → c ≡ connection.Whole s
+    → IfErr r (λ why. (items : List Numbered) (kind : PacketKind) (number : ℕ) → why ≡ refusal.UnexpectedPacket → SessionTaken s items → IsSessionBeginning (items ++ place side payload kind number ∷ []) → ⊥)
+    → IfErr r (λ why. (items : List Numbered) (kind : PacketKind) (number : ℕ) → why ≡ refusal.UnexpectedPacket → follows.IsWhole c items → IsSessionBeginning (items ++ place side payload kind number ∷ []) → ⊥)
 whole_refused (Ok x) c s side payload e g = tt
 whole_refused (Err why) c s side payload e g = λ items kind number u h b. g items kind number u (of_session c s items e h) b
 
@@ -86,21 +86,21 @@ ended_where s client server c d rests is so = record { client = c.0 is; server =
 -- ---- a connection that is taken up
 
 -- a command came, or nothing
-command_came : (r : Result (Kind × ℕ) Refusal) (old new : Pipeline) (command : List ℕ)
+command_came : (r : Result (PacketKind × ℕ) SessionError) (old new : Pipeline) (command : List ℕ)
     → IfOk r (λ x. (items : List Numbered) → PipeTaken old items → PipeTaken new (items ++ place Client command x.0 x.1 ∷ [])) → OnErr r (stands new ≡ stands old)
     → pipe.agreed new ≡ pipe.agreed old → pipe.opening new ≡ pipe.opening old → PipeTaken old []
-    → ((kind : Kind) × (number : ℕ) × PipeTaken new (place Client command kind number ∷ [])) ⊎ PipeTaken new []
+    → ((kind : PacketKind) × (number : ℕ) × PipeTaken new (place Client command kind number ∷ [])) ⊎ PipeTaken new []
 command_came (Ok x) old new command taken err agreed opening h = inl (x.0, x.1, taken [] h)
 command_came (Err e) old new command taken err agreed opening h =
     let at : PipeRun old.agreed (start old.opening) [] (stands new) = subst (λ s. PipeRun old.agreed (start old.opening) [] s) (sym err) h in
     inr (subst (λ a. PipeRun a (start new.opening) [] (stands new)) (sym agreed) (subst (λ o. PipeRun old.agreed (start o) [] (stands new)) (sym opening) at))
 
-pub taken_up_after : (r : Result (Kind × ℕ) Refusal) (old new : Pipeline) (f : Followed) (a : Agreed) (command : List ℕ) (before : ℕ)
+pub taken_up_after : (r : Result (PacketKind × ℕ) SessionError) (old new : Pipeline) (f : Followed) (a : Agreed) (command : List ℕ) (before : ℕ)
     → IfOk r (λ x. (items : List Numbered) → PipeTaken old items → PipeTaken new (items ++ place Client command x.0 x.1 ∷ [])) → OnErr r (stands new ≡ stands old)
     → pipe.agreed new ≡ pipe.agreed old → pipe.opening new ≡ pipe.opening old → pipe.agreed old ≡ a → pipe.opening old ≡ Commands → PipeTaken old []
-    → f.connection ≡ connection.TakenUp new a → f.before ≡ before → IsTakenUpAfter f a command before
+    → f.connection ≡ connection.TakenUp new a → f.before ≡ before → IsResyncedAfter f a command before
 taken_up_after r old new f a command before taken err agreed opening under at h is counted =
-    elim (command_came r old new command taken err agreed opening h) as (λ _. IsTakenUpAfter f a command before) [
+    elim (command_came r old new command taken err agreed opening h) as (λ _. IsResyncedAfter f a command before) [
       | inl came ↦ inl (came.0, came.1, (new, is, agreed ∙ under, opening ∙ at, came.2, counted))
       | inr none ↦ inr (new, is, agreed ∙ under, opening ∙ at, none, counted)
     ]

@@ -2,18 +2,18 @@
 use Rattle.std.proofs.Common.{◌≡◌, inl, inr, ℕ, Bool, true, false, List, [], ◌++◌, Option, Result, Ok, Err, OnOk, IfErr, refl, subst, append-nil}
 use Rattle.std.proofs.KnownBytes.{Appends-nil}
 use Rattle.std.specs.Io.KnownBytes.{Appends}
-use Rattle.mysql_conversation.specs.declared.kind_name.KindName.{KindName}
-use Rattle.mysql_fields.specs.declared.entry.Layout.{Layout}
+use Rattle.mysql_conversation.specs.declared.packet_kind_tag.PacketKindTag.{PacketKindTag}
+use Rattle.mysql_recorder.specs.declared.entry.Layout.{Layout}
 use Rattle.mysql_recorder.specs.Answers.{Ends, EndsWith, InputEnds, IsErrorWritten, lost_status, PieceEnds, PieceGoesOn, SaysError, Takes}
 use Rattle.mysql_recorder.specs.Losses.{Loses, TextLoses}
-use Rattle.mysql_output.specs.Output.{Answer, IsFront, IsWritten}
+use Rattle.mysql_show.specs.Output.{Answer, IsFront, IsWritten}
 use Rattle.mysql_recorder.specs.Recorded as recorded
 use Rattle.mysql_recorder.specs.Recorded.{Finishes, GoesOn}
 use Rattle.mysql_recorder.specs.Stops.{Stops, TextStops}
 use Rattle.mysql_recorder.specs.declared.error.RecordingError.{RecordingError}
 use Rattle.mysql_recorder.specs.declared.recording.Recording.{Recording}
 use Rattle.mysql_recorder.proofs.Answered.{ends_after, ends_plain}
-use Rattle.mysql_output.proofs.Outputs.{written_after}
+use Rattle.mysql_show.proofs.Outputs.{written_after}
 
 all_of : (ok : Bool) (text : List ℕ) (a b : Option (List ℕ)) → ok ≡ true → IsFront ok text a b → Appends a b text
 all_of ok text a b is h = subst (λ k. IsFront k text a b) is h
@@ -45,7 +45,7 @@ error_after layout sums e t a b c status first h =
     (h.0, record { text = t ++ h.1.text; status = h.1.status }, h.2, ends_after sums t h.0 1 h.1 h.3, written_after t h.1 a b c status first h.4)
 
 -- what `take` says of an empty output
-pub takes_of : (r : Result (Unit {0}) RecordingError) (all : List KindName) (p : List ℕ) (old new : Recording) (before t : List ℕ) → before ≡ []
+pub takes_of : (r : Result (Unit {0}) RecordingError) (all : List PacketKindTag) (p : List ℕ) (old new : Recording) (before t : List ℕ) → before ≡ []
     → OnOk r (GoesOn p old new before t) → IfErr r (λ e. Stops all p old new e before t) → Loses r all p old new before t
     → (recorded.has_lost old ≡ true → recorded.has_lost new ≡ true) → recorded.layout new ≡ recorded.layout old → recorded.longest new ≡ recorded.longest old
     → Takes r all p old new t
@@ -58,7 +58,7 @@ takes_of r all p old new before t none goes refused loses lost layout longest = 
   longest = longest;
 }
 
-pub ends_of : (r : Result (Unit {0}) RecordingError) (all : List KindName) (old new : Recording) (before t : List ℕ) → before ≡ []
+pub ends_of : (r : Result (Unit {0}) RecordingError) (all : List PacketKindTag) (old new : Recording) (before t : List ℕ) → before ≡ []
     → OnOk r (Finishes old new before t) → IfErr r (λ e. TextStops all old e before t) → TextLoses r all (Unit {0}) old new before t
     → (recorded.has_lost old ≡ true → recorded.has_lost new ≡ true) → Ends r all old new t
 ends_of r all old new before t none finishes refused loses lost = record {
@@ -70,7 +70,7 @@ ends_of r all old new before t none finishes refused loses lost = record {
 
 -- ---- a piece
 
-pub piece_goes : (r : Result (Unit {0}) RecordingError) (all : List KindName) (p : List ℕ) (old new : Recording) (text bytes : List ℕ) (ok : Bool) (a b : Option (List ℕ))
+pub piece_goes : (r : Result (Unit {0}) RecordingError) (all : List PacketKindTag) (p : List ℕ) (old new : Recording) (text bytes : List ℕ) (ok : Bool) (a b : Option (List ℕ))
     → r ≡ Ok tt → ok ≡ true → bytes ≡ text → Takes r all p old new text → IsFront ok bytes a b → PieceGoesOn all p old new a b
 piece_goes r all p old new text bytes ok a b is whole same takes front = record {
   text = text;
@@ -78,7 +78,7 @@ piece_goes r all p old new text bytes ok a b is whole same takes front = record 
   written = all_of ok text a b whole (subst (λ t. IsFront ok t a b) same front);
 }
 
-pub piece_fails : (r : Result (Unit {0}) RecordingError) (all : List KindName) (layout : Layout) (sums : Bool) (p : List ℕ) (old new : Recording) (text bytes : List ℕ) (ok : Bool) (a b : Option (List ℕ))
+pub piece_fails : (r : Result (Unit {0}) RecordingError) (all : List PacketKindTag) (layout : Layout) (sums : Bool) (p : List ℕ) (old new : Recording) (text bytes : List ℕ) (ok : Bool) (a b : Option (List ℕ))
     → ok ≡ false → bytes ≡ text → Takes r all p old new text → IsFront ok bytes a b → PieceEnds all layout sums p old new a b 3
 piece_fails r all layout sums p old new text bytes ok a b cut same takes front = record {
   taken = r;
@@ -87,7 +87,7 @@ piece_fails r all layout sums p old new text bytes ok a b cut same takes front =
   ends = inl (subst (λ k. IsFront k text a b) cut (subst (λ t. IsFront ok t a b) same front), refl);
 }
 
-pub piece_refused : (r : Result (Unit {0}) RecordingError) (all : List KindName) (layout : Layout) (sums : Bool) (p : List ℕ) (old new : Recording) (text bytes : List ℕ) (ok : Bool) (e : RecordingError) (a b c : Option (List ℕ)) (status : ℕ)
+pub piece_refused : (r : Result (Unit {0}) RecordingError) (all : List PacketKindTag) (layout : Layout) (sums : Bool) (p : List ℕ) (old new : Recording) (text bytes : List ℕ) (ok : Bool) (e : RecordingError) (a b c : Option (List ℕ)) (status : ℕ)
     → r ≡ Err e → ok ≡ true → bytes ≡ text → Takes r all p old new text → IsFront ok bytes a b → IsErrorWritten layout sums e [] b c status → PieceEnds all layout sums p old new a c status
 piece_refused r all layout sums p old new text bytes ok e a b c status is whole same takes front said = record {
   taken = Err e;
@@ -98,7 +98,7 @@ piece_refused r all layout sums p old new text bytes ok e a b c status is whole 
 
 -- ---- the end
 
-pub end_fails : (r : Result (Unit {0}) RecordingError) (all : List KindName) (layout : Layout) (sums : Bool) (old new : Recording) (text bytes : List ℕ) (ok : Bool) (a b : Option (List ℕ))
+pub end_fails : (r : Result (Unit {0}) RecordingError) (all : List PacketKindTag) (layout : Layout) (sums : Bool) (old new : Recording) (text bytes : List ℕ) (ok : Bool) (a b : Option (List ℕ))
     → ok ≡ false → bytes ≡ text → Ends r all old new text → IsFront ok bytes a b → InputEnds all layout sums old new a b 3
 end_fails r all layout sums old new text bytes ok a b cut same says front = record {
   finished = r;
@@ -107,7 +107,7 @@ end_fails r all layout sums old new text bytes ok a b cut same says front = reco
   ends = inl (subst (λ k. IsFront k text a b) cut (subst (λ t. IsFront ok t a b) same front), refl);
 }
 
-pub end_refused : (r : Result (Unit {0}) RecordingError) (all : List KindName) (layout : Layout) (sums : Bool) (old new : Recording) (text bytes : List ℕ) (ok : Bool) (e : RecordingError) (a b c : Option (List ℕ)) (status : ℕ)
+pub end_refused : (r : Result (Unit {0}) RecordingError) (all : List PacketKindTag) (layout : Layout) (sums : Bool) (old new : Recording) (text bytes : List ℕ) (ok : Bool) (e : RecordingError) (a b c : Option (List ℕ)) (status : ℕ)
     → r ≡ Err e → ok ≡ true → bytes ≡ text → Ends r all old new text → IsFront ok bytes a b → IsErrorWritten layout sums e [] b c status → InputEnds all layout sums old new a c status
 end_refused r all layout sums old new text bytes ok e a b c status is whole same says front said = record {
   finished = Err e;
@@ -116,7 +116,7 @@ end_refused r all layout sums old new text bytes ok e a b c status is whole same
   ends = inr (error_after layout sums e text a b c status (all_of ok text a b whole (subst (λ t. IsFront ok t a b) same front)) said);
 }
 
-pub end_done : (r : Result (Unit {0}) RecordingError) (all : List KindName) (layout : Layout) (sums : Bool) (old new : Recording) (text bytes : List ℕ) (ok : Bool) (n : ℕ) (a b c : Option (List ℕ)) (status : ℕ)
+pub end_done : (r : Result (Unit {0}) RecordingError) (all : List PacketKindTag) (layout : Layout) (sums : Bool) (old new : Recording) (text bytes : List ℕ) (ok : Bool) (n : ℕ) (a b c : Option (List ℕ)) (status : ℕ)
     → r ≡ Ok tt → ok ≡ true → bytes ≡ text → n ≡ lost_status (recorded.has_lost new) → Ends r all old new text → IsFront ok bytes a b
     → (answer : Answer) × EndsWith sums [] n answer × IsWritten answer b c status → InputEnds all layout sums old new a c status
 end_done r all layout sums old new text bytes ok n a b c status is whole same lost says front ended =

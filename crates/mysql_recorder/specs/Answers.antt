@@ -1,15 +1,15 @@
 -- What the program makes of a recording.
 use Rattle.std.specs.Prelude.{◌≡◌, ◌⊎◌, ℕ, Bool, true, false, List, [], ◌++◌, Option, Some, None, Result, OnOk, Ok, IfErr, MatchResult, codes}
 use Rattle.std.specs.Io.KnownBytes.{Appends, Consumes, IsAtEnd}
-use Rattle.mysql_conversation.specs.declared.kind_name.KindName.{KindName}
-use Rattle.mysql_conversation.specs.declared.pipeline.Refusal.{Refusal}
-use Rattle.mysql_fields.specs.Entries.{Stays}
-use Rattle.mysql_fields.specs.declared.entry.Layout.{Layout}
-use Rattle.mysql_fields.specs.declared.entry.Layout.TheVariants as layout
+use Rattle.mysql_conversation.specs.declared.packet_kind_tag.PacketKindTag.{PacketKindTag}
+use Rattle.mysql_conversation.specs.declared.pipeline.SessionError.{SessionError}
+use Rattle.mysql_show.specs.Appended.{Stays}
+use Rattle.mysql_recorder.specs.declared.entry.Layout.{Layout}
+use Rattle.mysql_recorder.specs.declared.entry.Layout.TheVariants as layout
 use Rattle.mysql_recorder.specs.Calls.{call_of}
 use Rattle.mysql_recorder.specs.Lines.{Heard}
 use Rattle.mysql_recorder.specs.Losses.{IsAtFeed, IsLost, Loses, TextLoses}
-use Rattle.mysql_output.specs.Output.{Answer, IsFront, IsWritten}
+use Rattle.mysql_show.specs.Output.{Answer, IsFront, IsWritten}
 use Rattle.mysql_recorder.specs.Recorded.{Finishes, GoesOn, IsShown, Recorded}
 use Rattle.mysql_recorder.specs.Recorded as recorded
 use Rattle.mysql_recorder.specs.Refusals.{IfRefused}
@@ -23,12 +23,12 @@ use Rattle.mysql_recorder.specs.declared.recording.Recording.{Recording}
 
 -- ---- what a recording makes of an input
 
--- an entry for each packet that ends in the input, but for these bytes, which wait
+-- an entry for each packet that ends in the input, except for these bytes, which wait
 abbrev pub Shows : Layout → List ℕ → List Heard → List ℕ → Type 0
 Shows layout input waits text = (items : List Item) × IsShown input waits items × Writes layout items [] text
 
 -- After a front of the input something is lost, and the packets up to there are shown; after that what was shown stays.
-abbrev pub LostIn : List KindName → Layout → ℕ → (List ℕ → Type 0) → List ℕ → List ℕ → Type 0
+abbrev pub LostIn : List PacketKindTag → Layout → ℕ → (List ℕ → Type 0) → List ℕ → List ℕ → Type 0
 LostIn all layout limit ends input text =
     (front : List ℕ) × (back : List ℕ) × (items : List Item) × (shown : List ℕ) × (mid : List ℕ) × (input ≡ front ++ back)
     × Writes layout items [] shown × IsLost all layout limit (ends back) front items shown mid × Stays mid text
@@ -38,17 +38,17 @@ abbrev pub IsLineEnd : List ℕ → Type 0
 IsLineEnd bytes = IsAtFeed bytes ⊎ (bytes ≡ [])
 
 -- what is shown of an input so far
-abbrev pub IsMade : List KindName → Layout → ℕ → List ℕ → List ℕ → Type 0
+abbrev pub IsMade : List PacketKindTag → Layout → ℕ → List ℕ → List ℕ → Type 0
 IsMade all layout limit input text = ((waits : List Heard) × Shows layout input waits text) ⊎ LostIn all layout limit IsAtFeed input text
 
 -- After a front of the input a packet doesn't come; those before it are shown, and then it is, as refused.
-abbrev pub RefusedIn : List KindName → Layout → Refusal → List ℕ → List ℕ → Type 0
+abbrev pub RefusedIn : List PacketKindTag → Layout → SessionError → List ℕ → List ℕ → Type 0
 RefusedIn all layout why input text =
     (front : List ℕ) × (back : List ℕ) × (items : List Item) × (mid : List ℕ) × (input ≡ front ++ back)
     × Writes layout items [] mid × StopsAfter all layout front items why mid text
 
 -- what is shown of a front of the input stands first
-abbrev pub BeginsMade : List KindName → Layout → ℕ → List ℕ → List ℕ → Type 0
+abbrev pub BeginsMade : List PacketKindTag → Layout → ℕ → List ℕ → List ℕ → Type 0
 BeginsMade all layout limit input text =
     (front : List ℕ) × (back : List ℕ) × (made : List ℕ) × (input ≡ front ++ back) × IsMade all layout limit front made × Stays made text
 
@@ -93,20 +93,20 @@ pub record IsDone (layout : Layout) (sums : Bool) (input : List ℕ) (answer : A
   pub ends : EndsWith sums shown 0 answer
 
 -- The input is read to its end, and something is lost.
-pub record HasLost (all : List KindName) (layout : Layout) (limit : ℕ) (sums : Bool) (input : List ℕ) (answer : Answer) : Type 0 where
+pub record HasLost (all : List PacketKindTag) (layout : Layout) (limit : ℕ) (sums : Bool) (input : List ℕ) (answer : Answer) : Type 0 where
   pub shown : List ℕ
   pub lost : LostIn all layout limit IsLineEnd input shown
   pub ends : EndsWith sums shown 1 answer
 
 -- A packet doesn't come before a login is done.
-pub record IsRefused (all : List KindName) (layout : Layout) (sums : Bool) (input : List ℕ) (answer : Answer) : Type 0 where
-  pub why : Refusal
+pub record IsRefused (all : List PacketKindTag) (layout : Layout) (sums : Bool) (input : List ℕ) (answer : Answer) : Type 0 where
+  pub why : SessionError
   pub shown : List ℕ
   pub stops : RefusedIn all layout why input shown
   pub ends : EndsWith sums shown 1 answer
 
 -- It goes no further for another reason. A packet that doesn't come is one only where something was lost.
-pub record GoesNoFurther (all : List KindName) (layout : Layout) (limit : ℕ) (sums : Bool) (input : List ℕ) (answer : Answer) : Type 0 where
+pub record GoesNoFurther (all : List PacketKindTag) (layout : Layout) (limit : ℕ) (sums : Bool) (input : List ℕ) (answer : Answer) : Type 0 where
   pub why : RecordingError
   pub shown : List ℕ
   pub line : List ℕ
@@ -116,17 +116,17 @@ pub record GoesNoFurther (all : List KindName) (layout : Layout) (limit : ℕ) (
   pub ends : EndsWith sums (shown ++ line) 1 answer
 
 -- A read or a write fails: what is shown so far.
-pub record IsCutOff (all : List KindName) (layout : Layout) (limit : ℕ) (input : List ℕ) (answer : Answer) : Type 0 where
+pub record IsCutOff (all : List PacketKindTag) (layout : Layout) (limit : ℕ) (input : List ℕ) (answer : Answer) : Type 0 where
   pub made : IsMade all layout limit input answer.text
   pub status : answer.status ≡ 3
 
-abbrev pub IsAnswer : List KindName → Layout → ℕ → (sums : Bool) → (at_end : Type 0) → List ℕ → Answer → Type 0
+abbrev pub IsAnswer : List PacketKindTag → Layout → ℕ → (sums : Bool) → (at_end : Type 0) → List ℕ → Answer → Type 0
 IsAnswer all layout limit sums at_end input answer =
     (at_end × IsDone layout sums input answer) ⊎ (at_end × HasLost all layout limit sums input answer) ⊎ IsRefused all layout sums input answer
     ⊎ GoesNoFurther all layout limit sums input answer ⊎ IsCutOff all layout limit input answer
 
 -- The reader gave an input, and an answer is written. Where the connection is seen from its greeting on, it is that for the input.
-pub record IsAnswered (all : List KindName) (layout : Layout) (limit : ℕ) (sums : Bool) (from_greeting : Type 0) (before after old new : Option (List ℕ)) (status : ℕ) : Type 0 where
+pub record IsAnswered (all : List PacketKindTag) (layout : Layout) (limit : ℕ) (sums : Bool) (from_greeting : Type 0) (before after old new : Option (List ℕ)) (status : ℕ) : Type 0 where
   pub input : List ℕ
   pub read : Consumes before after input
   pub answer : Answer
@@ -138,18 +138,18 @@ abbrev pub usage : Answer
 usage = record { text = codes "usage: mypackets conversation [MAX] [caps=CAPS] [mariadb=CAPS] [--deciphered] [--json] [--sum]\n"; status = 2 }
 
 -- What is asked for is answered. A bad call is answered by its usage, and nothing is read.
-abbrev pub IsCallAnswered : List KindName → Option Call → Option (List ℕ) → Option (List ℕ) → Option (List ℕ) → Option (List ℕ) → ℕ → Type 0
+abbrev pub IsCallAnswered : List PacketKindTag → Option Call → Option (List ℕ) → Option (List ℕ) → Option (List ℕ) → Option (List ℕ) → ℕ → Type 0
 IsCallAnswered all None before after old new status = (after ≡ before) × IsWritten usage old new status
 IsCallAnswered all (Some call) before after old new status = IsAnswered all call.layout call.longest call.sums (call.agreed ≡ None) before after old new status
 
 -- what the words ask for
-abbrev pub IsRun : List KindName → (words : List (List ℕ)) → (before after old new : Option (List ℕ)) → ℕ → Type 0
+abbrev pub IsRun : List PacketKindTag → (words : List (List ℕ)) → (before after old new : Option (List ℕ)) → ℕ → Type 0
 IsRun all words before after old new status = IsCallAnswered all (call_of words) before after old new status
 
 -- ---- its steps
 
 -- what `take` says of a piece
-pub record Takes (r : Result (Unit {0}) RecordingError) (all : List KindName) (piece : List ℕ) (old new : Recording) (text : List ℕ) : Type 0 where
+pub record Takes (r : Result (Unit {0}) RecordingError) (all : List PacketKindTag) (piece : List ℕ) (old new : Recording) (text : List ℕ) : Type 0 where
   pub goes : OnOk r (GoesOn piece old new [] text)
   pub refused : IfErr r (λ e. Stops all piece old new e [] text)
   pub loses : Loses r all piece old new [] text
@@ -158,7 +158,7 @@ pub record Takes (r : Result (Unit {0}) RecordingError) (all : List KindName) (p
   pub longest : recorded.longest new ≡ recorded.longest old
 
 -- what `finish` says
-pub record Ends (r : Result (Unit {0}) RecordingError) (all : List KindName) (old new : Recording) (text : List ℕ) : Type 0 where
+pub record Ends (r : Result (Unit {0}) RecordingError) (all : List PacketKindTag) (old new : Recording) (text : List ℕ) : Type 0 where
   pub finishes : OnOk r (Finishes old new [] text)
   pub refused : IfErr r (λ e. TextStops all old e [] text)
   pub loses : TextLoses r all (Unit {0}) old new [] text
@@ -184,20 +184,20 @@ lost_status true = 1
 lost_status false = 0
 
 -- a piece is taken, and what it says is written
-pub record PieceGoesOn (all : List KindName) (piece : List ℕ) (before after : Recording) (old new : Option (List ℕ)) : Type 0 where
+pub record PieceGoesOn (all : List PacketKindTag) (piece : List ℕ) (before after : Recording) (old new : Option (List ℕ)) : Type 0 where
   pub text : List ℕ
   pub takes : Takes (Ok tt) all piece before after text
   pub written : Appends old new text
 
 -- it goes no further in a piece, or a write fails
-pub record PieceEnds (all : List KindName) (layout : Layout) (sums : Bool) (piece : List ℕ) (before after : Recording) (old new : Option (List ℕ)) (status : ℕ) : Type 0 where
+pub record PieceEnds (all : List PacketKindTag) (layout : Layout) (sums : Bool) (piece : List ℕ) (before after : Recording) (old new : Option (List ℕ)) (status : ℕ) : Type 0 where
   pub taken : Result (Unit {0}) RecordingError
   pub text : List ℕ
   pub takes : Takes taken all piece before after text
   pub ends : FailsIn text old new status ⊎ MatchResult taken (λ _. ⊥) (λ e. IsErrorWritten layout sums e text old new status)
 
 -- the input is at its end
-pub record InputEnds (all : List KindName) (layout : Layout) (sums : Bool) (before after : Recording) (old new : Option (List ℕ)) (status : ℕ) : Type 0 where
+pub record InputEnds (all : List PacketKindTag) (layout : Layout) (sums : Bool) (before after : Recording) (old new : Option (List ℕ)) (status : ℕ) : Type 0 where
   pub finished : Result (Unit {0}) RecordingError
   pub text : List ℕ
   pub says : Ends finished all before after text

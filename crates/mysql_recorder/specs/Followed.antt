@@ -6,9 +6,9 @@ use Rattle.mysql_conversation.specs.Piped.{PipeTaken, place}
 use Rattle.mysql_conversation.specs.Pipelined.{IsPipelined, Numbered}
 use Rattle.mysql_conversation.specs.Session as session
 use Rattle.mysql_conversation.specs.Session.{IsSession, SessionTaken}
-use Rattle.mysql_conversation.specs.declared.kind.Kind.{Kind}
-use Rattle.mysql_conversation.specs.declared.kind.Opening.TheVariants.{Commands}
-use Rattle.mysql_conversation.specs.declared.kind.Side.TheVariants.{Client}
+use Rattle.mysql_conversation.specs.declared.packet_kind.PacketKind.{PacketKind}
+use Rattle.mysql_conversation.specs.declared.packet_kind.InitialPhase.TheVariants.{Commands}
+use Rattle.mysql_conversation.specs.declared.packet_kind.Side.TheVariants.{Client}
 use Rattle.mysql_conversation.specs.declared.pipeline.Pipeline.{Pipeline}
 use Rattle.mysql_conversation.specs.declared.session.Session.{Session}
 use Rattle.mysql_recorder.specs.declared.followed.Connection.{Connection}
@@ -37,14 +37,14 @@ may_wait f = limit_of f.connection
 
 -- A connection that is taken up between two exchanges, under what both sides agreed on, and of which these packets came. Exchanges are
 -- counted on from this number.
-abbrev pub IsTakenUp : Followed → Agreed → List Numbered → ℕ → Type 0
-IsTakenUp f a items before =
+abbrev pub IsResynced : Followed → Agreed → List Numbered → ℕ → Type 0
+IsResynced f a items before =
     (p : Pipeline) × (f.connection ≡ connection.TakenUp p a) × (pipe.agreed p ≡ a) × (pipe.opening p ≡ Commands) × PipeTaken p items × (f.before ≡ before)
 
 -- of it this command came, or nothing, where it is none
-abbrev pub IsTakenUpAfter : Followed → Agreed → List ℕ → ℕ → Type 0
-IsTakenUpAfter f a command before =
-    ((kind : Kind) × (number : ℕ) × IsTakenUp f a (place Client command kind number ∷ []) before) ⊎ IsTakenUp f a [] before
+abbrev pub IsResyncedAfter : Followed → Agreed → List ℕ → ℕ → Type 0
+IsResyncedAfter f a command before =
+    ((kind : PacketKind) × (number : ℕ) × IsResynced f a (place Client command kind number ∷ []) before) ⊎ IsResynced f a [] before
 
 -- all that was asked for is answered
 abbrev pub IsAtRest : Connection → Type 0

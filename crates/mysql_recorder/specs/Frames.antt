@@ -1,7 +1,7 @@
 -- The packets of both sides' streams.
 use Rattle.std.specs.Prelude.{◌≡◌, ℕ, ◌≤◌, Bool, true, false, List, [], ◌∷◌, ◌++◌, length, slice_index, if◌then◌else◌}
-use Rattle.mysql_conversation.specs.declared.kind.Side.{Side}
-use Rattle.mysql_conversation.specs.declared.kind.Side.TheVariants.{Client, Server}
+use Rattle.mysql_conversation.specs.declared.packet_kind.Side.{Side}
+use Rattle.mysql_conversation.specs.declared.packet_kind.Side.TheVariants.{Client, Server}
 use Rattle.mysql_frames.specs.FrameReader.{ReaderState}
 use Rattle.mysql_frames.specs.Frames.{Framed}
 use Rattle.mysql_recorder.specs.Lines.{Heard, heard}

@@ -1,11 +1,11 @@
 -- Where something of a recording is lost.
 use Rattle.std.specs.Prelude.{◌≡◌, ◌⊎◌, ℕ, ◌≤◌, true, List, [], ◌∷◌, ◌++◌, length, slice_index, Result, OnOk}
 use Rattle.mysql_conversation.specs.Session.{IsSessionBeginning}
-use Rattle.mysql_conversation.specs.declared.kind.Side.{Side}
-use Rattle.mysql_conversation.specs.declared.kind_name.KindName.{KindName}
-use Rattle.mysql_conversation.specs.declared.pipeline.Refusal.{Refusal}
-use Rattle.mysql_fields.specs.Entries.{Stays}
-use Rattle.mysql_fields.specs.declared.entry.Layout.{Layout}
+use Rattle.mysql_conversation.specs.declared.packet_kind.Side.{Side}
+use Rattle.mysql_conversation.specs.declared.packet_kind_tag.PacketKindTag.{PacketKindTag}
+use Rattle.mysql_conversation.specs.declared.pipeline.SessionError.{SessionError}
+use Rattle.mysql_show.specs.Appended.{Stays}
+use Rattle.mysql_recorder.specs.declared.entry.Layout.{Layout}
 use Rattle.mysql_frames.specs.FrameReader.{NoneWhole, AllLonger}
 use Rattle.mysql_recorder.specs.Frames.{Piece, AreFrames, AreFrom, of_side}
 use Rattle.mysql_recorder.specs.Lines.{AreLines, Line, heard, text_of, Stands}
@@ -41,17 +41,17 @@ BreaksIn layout limit side bytes items before after =
     × IsSessionBeginning (placed (items ++ here)) × (AreNoFrames left ⊎ AreTooLong limit left)
 
 -- there are no frames, or a packet doesn't come, and is shown
-abbrev pub LosesIn : List KindName → Layout → ℕ → Side → List ℕ → List Item → List ℕ → List ℕ → Type 0
+abbrev pub LosesIn : List PacketKindTag → Layout → ℕ → Side → List ℕ → List Item → List ℕ → List ℕ → Type 0
 LosesIn all layout limit side bytes items before after =
-    BreaksIn layout limit side bytes items before after ⊎ ((why : Refusal) × StopsIn all layout side bytes items why before after)
+    BreaksIn layout limit side bytes items before after ⊎ ((why : SessionError) × StopsIn all layout side bytes items why before after)
 
 -- in a piece of a side
-abbrev pub PieceLosesIn : List KindName → Side → List ℕ → Sides → List ℕ → List ℕ → Type 0
+abbrev pub PieceLosesIn : List PacketKindTag → Side → List ℕ → Sides → List ℕ → List ℕ → Type 0
 PieceLosesIn all side bytes s before after = (pieces : List Piece) (items : List Item) → Stand s pieces items
     → LosesIn all (sides.layout s) (sides.longest s) side (of_side side s.client.reader.held s.server.reader.held ++ bytes) items before after
 
 -- where something is lost now, it is lost in the piece, and what is shown of it stays
-abbrev pub PieceLoses : Result (Unit {0}) RecordingError → List KindName → Side → List ℕ → Sides → Sides → List ℕ → List ℕ → Type 0
+abbrev pub PieceLoses : Result (Unit {0}) RecordingError → List PacketKindTag → Side → List ℕ → Sides → Sides → List ℕ → List ℕ → Type 0
 PieceLoses r all side bytes old new before after = sides.has_lost new ≡ true → (pieces : List Piece) (items : List Item) → Stand old pieces items
     → (mid : List ℕ)
     × LosesIn all (sides.layout old) (sides.longest old) side (of_side side old.client.reader.held old.server.reader.held ++ bytes) items before mid
@@ -60,18 +60,18 @@ PieceLoses r all side bytes old new before after = sides.has_lost new ≡ true �
 -- ---- lines
 
 -- the same of what waits of a line
-abbrev pub LineLoses : Result (Unit {0}) RecordingError → List KindName → Recording → Recording → List ℕ → List ℕ → Type 0
+abbrev pub LineLoses : Result (Unit {0}) RecordingError → List PacketKindTag → Recording → Recording → List ℕ → List ℕ → Type 0
 LineLoses r all old new before after = PieceLoses r all old.line.side old.line.bytes.items old.sides new.sides before after
 
 -- of a line that ends: it is lost in what waits, or all of the line waits, and is a mark of missing bytes
-abbrev pub LineEndLoses : Result (Unit {0}) RecordingError → List KindName → Recording → Recording → List ℕ → List ℕ → Type 0
+abbrev pub LineEndLoses : Result (Unit {0}) RecordingError → List PacketKindTag → Recording → Recording → List ℕ → List ℕ → Type 0
 LineEndLoses r all old new before after =
     LineLoses r all old new before after ⊎ ((old.line.is_untaken ≡ true) × IsMark old.line.bytes.items × OnOk r (Stays before after))
 
 -- ---- texts
 
 -- This text was read, and these packets of it are shown; in what was held and waits something is lost.
-pub record LosesAfter (all : List KindName) (layout : Layout) (limit : ℕ) (text : List ℕ) (items : List Item) (before after : List ℕ) : Type 0 where
+pub record LosesAfter (all : List PacketKindTag) (layout : Layout) (limit : ℕ) (text : List ℕ) (items : List Item) (before after : List ℕ) : Type 0 where
   pub side : Side
   pub bytes : List ℕ
   pub shown : IsShown text (heard side bytes) items
@@ -91,11 +91,11 @@ pub record EndsInMark (text : List ℕ) (items : List Item) : Type 0 where
   pub is_mark : IsMark mark
 
 -- after a text of which these packets are shown something is lost: in what came of it; or, where its last line ends, by a mark
-abbrev pub IsLost : List KindName → Layout → ℕ → Type 0 → List ℕ → List Item → List ℕ → List ℕ → Type 0
+abbrev pub IsLost : List PacketKindTag → Layout → ℕ → Type 0 → List ℕ → List Item → List ℕ → List ℕ → Type 0
 IsLost all layout limit ends text items before after =
     LosesAfter all layout limit text items before after ⊎ (EndsInMark text items × ends × (before ≡ after))
 
-abbrev pub TextLoses : Result (Unit {0}) RecordingError → List KindName → Type 0 → Recording → Recording → List ℕ → List ℕ → Type 0
+abbrev pub TextLoses : Result (Unit {0}) RecordingError → List PacketKindTag → Type 0 → Recording → Recording → List ℕ → List ℕ → Type 0
 TextLoses r all ends old new before after = has_lost new ≡ true → (text : List ℕ) (items : List Item) → Recorded old text items
     → (mid : List ℕ) × IsLost all (layout old) (longest old) ends text items before mid × OnOk r (Stays mid after)
 
@@ -104,7 +104,7 @@ abbrev pub IsAtFeed : List ℕ → Type 0
 IsAtFeed bytes = (rest : List ℕ) × (bytes ≡ 10 ∷ rest)
 
 -- Where something is lost now, it is lost after a front of the input, whose packets are shown. What is shown of it stays.
-abbrev pub Loses : Result (Unit {0}) RecordingError → List KindName → List ℕ → Recording → Recording → List ℕ → List ℕ → Type 0
+abbrev pub Loses : Result (Unit {0}) RecordingError → List PacketKindTag → List ℕ → Recording → Recording → List ℕ → List ℕ → Type 0
 Loses r all input old new before after = has_lost new ≡ true → (text : List ℕ) (items : List Item) → Recorded old text items
     → (front : List ℕ) × (back : List ℕ) × (here : List Item) × (shown : List ℕ) × (mid : List ℕ) × (input ≡ front ++ back)
     × Writes (layout old) here before shown × IsLost all (layout old) (longest old) (IsAtFeed back) (text ++ front) (items ++ here) shown mid × OnOk r (Stays mid after)

@@ -4,7 +4,7 @@ use Rattle.std.specs.Prelude.{◌≡◌, ℕ, zero, suc, ◌+◌, ◌-◌, ◌*�
 abbrev pub IsDecimalDigit : ℕ → Type 0
 IsDecimalDigit c = (48 ≤ c) × (c ≤ 57)
 
--- so many digits are at the front of a text
+-- a given number of digits are at the front of a text
 abbrev pub BeginsWithDigits : ℕ → List ℕ → Type 0
 BeginsWithDigits n text = (k : ℕ) → k < n → IsDecimalDigit (slice_index text k)
 

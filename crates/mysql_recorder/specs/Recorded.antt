@@ -1,7 +1,7 @@
 -- What a recording has read, and shown.
 use Rattle.std.specs.Prelude.{◌≡◌, ◌⊎◌, ℕ, Bool, true, List, [], ◌∷◌, ◌++◌}
 use Rattle.mysql_conversation.specs.Agreements.{Agreed}
-use Rattle.mysql_fields.specs.declared.entry.Layout.{Layout}
+use Rattle.mysql_recorder.specs.declared.entry.Layout.{Layout}
 use Rattle.mysql_recorder.specs.Frames.{Piece, joined, ComeIn, NoneComes}
 use Rattle.mysql_recorder.specs.Lines.{AreLines, Heard, heard, IsRead, IsOfSide, Line, said_by, Stands, text_of}
 use Rattle.mysql_recorder.specs.Shown.{Item, Writes}
@@ -76,8 +76,8 @@ SaysLeft r old new = steps.SaysLeft r.sides old new
 
 -- From this place in the text on, the connection is taken up at its next command, under what both sides agreed on: both streams are out of
 -- step up to there. Exchanges are counted on.
-pub record IsTakenUp (old new : Recording) (agreed : Agreed) : Type 0 where
-  pub awaited : sides.IsTakenUp new.sides agreed (last_exchange old)
+pub record IsResynced (old new : Recording) (agreed : Agreed) : Type 0 where
+  pub awaited : sides.IsResynced new.sides agreed (last_exchange old)
   pub place : new.place ≡ old.place
   pub line : new.line ≡ old.line
 
@@ -91,7 +91,7 @@ abbrev pub Takes : Recording → Recording → List ℕ → List ℕ → Type 0
 Takes old new before after = (pieces : List Piece) (items : List Item) → Stand old.sides pieces items
     → (has_lost new ≡ true) ⊎ ((here : List Item) × Stand new.sides (pieces ++ sides.piece old.line.side old.line.bytes.items ∷ []) (items ++ here) × Writes (layout old) here before after)
 
--- The text says bytes of both sides. They come in pieces of one side each, but for these last ones, and the packets are those that end in the
+-- The text says bytes of both sides. They come in pieces of one side each, except for these last ones, and the packets are those that end in the
 -- pieces; in what is left of either stream there is none.
 pub record IsShown (text : List ℕ) (waits : List Heard) (items : List Item) : Type 0 where
   pub at : Place

@@ -1,32 +1,32 @@
 -- Packets of a connection that don't come.
 use Rattle.std.specs.Prelude.{◌≡◌, ℕ, List, ◌++◌}
 use Rattle.mysql_conversation.specs.Pipelined.{Numbered}
-use Rattle.mysql_conversation.specs.declared.kind.Side.{Side}
-use Rattle.mysql_conversation.specs.declared.kind_name.KindName.{KindName}
-use Rattle.mysql_conversation.specs.declared.pipeline.Refusal.{Refusal}
-use Rattle.mysql_fields.specs.declared.entry.Layout.{Layout}
+use Rattle.mysql_conversation.specs.declared.packet_kind.Side.{Side}
+use Rattle.mysql_conversation.specs.declared.packet_kind_tag.PacketKindTag.{PacketKindTag}
+use Rattle.mysql_conversation.specs.declared.pipeline.SessionError.{SessionError}
+use Rattle.mysql_recorder.specs.declared.entry.Layout.{Layout}
 use Rattle.mysql_recorder.specs.Followed.{IsFollowed}
 use Rattle.mysql_recorder.specs.Refused.{AreExpected, refused_entry, refused_fields}
-use Rattle.mysql_recorder.specs.Shown.{Entry, entry_text}
+use Rattle.mysql_recorder.specs.Entries.{Entry, entry_text}
 use Rattle.mysql_recorder.specs.declared.error.RecordingError.{RecordingError}
 use Rattle.mysql_recorder.specs.declared.error.RecordingError.TheVariants as error
 use Rattle.mysql_recorder.specs.declared.followed.Followed.{Followed}
 
 -- of these names, those of kinds that may come next
-abbrev pub Expects : Followed → List KindName → List KindName → Type 0
+abbrev pub Expects : Followed → List PacketKindTag → List PacketKindTag → Type 0
 Expects f all names = (items : List Numbered) → IsFollowed f items → AreExpected items all names
 
 -- the entry is appended with the fields of a packet that doesn't come
-abbrev pub AppendsRefused : List KindName → Layout → Followed → Entry → Refusal → List ℕ → List ℕ → Type 0
+abbrev pub AppendsRefused : List PacketKindTag → Layout → Followed → Entry → SessionError → List ℕ → List ℕ → Type 0
 AppendsRefused all layout f entry why before after =
-    (names : List KindName) × Expects f all names × (after ≡ before ++ entry_text layout entry (refused_fields entry.payload why names))
+    (names : List PacketKindTag) × Expects f all names × (after ≡ before ++ entry_text layout entry (refused_fields entry.payload why names))
 
 -- of the exchange that came last
-abbrev pub Refuses : List KindName → Layout → Followed → Side → ℕ → List ℕ → Refusal → List ℕ → List ℕ → Type 0
+abbrev pub Refuses : List PacketKindTag → Layout → Followed → Side → ℕ → List ℕ → SessionError → List ℕ → List ℕ → Type 0
 Refuses all layout f side sequence payload why before after = AppendsRefused all layout f (refused_entry side sequence f.last payload) why before after
 
 -- where the error is a refusal, this is so of its reason
-abbrev pub IfRefused : RecordingError → (Refusal → Type 0) → Type 0
+abbrev pub IfRefused : RecordingError → (SessionError → Type 0) → Type 0
 IfRefused (error.Refused why) P = P why
 IfRefused error.Memory P = Unit {0}
 IfRefused error.Line P = Unit {0}

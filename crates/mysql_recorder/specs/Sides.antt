@@ -2,9 +2,9 @@
 use Rattle.std.specs.Prelude.{◌≡◌, ◌⊎◌, ℕ, Bool, true, false, List, [], ◌++◌, Option, Some, None, is_some}
 use Rattle.mysql_conversation.specs.Agreements.{Agreed}
 use Rattle.mysql_conversation.specs.Session.{IsSession}
-use Rattle.mysql_conversation.specs.declared.kind.Side.{Side}
-use Rattle.mysql_conversation.specs.declared.kind.Side.TheVariants.{Client, Server}
-use Rattle.mysql_fields.specs.declared.entry.Layout.{Layout}
+use Rattle.mysql_conversation.specs.declared.packet_kind.Side.{Side}
+use Rattle.mysql_conversation.specs.declared.packet_kind.Side.TheVariants.{Client, Server}
+use Rattle.mysql_recorder.specs.declared.entry.Layout.{Layout}
 use Rattle.mysql_recorder.specs.Followed as connection
 use Rattle.mysql_recorder.specs.Followed.{IsFollowed}
 use Rattle.mysql_recorder.specs.Frames.{Piece, AreFrames, NoneComes, AreFrom, ComeIn, IsNumbered}
@@ -93,8 +93,8 @@ pub record IsAwaited (stream : Stream) (longest : ℕ) : Type 0 where
 
 -- The connection is taken up at its next command, under what both sides agreed on, and nothing of it came yet. Exchanges are counted on
 -- from this number.
-pub record IsTakenUp (s : Sides) (agreed : Agreed) (before : ℕ) : Type 0 where
-  pub followed : connection.IsTakenUp s.packets.followed agreed [] before
+pub record IsResynced (s : Sides) (agreed : Agreed) (before : ℕ) : Type 0 where
+  pub followed : connection.IsResynced s.packets.followed agreed [] before
   pub client : IsAwaited s.client s.longest
   pub server : IsAwaited s.server s.longest
 
@@ -106,7 +106,7 @@ GoesOn more old new before after = (pieces : List Piece) (items : List Item) →
 abbrev pub piece : Side → List ℕ → Piece
 piece side bytes = record { side = side; bytes = bytes }
 
--- but for the answer that is awaited all is the same
+-- except for the answer that is awaited all is the same
 pub record IsSame (old new : Sides) : Type 0 where
   pub client : new.client ≡ old.client
   pub server : new.server ≡ old.server
@@ -114,7 +114,7 @@ pub record IsSame (old new : Sides) : Type 0 where
   pub longest : new.longest ≡ old.longest
   pub packets : new.packets ≡ old.packets
 
--- but for the sums all is the same
+-- except for the sums all is the same
 pub record IsSummed (old new : Sides) : Type 0 where
   pub client : new.client ≡ old.client
   pub server : new.server ≡ old.server

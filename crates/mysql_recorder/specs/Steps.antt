@@ -1,15 +1,11 @@
 -- Where a stream is in step again, and what is said of one that isn't.
 use Rattle.std.specs.Prelude.{◌≡◌, ℕ, ◌+◌, ◌-◌, ◌^◌, ◌==◌, ◌||◌, ◌&&◌, min, nat_lt, not, Bool, true, false, List, [], ◌∷◌, ◌++◌, Option, Some, None, is_some, codes, if◌then◌else◌}
 use Rattle.std.specs.Str.{bytes_eq}
-use Rattle.mysql_conversation.specs.declared.kind.Side.{Side}
-use Rattle.mysql_conversation.specs.declared.kind.Side.TheVariants.{Client, Server}
-use Rattle.mysql_fields.specs.Entries.{name_of_side, sign_of}
-use Rattle.mysql_fields.specs.FieldObject.{object_line}
-use Rattle.mysql_fields.specs.FieldText.{lines_of}
-use Rattle.mysql_fields.specs.Fields.{Said, said, Number, Word}
-use Rattle.mysql_fields.specs.declared.entry.Layout.{Layout}
-use Rattle.mysql_fields.specs.declared.entry.Layout.TheVariants as layouts
+use Rattle.mysql_conversation.specs.declared.packet_kind.Side.{Side}
+use Rattle.mysql_conversation.specs.declared.packet_kind.Side.TheVariants.{Client, Server}
+use Rattle.mysql_show.specs.Fields.{Said, said, Number}
 use Rattle.mysql_wire.specs.ServerCommand.{server_command_of}
+use Rattle.mysql_recorder.specs.Entries.{notice_text}
 use Rattle.mysql_recorder.specs.Frames.{is_side}
 use Rattle.mysql_recorder.specs.Sides.{has_lost, layout, passed_of}
 use Rattle.mysql_recorder.specs.declared.sides.Sides.{Sides}
@@ -39,36 +35,27 @@ begins Server s line = answers s.answer line
 abbrev pub StepsIn : Side → List ℕ → Sides → Sides → Type 0
 StepsIn side line old new = (begins side old line ≡ true → passed_of side new ≡ None) × (begins side old line ≡ false → passed_of side new ≡ passed_of side old)
 
--- ---- remarks
-
-abbrev pub remark_head : Side → (exchange : ℕ) → (kind : List ℕ) → List Said
-remark_head side exchange kind =
-    said (codes "side") (Word (name_of_side side)) ∷ said (codes "exchange") (Number exchange) ∷ said (codes "kind") (Word kind) ∷ []
-
--- what is said of a side's stream between its packets
-abbrev pub remark_text : Layout → Side → (exchange : ℕ) → (kind : List ℕ) → List Said → List ℕ
-remark_text layouts.Lines side exchange kind fields = (sign_of side ++ (codes " " ++ (kind ++ codes "\n"))) ++ lines_of fields
-remark_text layouts.Json side exchange kind fields = object_line (remark_head side exchange kind) fields
+-- ---- notices
 
 -- the exchange that came last; where the client's stream is taken up, the one that begins
 abbrev pub exchange_after : (is_next : Bool) → ℕ → ℕ
 exchange_after true last = min (last + 1) (2 ^ 64 - 1)
 exchange_after false last = last
 
-abbrev pub remark_exchange : (kind : List ℕ) → Side → ℕ → ℕ
-remark_exchange kind side last = exchange_after (bytes_eq kind (codes "taken_up") && is_side Client side) last
+abbrev pub notice_exchange : (kind : List ℕ) → Side → ℕ → ℕ
+notice_exchange kind side last = exchange_after (bytes_eq kind (codes "resync") && is_side Client side) last
 
 -- how many bytes of a stream were passed over
-abbrev pub passed_over : ℕ → List Said
-passed_over count = said (codes "passed_over") (Number count) ∷ []
+abbrev pub skipped_bytes : ℕ → List Said
+skipped_bytes count = said (codes "skipped_bytes") (Number count) ∷ []
 
 abbrev pub passed_text : Sides → (kind : List ℕ) → Side → ℕ → List ℕ
-passed_text s kind side count = remark_text (layout s) side (remark_exchange kind side s.packets.followed.last) kind (passed_over count)
+passed_text s kind side count = notice_text (layout s) side (notice_exchange kind side s.packets.followed.last) kind (skipped_bytes count)
 
 -- of a stream that is still out of step; nothing is said where nothing is lost and nothing was passed over
 abbrev pub left_of : Sides → Side → Option ℕ → List ℕ
 left_of s side None = []
-left_of s side (Some count) = if has_lost s || nat_lt 0 count then passed_text s (codes "not_taken_up") side count else []
+left_of s side (Some count) = if has_lost s || nat_lt 0 count then passed_text s (codes "no_resync") side count else []
 
 abbrev pub left_text : Side → Sides → List ℕ
 left_text side s = left_of s side (passed_of side s)

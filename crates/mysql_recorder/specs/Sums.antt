@@ -1,8 +1,8 @@
 -- Sums as they are shown.
 use Rattle.std.specs.Prelude.{◌≡◌, ℕ, List, ◌++◌, codes, decimal}
-use Rattle.mysql_fields.specs.Entries.{Begins}
-use Rattle.mysql_fields.specs.declared.entry.Layout.{Layout}
-use Rattle.mysql_fields.specs.declared.entry.Layout.TheVariants as layout
+use Rattle.mysql_recorder.specs.Entries.{Begins}
+use Rattle.mysql_recorder.specs.declared.entry.Layout.{Layout}
+use Rattle.mysql_recorder.specs.declared.entry.Layout.TheVariants as layout
 
 -- how many packets are counted
 abbrev pub count_line : ℕ → List ℕ

@@ -1,9 +1,9 @@
 -- One packet that is shown.
 use Rattle.std.specs.Prelude.{ℕ, List, [], ◌∷◌, ◌++◌}
 use Rattle.mysql_conversation.specs.Pipelined.{Numbered}
-use Rattle.mysql_conversation.specs.declared.kind.Kind.{Kind}
-use Rattle.mysql_conversation.specs.declared.kind.Side.{Side}
-use Rattle.mysql_fields.specs.declared.entry.Layout.{Layout}
+use Rattle.mysql_conversation.specs.declared.packet_kind.PacketKind.{PacketKind}
+use Rattle.mysql_conversation.specs.declared.packet_kind.Side.{Side}
+use Rattle.mysql_recorder.specs.declared.entry.Layout.{Layout}
 use Rattle.mysql_recorder.specs.Followed.{IsFollowed}
 use Rattle.mysql_recorder.specs.Shown.{item, entry_of, Appends}
 use Rattle.mysql_recorder.specs.declared.followed.Followed.{Followed}
@@ -11,5 +11,5 @@ use Rattle.mysql_recorder.specs.declared.followed.Followed.{Followed}
 -- of some kind and exchange the packet goes on with what came, and its entry is appended
 abbrev pub ShowsPacket : Layout → Side → ℕ → List ℕ → List Numbered → Followed → List ℕ → List ℕ → Type 0
 ShowsPacket layout side sequence payload items new before after =
-    (kind : Kind) × (exchange : ℕ) × IsFollowed new (items ++ (item sequence side payload kind exchange).placed ∷ [])
+    (kind : PacketKind) × (exchange : ℕ) × IsFollowed new (items ++ (item sequence side payload kind exchange).placed ∷ [])
     × Appends layout (entry_of (item sequence side payload kind exchange)) before after

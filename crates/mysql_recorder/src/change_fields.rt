@@ -1,9 +1,9 @@
-//! What an OK packet says of the session.
+//! The session changes of an OK packet, as fields.
 
 use crate::values::fault_name;
-use mysql_fields::Field;
 use mysql_replies::OkPacketRef;
 use mysql_session::{ChangeRef, SystemVariablesRef};
+use mysql_show::Field;
 use mysql_wire::FaultOf;
 use std::alloc::AllocError;
 

@@ -1,13 +1,13 @@
-//! What a command says.
+//! The fields of a command.
 
+use crate::client_fields::append;
 use crate::values::fault_name;
-use mysql_auth::ComChangeUserRef;
 use mysql_commands::{
     ComQueryRef, ComStmtBulkExecuteRef, ComStmtExecuteRef, Command, ServerOption,
 };
-use mysql_fields::Field;
 use mysql_prepared::QueryAttributesView;
-use mysql_repl::{ComBinlogDumpGtidRef, ComBinlogDumpRef, ComRegisterSlaveRef};
+use mysql_repl::{ComBinlogDumpGtidRef, ComBinlogDumpRef};
+use mysql_show::{Field, add_fields, change_user_fields, dump_fields, replica_fields};
 use mysql_wire::Flags;
 use std::alloc::AllocError;
 
@@ -26,14 +26,10 @@ pub(crate) fn append_command<'p>(
             fields.push(Field::bytes("table", list.table()))?;
             Ok(fields.push(Field::bytes("wildcard", list.wildcard()))?)
         },
-        Command::ChangeUser(change) => append_change_user(change.value(), fields),
+        Command::ChangeUser(change) => add_fields(&change_user_fields(change.value()), fields),
         Command::Unknown(unknown) => append(Field::bytes("content", unknown.content()), fields),
         _ => append_number(command, fields),
     }
-}
-
-fn append<'p>(field: Field<'p>, fields: &mut Vec<Field<'p>>) -> Result<(), AllocError> {
-    Ok(fields.push(field)?)
 }
 
 /// Those that say a number first.
@@ -127,7 +123,7 @@ fn append_replication<'p>(
     match command {
         Command::BinlogDump(dump) => append_dump(dump, fields),
         Command::BinlogDumpGtid(dump) => append_gtid_dump(dump.value(), fields),
-        Command::RegisterSlave(replica) => append_replica(replica, fields),
+        Command::RegisterSlave(replica) => add_fields(&replica_fields(replica), fields),
         _ => Ok(()),
     }
 }
@@ -136,40 +132,22 @@ fn append_dump<'p>(
     dump: &ComBinlogDumpRef<'p>,
     fields: &mut Vec<Field<'p>>,
 ) -> Result<(), AllocError> {
-    fields.push(Field::number("position", u64::from(dump.pos())))?;
-    fields.push(Field::number("dump_flags", u64::from(dump.flags().bits())))?;
-    fields.push(Field::number("server_id", u64::from(dump.server_id())))?;
-    Ok(fields.push(Field::bytes("file_name", dump.filename()))?)
+    let (flags, pos) = (dump.flags(), u64::from(dump.pos()));
+    add_fields(
+        &dump_fields(dump.server_id(), flags, dump.filename(), pos),
+        fields,
+    )
 }
 
 fn append_gtid_dump<'p>(
     dump: &ComBinlogDumpGtidRef<'p>,
     fields: &mut Vec<Field<'p>>,
 ) -> Result<(), AllocError> {
-    fields.push(Field::number("position", dump.pos()))?;
-    fields.push(Field::number("dump_flags", u64::from(dump.flags().bits())))?;
-    fields.push(Field::number("server_id", u64::from(dump.server_id())))?;
-    Ok(fields.push(Field::bytes("file_name", dump.filename()))?)
-}
-
-/// A replica's password is not shown.
-fn append_replica<'p>(
-    replica: &ComRegisterSlaveRef<'p>,
-    fields: &mut Vec<Field<'p>>,
-) -> Result<(), AllocError> {
-    fields.push(Field::number("server_id", u64::from(replica.server_id())))?;
-    fields.push(Field::bytes("hostname", replica.hostname()))?;
-    fields.push(Field::bytes("user", replica.user()))?;
-    Ok(fields.push(Field::number("port", u64::from(replica.port())))?)
-}
-
-/// What the user proves itself by is not shown.
-fn append_change_user<'p>(
-    change: &ComChangeUserRef<'p>,
-    fields: &mut Vec<Field<'p>>,
-) -> Result<(), AllocError> {
-    fields.push(Field::bytes("user", change.user()))?;
-    Ok(fields.push(Field::bytes("database", change.database()))?)
+    let (flags, pos) = (dump.flags(), dump.pos());
+    add_fields(
+        &dump_fields(dump.server_id(), flags, dump.filename(), pos),
+        fields,
+    )
 }
 
 /// The text of a query, and its attributes.

@@ -1,22 +1,22 @@
-//! Why a recording goes no further.
+//! Errors of a recording.
 
 use crate::line::LineError;
 use crate::loss::Loss;
-use mysql_conversation::Refusal;
+use mysql_conversation::SessionError;
 use mysql_frames::FrameError;
 use std::alloc::AllocError;
 use thiserror::Error;
 
-/// Why a recording goes no further.
+/// The error that ends a recording.
 #[derive(Clone, Copy, Debug, PartialEq, Eq, Error)]
 pub enum RecordingError {
-    /// Memory was refused.
+    /// An allocation failed.
     #[error("Memory")]
     Memory,
     /// The input has a line that is none of a recording's.
     #[error("InvalidInput")]
     Line,
-    /// A frame of a payload has another sequence number than the one that comes.
+    /// A frame has an unexpected sequence number.
     #[error("OutOfOrder")]
     OutOfOrder,
     /// A payload is longer than the limit.
@@ -25,9 +25,9 @@ pub enum RecordingError {
     /// Bytes are missing before it is known what both sides agreed on.
     #[error("Missing")]
     Missing,
-    /// A packet doesn't come where it stands, before it is known what both sides agreed on: it is shown as the last one.
+    /// A packet is unexpected before the login is done: it is the last one that is shown.
     #[error("refused")]
-    Refused(Refusal),
+    Refused(SessionError),
 }
 
 impl From<AllocError> for RecordingError {

@@ -1,8 +1,8 @@
 //! The lines that a recording is given by.
 //!
-//! A line is a piece of one side's stream, in hexadecimal digits: after `>` of the client's, after `<` of the server's. What
-//! `tshark -z follow,tcp,raw` prints is read too: lower-case digits at the line's beginning are of the client, after a tab of the
-//! server, and its other lines (`===`, `Follow:`, `Filter:`, `Node`) say nothing. An empty line and one after `#` say nothing either.
+//! A line is a piece of one side's stream, in hexadecimal: after `>` for the client, after `<` for the server. The output of
+//! `tshark -z follow,tcp,raw` is read too: lower-case digits at the start of a line are the client's, after a tab the server's,
+//! and its other lines (`===`, `Follow:`, `Filter:`, `Node`) are ignored, as are empty lines and those that begin with `#`.
 
 ghost use Rattle.std.specs.Prelude.{◌≡◌, ℕ, ◌≤◌, List, [], ◌∷◌, ◌++◌, IfOk, IfSome, None, Some, MatchResult};
 ghost use Rattle.mysql_recorder.specs.Lines as spec;
@@ -11,12 +11,12 @@ ghost use Rattle.mysql_recorder.specs.declared.line.Place.TheVariants as variant
 use mysql_conversation::Side;
 use thiserror::Error;
 
-/// A byte that stands in no line there.
+/// A byte that may not come at its place in a line.
 #[derive(Clone, Copy, Debug, PartialEq, Eq, Error)]
-#[error("no line of a recording")]
+#[error("malformed line of a recording")]
 pub struct LineError;
 
-/// How far a line has come.
+/// The place in a line.
 #[derive(Clone, Copy, Debug, PartialEq, Eq)]
 pub(crate) enum Place {
     /// At its beginning.
@@ -29,7 +29,7 @@ pub(crate) enum Place {
     Silent,
 }
 
-/// What a byte of the input ends.
+/// The item that a byte of the input completes.
 #[derive(Clone, Copy, Debug, PartialEq, Eq)]
 pub(crate) enum Said {
     /// A byte of a side's stream.
@@ -62,7 +62,7 @@ fn digit(byte: u8) -> Option<u8>
 }
 
 impl Place {
-    /// Goes past a byte of the input, and answers what it ends.
+    /// Takes a byte of the input, and returns what it completes.
     pub(crate) fn pass(&mut self, byte: u8) -> Result<Option<Said>, LineError>
         ensures passes { IfOk result (λ said. (line : List ℕ) (before : List spec.Heard) → spec.Stands self.old line before → spec.Passes said byte line before self.new) }
         ensures side { IfOk result (λ said. spec.StaysOf said self.old self.new) }
@@ -99,7 +99,7 @@ impl Place {
     }
 }
 
-/// Where a line stands after its first byte.
+/// The place after a line's first byte.
 fn begun_by(byte: u8) -> Result<Place, LineError>
     ensures begins { IfOk result (λ place. (line : List ℕ) (before : List spec.Heard) → spec.Stands variants.Start line before → spec.Passes None byte line before place) }
     ensures place { MatchResult result (λ place. spec.begun_by byte ≡ Some place) (λ e. spec.begun_by byte ≡ None) }
@@ -116,7 +116,7 @@ fn begun_by(byte: u8) -> Result<Place, LineError>
     }
 }
 
-/// Where a side's line stands after one more byte. Spaces may stand between two bytes of a piece.
+/// The place after one more byte of a side's line. Spaces are allowed between two bytes of a piece.
 fn after_byte(side: Side, byte: u8) -> Result<Place, LineError>
     ensures goes_on { IfOk result (λ place. (line : List ℕ) (before : List spec.Heard) → spec.Stands (variants.Between side) line before → spec.Stands place (line ++ byte ∷ []) before) }
     ensures side { IfOk result (λ place. spec.IsOfSide side place) }

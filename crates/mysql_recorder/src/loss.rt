@@ -1,18 +1,18 @@
-//! What is lost of a recording, and where it is taken up again.
+//! Losses in a recording, and where its streams are resynchronized.
 
 ghost use Rattle.std.specs.Prelude.{◌≡◌};
 ghost use Rattle.mysql_recorder.specs.Steps as spec;
 
-use mysql_fields::Field;
 use mysql_frames::FrameError;
+use mysql_show::Field;
 use mysql_wire::{ConstValue, ServerCommand};
 
-/// What is lost.
+/// The kind of a loss.
 #[derive(Clone, Copy, Debug, PartialEq, Eq)]
 pub(crate) enum Loss {
-    /// The capture lacks so many bytes.
+    /// The capture lacks a given number of bytes.
     Missing(u64),
-    /// The bytes that come are no frames of a payload.
+    /// The bytes are not the expected frames.
     Frame(FrameError),
 }
 
@@ -22,7 +22,7 @@ impl Loss {
         matches!(self, Loss::Missing(_))
     }
 
-    /// What is said of it.
+    /// The notice of a loss.
     pub(crate) fn field(self) -> Field<'static> {
         match self {
             Loss::Missing(count) => Field::number("missing", count),
@@ -33,7 +33,7 @@ impl Loss {
     }
 }
 
-/// How many bytes of a line say whether it begins with a command.
+/// The number of bytes that say whether a line begins with a command.
 pub(crate) const HEAD: usize = 5;
 
 /// Whether a line of the client begins with a command: a frame with the number 0, whose first byte is a command's.

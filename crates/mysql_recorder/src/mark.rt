@@ -1,21 +1,21 @@
 //! The marks of bytes that a capture lacks.
 //!
-//! Where a segment of a stream is not in the capture, `tshark` has a line of its own in the place of these bytes: as digits, the text
-//! `[1460 bytes missing in capture file]` and a byte 0.
+//! If a segment of a stream is missing in the capture, `tshark` writes a line in its place: in hexadecimal, the text `[1460
+//! bytes missing in capture file]` and a zero byte.
 
 ghost use Rattle.std.specs.Prelude.{◌≡◌, ◌<◌, ◌≤◌, ℕ, IfSome, IfNone, drop};
 ghost use Rattle.mysql_recorder.specs.Marks as spec;
 
-/// What a mark begins with.
+/// The text before the number.
 const BEFORE: u8 = b'[';
 
-/// What stands after its number.
+/// The text after the number.
 const AFTER: &[u8] = b" bytes missing in capture file]\0";
 
-/// How many digits its number has at most: such as have no more fit in 64 bits.
+/// The maximum number of digits: any number with so few fits in 64 bits.
 const DIGITS: usize = 19;
 
-/// The number after so many digits of a text's front, with what stands after them.
+/// Parses up to 19 digits at the front as a number, and returns it with the rest of the text.
 fn number_of(text: &[u8]) -> (u64, &[u8])
     ensures { (n : ℕ) × (n ≤ 19) × spec.BeginsWithDigits n text.now × (result.1.now ≡ drop n text.now) × (result.0 ≡ spec.number_at n text.now) × (n < 19 → spec.EndsDigits n text.now) }
 {
@@ -34,7 +34,7 @@ fn number_of(text: &[u8]) -> (u64, &[u8])
     (number, &text[end..])
 }
 
-/// How many bytes a line says that the capture lacks, where it is a mark.
+/// Returns the number of missing bytes, if a line is a mark.
 pub(crate) fn missing_of(line: &[u8]) -> Option<u64>
     ensures some { IfSome result (λ count. spec.IsMarkOf line.now count) }
     ensures mark { IfSome result (λ count. spec.IsMark line.now) }
@@ -51,7 +51,7 @@ pub(crate) fn missing_of(line: &[u8]) -> Option<u64>
     }
 }
 
-/// Whether a line that begins so may be a mark. No payload ends in such a front: its length would be more than 8,000.
+/// Whether a line that begins like this may be a mark. No payload ends with such bytes: its length would exceed 8,000.
 pub(crate) fn may_be_mark(front: &[u8]) -> bool {
     match front {
         [] => true,

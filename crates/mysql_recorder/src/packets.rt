@@ -1,73 +1,76 @@
-//! The packets of a recording, and what is shown of each.
+//! Shows each packet of a recording.
 
 ghost use Rattle.std.specs.Prelude.{◌≡◌, ◌≢◌, ◌↔◌, ◌-◌, [], ◌∷◌, ◌++◌, ℕ, List, IfOk, IfErr, IsTrue, OnOk, true, false, is_some, string_bytes};
 ghost use Rattle.mysql_conversation.specs.Pipelined.{Numbered};
-ghost use Rattle.mysql_fields.specs.Entries.{Stays};
+ghost use Rattle.mysql_show.specs.Appended.{Stays};
 ghost use Rattle.mysql_conversation.specs.Session.{IsSession};
-ghost use Rattle.mysql_recorder.specs.Followed.{IsAtRest, IsFollowed, IsTakenUp, IsTakenUpAfter, may_wait};
+ghost use Rattle.mysql_recorder.specs.Followed.{IsAtRest, IsFollowed, IsResynced, IsResyncedAfter, may_wait};
 ghost use Rattle.mysql_recorder.specs.Entries.{entry_as};
-ghost use Rattle.mysql_conversation.specs.declared.kind_name.KindName as names_of;
-ghost use Rattle.mysql_conversation.specs.declared.pipeline.Refusal as refusals;
+ghost use Rattle.mysql_conversation.specs.declared.packet_kind_tag.PacketKindTag as names_of;
+ghost use Rattle.mysql_conversation.specs.declared.pipeline.SessionError as refusals;
 ghost use Rattle.mysql_recorder.specs.Reasons.{IsReasonOf};
 ghost use Rattle.mysql_recorder.specs.Refused.{ShowsRefused, expected_fields, refusal_text};
 ghost use Rattle.mysql_recorder.specs.Refusals.{AppendsRefused, Expects, IfLine, IfRefused, Refuses};
 ghost use Rattle.mysql_recorder.specs.Shown.{Appends};
-ghost use Rattle.mysql_recorder.specs.Steps.{remark_exchange, remark_text};
+ghost use Rattle.mysql_recorder.specs.Entries.{notice_text};
+ghost use Rattle.mysql_recorder.specs.Steps.{notice_exchange};
 ghost use Rattle.mysql_recorder.specs.Sums.{AppendsSomeSums};
-ghost use Rattle.mysql_fields.specs.Fields.{have_float};
+ghost use Rattle.mysql_show.specs.Fields.{have_float};
 ghost use Rattle.mysql_recorder.specs.Taken.{ShowsPacket};
 ghost use Rattle.mysql_recorder.specs.declared.packets.Taken.TheVariants as taken_as;
 
+use crate::entry::{Layout, Notice, Packet};
 use crate::error::RecordingError;
 use crate::fields::{append_client, append_server};
 use crate::followed::Followed;
+use crate::partial_query::append_partial_query;
 use crate::prepared::Prepared;
 use crate::sums::Sums;
 use crate::unheard::{Front, Unheard};
-use mysql_conversation::{Kind, KindName, Refusal, Side};
-use mysql_fields::{Field, Layout, Packet, Remark};
+use mysql_conversation::{PacketKind, PacketKindTag, SessionError, Side};
 use mysql_replies::SessionCapabilities;
+use mysql_show::Field;
 use std::alloc::{AllocError, Global};
 
-/// How many bytes of a packet that doesn't come are shown.
+/// The number of bytes that are shown of an unexpected packet.
 const BEGINNING: usize = 64;
 
-/// What became of a packet.
+/// The outcome of a packet.
 #[derive(Clone, Copy)]
 pub(crate) enum Taken {
-    /// It comes, and is shown.
+    /// It is shown.
     Shown,
-    /// It doesn't come, and is shown as such. Both sides agreed on this.
+    /// It is unexpected, and shown as such. Both sides agreed on these capabilities.
     Refused(SessionCapabilities),
 }
 
-/// The packets of a connection, each of which is shown as it comes.
+/// The packets of a connection, which are shown one by one.
 ///
-/// It keeps the commands that wait, the statements that are prepared, and what the conversation stands at.
+/// It keeps the pipelined commands, the prepared statements, and the state of the conversation.
 #[derive(Drop)]
 pub(crate) struct Packets {
     alloc: Global,
     layout: Layout,
     followed: Followed,
     prepared: Prepared,
-    /// How many columns a row of text has: the count that its result began with.
+    /// The number of columns of a text row: the count at the start of its result.
     columns: usize,
-    /// The commands that came before the answers to earlier ones, and no packet of the server since.
+    /// The commands that were pipelined since the last packet of the server.
     unheard: Unheard,
-    /// What the packets come to, where that is asked for.
+    /// The sums, if they are requested.
     sums: Option<Sums>,
 }
 
-/// The name of a refusal.
-fn refusal_name(why: Refusal) -> &'static str
+/// The name of an error.
+fn refusal_name(why: SessionError) -> &'static str
     ensures { result.now ≡ refusal_text why }
 {
     match why {
-        Refusal::Unexpected => "Unexpected",
-        Refusal::Full => "Full",
-        Refusal::Memory => "Memory",
-        Refusal::Encrypted => "Encrypted",
-        Refusal::Compressed => "Compressed",
+        SessionError::UnexpectedPacket => "Unexpected",
+        SessionError::Full => "Full",
+        SessionError::Memory => "Memory",
+        SessionError::Encrypted => "Encrypted",
+        SessionError::Compressed => "Compressed",
     }
 }
 
@@ -91,7 +94,7 @@ impl Packets {
         }
     }
 
-    /// Sums what comes from here on.
+    /// Sums the following packets.
     pub(crate) fn sum(&mut self)
         ensures followed { self.new.followed ≡ self.old.followed }
         ensures layout { self.new.layout ≡ self.old.layout }
@@ -100,15 +103,15 @@ impl Packets {
         self.sums = Some(Sums::new(self.alloc));
     }
 
-    /// Says that what comes after a request for TLS is what was inside of it.
-    pub(crate) fn decipher(&mut self)
+    /// Declares that the recording contains the decrypted contents of TLS.
+    pub(crate) fn tls_established(&mut self)
         ensures followed { (items : List Numbered) → IsFollowed self.old.followed items → IsFollowed self.new.followed items }
         ensures may_wait { may_wait self.new.followed ≡ may_wait self.old.followed }
         ensures deciphered { self.new.followed.is_deciphered ≡ true }
         ensures layout { self.new.layout ≡ self.old.layout }
         ensures sums { self.new.sums ≡ self.old.sums }
     {
-        self.followed.decipher();
+        self.followed.tls_established();
     }
 
     /// Appends the sums, where they are asked for.
@@ -123,27 +126,27 @@ impl Packets {
         }
     }
 
-    /// What both sides agreed on, once the client has logged in.
+    /// The capabilities that both sides agreed on, after the login.
     pub(crate) fn agreed(&self) -> Option<SessionCapabilities> {
         self.followed.agreed()
     }
 
-    /// Whether all that was asked for is answered.
-    pub(crate) fn is_at_rest(&self) -> bool
+    /// Whether every command is answered.
+    pub(crate) fn is_idle(&self) -> bool
         ensures whole { (items : List Numbered) → IsFollowed self.now.followed items → IsTrue result ↔ IsSession items }
         ensures rests { IsTrue result → IsAtRest self.now.followed.connection }
     {
-        self.followed.is_at_rest()
+        self.followed.is_idle()
     }
 
-    /// The one command that came before the answer to an earlier one, with no packet of the server since.
+    /// The only command that was pipelined since the last packet of the server, if there is exactly one.
     pub(crate) fn unheard(&self) -> Option<Front> {
         self.unheard.only()
     }
 
     /// Goes on at the next command, under what both sides agreed on.
     pub(crate) fn take_up(&mut self, agreed: SessionCapabilities)
-        ensures taken_up { IsTakenUp self.new.followed agreed [] self.old.followed.last }
+        ensures resync { IsResynced self.new.followed agreed [] self.old.followed.last }
         ensures layout { self.new.layout ≡ self.old.layout }
         ensures may_wait { may_wait self.new.followed ≡ may_wait self.old.followed }
         ensures deciphered { self.new.followed.is_deciphered ≡ self.old.followed.is_deciphered }
@@ -154,7 +157,7 @@ impl Packets {
 
     /// Goes on at the next command after a loss, under what both sides agreed on: nothing is known of statements.
     pub(crate) fn lose(&mut self, agreed: SessionCapabilities) -> Result<(), AllocError>
-        ensures taken_up { IsTakenUp self.new.followed agreed [] self.old.followed.last }
+        ensures resync { IsResynced self.new.followed agreed [] self.old.followed.last }
         ensures layout { self.new.layout ≡ self.old.layout }
         ensures may_wait { may_wait self.new.followed ≡ may_wait self.old.followed }
         ensures deciphered { self.new.followed.is_deciphered ≡ self.old.followed.is_deciphered }
@@ -166,13 +169,13 @@ impl Packets {
         Ok(())
     }
 
-    /// Goes on after a command, the last that came: what is lost is the answer to the one before it.
+    /// Continues after a command, the last so far: the answer to the previous one is lost.
     pub(crate) fn lose_answer(
         &mut self,
         agreed: SessionCapabilities,
         command: &Front,
     ) -> Result<(), AllocError>
-        ensures taken_up { (front : List ℕ) × IsTakenUpAfter self.new.followed agreed front (self.old.followed.last - 1) }
+        ensures resync { (front : List ℕ) × IsResyncedAfter self.new.followed agreed front (self.old.followed.last - 1) }
         ensures layout { self.new.layout ≡ self.old.layout }
         ensures may_wait { may_wait self.new.followed ≡ may_wait self.old.followed }
         ensures deciphered { self.new.followed.is_deciphered ≡ self.old.followed.is_deciphered }
@@ -184,8 +187,8 @@ impl Packets {
         Ok(())
     }
 
-    /// Appends a remark on a side's stream. Where the client's is taken up, an exchange begins.
-    pub(crate) fn append_remark(
+    /// Appends a notice about a side's stream. If the client's stream is resynchronized, an exchange begins.
+    pub(crate) fn append_notice(
         &self,
         kind: &'static str,
         side: Side,
@@ -193,22 +196,22 @@ impl Packets {
         out: &mut String,
     ) -> Result<(), AllocError>
         ensures text { OnOk result (have_float (field.entry ∷ []) ≡ false → string_bytes out.new
-            ≡ string_bytes out.old ++ remark_text self.now.layout side (remark_exchange kind.now side self.now.followed.last) kind.now (field.entry ∷ [])) }
+            ≡ string_bytes out.old ++ notice_text self.now.layout side (notice_exchange kind.now side self.now.followed.last) kind.now (field.entry ∷ [])) }
         ensures stays { OnOk result (Stays (string_bytes out.old) (string_bytes out.new)) }
     {
-        let remark = Remark {
+        let notice = Notice {
             side,
-            exchange: self.remark_exchange(kind, side),
+            exchange: self.notice_exchange(kind, side),
             kind,
         };
-        remark.append(self.alloc, self.layout, &[field], out)
+        notice.append(self.alloc, self.layout, &[field], out)
     }
 
-    /// The exchange that came last; where the client's stream is taken up, the one that begins.
-    fn remark_exchange(&self, kind: &str, side: Side) -> u64
-        ensures { result ≡ remark_exchange kind.now side self.now.followed.last }
+    /// The last exchange; if the client's stream is resynchronized, the one that begins.
+    fn notice_exchange(&self, kind: &str, side: Side) -> u64
+        ensures { result ≡ notice_exchange kind.now side self.now.followed.last }
     {
-        let is_next = kind == "taken_up" && side == Side::Client;
+        let is_next = kind == "resync" && side == Side::Client;
         self.followed.last().saturating_add(u64::from(is_next))
     }
 
@@ -223,9 +226,9 @@ impl Packets {
         ensures shown { IfOk result (λ taken. taken ≡ taken_as.Shown → (items : List Numbered) → IsFollowed self.old.followed items
             → ShowsPacket self.old.layout side sequence payload.now items self.new.followed (string_bytes out.old) (string_bytes out.new)) }
         ensures lost { IfOk result (λ taken. taken ≢ taken_as.Shown → (items : List Numbered) → IsFollowed self.old.followed items
-            → (why : refusals.Refusal) × ShowsRefused KindName.ALL self.old.layout side sequence payload.now items why (string_bytes out.old) (string_bytes out.new)) }
+            → (why : refusals.SessionError) × ShowsRefused PacketKindTag.ALL self.old.layout side sequence payload.now items why (string_bytes out.old) (string_bytes out.new)) }
         ensures refused { IfErr result (λ e. (items : List Numbered) → IsFollowed self.old.followed items
-            → IfRefused e (λ why. ShowsRefused KindName.ALL self.old.layout side sequence payload.now items why (string_bytes out.old) (string_bytes out.new))) }
+            → IfRefused e (λ why. ShowsRefused PacketKindTag.ALL self.old.layout side sequence payload.now items why (string_bytes out.old) (string_bytes out.new))) }
         // Also of a connection that is taken up amid it:
         ensures reason { IfErr result (λ e. IfRefused e (λ why. IsReasonOf self.old.followed.connection side payload.now why)) }
         ensures stays { IfOk result (λ taken. Stays (string_bytes out.old) (string_bytes out.new)) }
@@ -235,7 +238,7 @@ impl Packets {
         ensures sums { is_some self.new.sums ≡ is_some self.old.sums }
         ensures no_line { IfErr result (λ e. IfLine e ⊥) }
     {
-        let is_between = self.followed.is_at_rest();
+        let is_between = self.followed.is_idle();
         match self.followed.next(side, payload) {
             Ok((kind, exchange)) => {
                 let packet = Packet {
@@ -252,17 +255,17 @@ impl Packets {
         }
     }
 
-    /// Appends a packet that doesn't come. Before a login is done, that is a refusal.
+    /// Appends an unexpected packet. Before the login is done, it ends the recording.
     fn refuse(
         &self,
         side: Side,
         sequence: u8,
         payload: &[u8],
-        why: Refusal,
+        why: SessionError,
         out: &mut String,
     ) -> Result<Taken, RecordingError>
-        ensures ok { IfOk result (λ taken. (taken ≢ taken_as.Shown) × Refuses KindName.ALL self.now.layout self.now.followed side sequence payload.now why (string_bytes out.old) (string_bytes out.new)) }
-        ensures err { IfErr result (λ e. IfRefused e (λ shown. (shown ≡ why) × Refuses KindName.ALL self.now.layout self.now.followed side sequence payload.now why (string_bytes out.old) (string_bytes out.new))) }
+        ensures ok { IfOk result (λ taken. (taken ≢ taken_as.Shown) × Refuses PacketKindTag.ALL self.now.layout self.now.followed side sequence payload.now why (string_bytes out.old) (string_bytes out.new)) }
+        ensures err { IfErr result (λ e. IfRefused e (λ shown. (shown ≡ why) × Refuses PacketKindTag.ALL self.now.layout self.now.followed side sequence payload.now why (string_bytes out.old) (string_bytes out.new))) }
         ensures no_line { IfErr result (λ e. IfLine e ⊥) }
     {
         let packet = Packet {
@@ -279,11 +282,11 @@ impl Packets {
         }
     }
 
-    /// Appends a packet that comes, and keeps what it says of those after it.
+    /// Appends a packet, and keeps what later packets depend on.
     fn show(
         &mut self,
         packet: &Packet<'_>,
-        kind: Kind,
+        kind: PacketKind,
         is_between: bool,
         out: &mut String,
     ) -> Result<(), AllocError>
@@ -295,10 +298,10 @@ impl Packets {
         if let Some(sums) = &mut self.sums {
             sums.add(packet, kind)?;
         }
-        let is_early = !is_between && matches!(kind, Kind::Command(_));
+        let is_early = !is_between && matches!(kind, PacketKind::Command(_));
         self.unheard
             .hear(packet.side, kind, is_early, packet.payload);
-        if let Kind::ColumnCount(count, _) = kind {
+        if let PacketKind::ColumnCount(count, _) = kind {
             self.columns = usize::try_from(count).unwrap_or(usize::MAX);
         }
         match packet.side {
@@ -314,7 +317,7 @@ impl Packets {
         }
     }
 
-    /// Takes the commands that waited, up to the exchange of a packet that doesn't come early.
+    /// Applies the pipelined commands, up to the exchange of a packet that isn't pipelined.
     fn serve(&mut self, packet: &Packet<'_>, is_early: bool) -> Result<(), AllocError>
         ensures followed { self.new.followed ≡ self.old.followed }
         ensures layout { self.new.layout ≡ self.old.layout }
@@ -331,7 +334,12 @@ impl Packets {
     }
 
     /// Keeps what a packet says of statements.
-    fn keep(&mut self, packet: &Packet<'_>, kind: Kind, is_early: bool) -> Result<(), AllocError>
+    fn keep(
+        &mut self,
+        packet: &Packet<'_>,
+        kind: PacketKind,
+        is_early: bool,
+    ) -> Result<(), AllocError>
         ensures followed { self.new.followed ≡ self.old.followed }
         ensures layout { self.new.layout ≡ self.old.layout }
         ensures sums { self.new.sums ≡ self.old.sums }
@@ -347,30 +355,30 @@ impl Packets {
         }
     }
 
-    /// Appends a packet that doesn't come, with the bytes that it begins with, and the kinds that would come.
+    /// Appends an unexpected packet, with its first bytes, and the kinds that may come next.
     fn show_refused(
         &self,
         packet: &Packet<'_>,
-        why: Refusal,
+        why: SessionError,
         out: &mut String,
     ) -> Result<(), AllocError>
-        ensures ok { OnOk result (AppendsRefused KindName.ALL self.now.layout self.now.followed (entry_as packet.now) why (string_bytes out.old) (string_bytes out.new)) }
+        ensures ok { OnOk result (AppendsRefused PacketKindTag.ALL self.now.layout self.now.followed (entry_as packet.now) why (string_bytes out.old) (string_bytes out.new)) }
     {
         let payload = packet.payload;
         let mut fields = Vec::new(self.alloc);
         fields.push(Field::bytes("begins", &payload[..payload.len().min(BEGINNING)]))?;
         fields.push(Field::word("refused", refusal_name(why)))?;
-        self.append_expected(&KindName::ALL, &mut fields)?;
+        self.append_expected(&PacketKindTag::ALL, &mut fields)?;
         packet.append(self.alloc, self.layout, fields.as_slice(), out)
     }
 
-    /// Appends those of the names whose kinds would come.
+    /// Appends the names of the kinds that may come next.
     fn append_expected(
         &self,
-        all: &[KindName],
+        all: &[PacketKindTag],
         fields: &mut Vec<Field<'_>>,
     ) -> Result<(), AllocError>
-        ensures ok { OnOk result ((names : List names_of.KindName) × (fields.new.items ≡ fields.old.items ++ expected_fields names) × Expects self.now.followed all.now names) }
+        ensures ok { OnOk result ((names : List names_of.PacketKindTag) × (fields.new.items ≡ fields.old.items ++ expected_fields names) × Expects self.now.followed all.now names) }
     {
         for name in all {
             self.append_name(*name, fields)?;
@@ -378,11 +386,15 @@ impl Packets {
         Ok(())
     }
 
-    /// Appends a name, where its kind would come.
-    fn append_name(&self, name: KindName, fields: &mut Vec<Field<'_>>) -> Result<(), AllocError>
-        ensures ok { OnOk result ((names : List names_of.KindName) × (fields.new.items ≡ fields.old.items ++ expected_fields names) × Expects self.now.followed (name ∷ []) names) }
+    /// Appends a name, if its kind may come next.
+    fn append_name(
+        &self,
+        name: PacketKindTag,
+        fields: &mut Vec<Field<'_>>,
+    ) -> Result<(), AllocError>
+        ensures ok { OnOk result ((names : List names_of.PacketKindTag) × (fields.new.items ≡ fields.old.items ++ expected_fields names) × Expects self.now.followed (name ∷ []) names) }
     {
-        if self.followed.expects(name) {
+        if self.followed.may_receive(name) {
             fields.push(Field::word("expected", name.as_str()))?;
         }
         Ok(())
@@ -391,7 +403,7 @@ impl Packets {
     fn show_client(
         &self,
         packet: &Packet<'_>,
-        kind: Kind,
+        kind: PacketKind,
         is_early: bool,
         out: &mut String,
     ) -> Result<(), AllocError>
@@ -412,13 +424,14 @@ impl Packets {
             packet.payload,
             &mut fields,
         )?;
+        append_partial_query(self.alloc, agreed, kind, packet.payload, &mut fields)?;
         packet.append(self.alloc, self.layout, fields.as_slice(), out)
     }
 
     fn show_server(
         &self,
         packet: &Packet<'_>,
-        kind: Kind,
+        kind: PacketKind,
         out: &mut String,
     ) -> Result<(), AllocError>
         ensures ok { OnOk result (Appends self.now.layout (entry_as packet.now) (string_bytes out.old) (string_bytes out.new)) }

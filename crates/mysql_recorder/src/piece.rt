@@ -1,7 +1,7 @@
 //! Pieces of one side's stream.
 
 ghost use Rattle.std.specs.Prelude.{◌≡◌, ◌≢◌, [], ◌++◌, List, IfOk, IfErr, is_some, string_bytes};
-ghost use Rattle.mysql_fields.specs.Entries.{Stays};
+ghost use Rattle.mysql_show.specs.Appended.{Stays};
 ghost use Rattle.mysql_recorder.specs.Followed.{may_wait};
 ghost use Rattle.mysql_recorder.specs.Frames.{IsNumbered, NoneComes};
 ghost use Rattle.mysql_recorder.specs.Losses.{LosesIn};
@@ -14,22 +14,23 @@ ghost use Rattle.mysql_recorder.specs.declared.piece.Came.TheVariants as came_as
 use crate::error::RecordingError;
 use crate::packets::{Packets, Taken};
 use crate::stream::{Sent, Stream};
-use mysql_conversation::{KindName, Side};
+use mysql_conversation::{PacketKindTag, Side};
 use mysql_frames::FrameError;
 use mysql_replies::SessionCapabilities;
 
-/// What came of a piece of a stream, and how many of its bytes are left.
+/// The outcome of a piece of a stream, and the number of its bytes that are left.
 #[derive(Clone, Copy)]
 pub(crate) enum Came {
     /// Its packets, up to its end.
     Whole,
-    /// A packet that doesn't come. Both sides agreed on this.
+    /// An unexpected packet. Both sides agreed on these capabilities.
     Refused(SessionCapabilities, usize),
     /// Bytes that are no frames.
     NoFrames(FrameError, usize),
 }
 
-/// Takes a piece of a stream, and appends what its packets say. The first of them is answered by a frame of the number `first`.
+/// Takes a piece of a stream, and appends its packets. The answer to the first of them begins with a frame of the number
+/// `first`.
 pub(crate) fn read_packets(
     stream: &mut Stream,
     packets: &mut Packets,
@@ -41,9 +42,9 @@ pub(crate) fn read_packets(
     ensures whole { IfOk result (λ came. came ≡ came_as.Whole → (items : List Item)
         → spec.IsAt stream.old packets.old items → (here : List Item) × spec.Reads side piece.now [] items here stream.old stream.new packets.old packets.new (string_bytes out.old) (string_bytes out.new)) }
     ensures refused { IfErr result (λ e. (items : List Item) → spec.IsAt stream.old packets.old items
-        → IfRefused e (λ why. StopsIn KindName.ALL packets.old.layout side (stream.old.reader.held ++ piece.now) items why (string_bytes out.old) (string_bytes out.new))) }
+        → IfRefused e (λ why. StopsIn PacketKindTag.ALL packets.old.layout side (stream.old.reader.held ++ piece.now) items why (string_bytes out.old) (string_bytes out.new))) }
     ensures loses { IfOk result (λ came. came ≢ came_as.Whole → (items : List Item) → spec.IsAt stream.old packets.old items
-        → LosesIn KindName.ALL packets.old.layout stream.old.reader.limit side (stream.old.reader.held ++ piece.now) items (string_bytes out.old) (string_bytes out.new)) }
+        → LosesIn PacketKindTag.ALL packets.old.layout stream.old.reader.limit side (stream.old.reader.held ++ piece.now) items (string_bytes out.old) (string_bytes out.new)) }
     ensures stays { IfOk result (λ came. Stays (string_bytes out.old) (string_bytes out.new)) }
     ensures none { IfOk result (λ came. came ≡ came_as.Whole → IsNumbered stream.old.reader → NoneComes stream.new.reader.held) }
     ensures passed { stream.new.passed ≡ stream.old.passed }
@@ -62,7 +63,7 @@ pub(crate) fn read_packets(
                     *first = Some(stream.number());
                 }
                 let taken = packets.take(side, sequence, payload.as_slice(), out);
-                stream.give_back(payload);
+                stream.recycle(payload);
                 match taken {
                     Ok(Taken::Shown) => {}
                     Ok(Taken::Refused(agreed)) => return Ok(Came::Refused(agreed, input.len())),

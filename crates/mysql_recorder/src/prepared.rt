@@ -1,14 +1,13 @@
 //! The prepared statements of a recording.
 
-use crate::command_fields::append_attributes;
-use crate::result_columns::ResultColumns;
-use crate::values::fault_name;
-use mysql_conversation::Kind;
-use mysql_fields::Field;
+use crate::values::{append_attributes, append_refused};
+use mysql_conversation::PacketKind;
 use mysql_prepared::{ComStmtExecuteHead, ExecuteParam, ExecuteParamsView};
 use mysql_replies::SessionCapabilities;
+use mysql_show::Field;
 use mysql_statements::{
-    EarlyCommands, EarlyLimits, RowColumn, Statement, StatementLimits, Statements,
+    PipelinedCommands, PipelinedLimits, ResultColumns, RowColumn, Statement, StatementLimits,
+    Statements,
 };
 use mysql_values::{ParamValue, ValueRef};
 use mysql_wire::{FaultOf, ParseBuf};
@@ -20,27 +19,28 @@ const EXECUTE: u8 = 0x17;
 /// The first byte of `COM_STMT_BULK_EXECUTE`.
 const BULK_EXECUTE: u8 = 0xfa;
 
-/// How many bytes stand before the parameters of `COM_STMT_EXECUTE`.
+/// The length of the fields before the parameters of `COM_STMT_EXECUTE` in bytes.
 const EXECUTE_HEAD: usize = 10;
 
-/// How many statements are kept, and how many types of their parameters and columns in all.
+/// The maximum number of statements, and of types of their parameters and columns in all.
 const LIMITS: StatementLimits = StatementLimits {
     statements: 4096,
     types: 262_144,
 };
 
-/// How many bytes of an execution are held that comes early.
+/// The maximum length of a pipelined execution that is kept.
 const EARLY_BYTES: usize = 65_536;
 
-/// How many bytes of another command say what it does with a statement: those of `COM_STMT_SEND_LONG_DATA` before its data.
+/// The number of bytes that say what another command does with a statement: those of `COM_STMT_SEND_LONG_DATA` before its data.
 const FRONT: usize = 7;
 
 /// Whether it is `COM_STMT_EXECUTE`.
-pub(crate) fn is_execution(kind: Kind) -> bool {
-    kind == Kind::Command(EXECUTE)
+pub(crate) fn is_execution(kind: PacketKind) -> bool {
+    kind == PacketKind::Command(EXECUTE)
 }
 
-/// The bytes of an early command that say what it does with a statement: of an execution all, since its types may stand anywhere.
+/// The bytes of a pipelined command that say what it does with a statement: all of an execution, since its types may be
+/// anywhere.
 fn front_of(payload: &[u8]) -> &[u8] {
     let code = match payload.first() {
         Some(code) => *code,
@@ -53,29 +53,32 @@ fn front_of(payload: &[u8]) -> &[u8] {
     }
 }
 
-/// The prepared statements, the commands that wait for the server to come to them, and the columns of the result that comes.
+/// The prepared statements, the pipelined commands that the server hasn't reached, and the columns of the current result.
 #[derive(Drop)]
 pub(crate) struct Prepared {
     statements: Statements,
-    early: EarlyCommands,
+    early: PipelinedCommands,
     /// The exchange of the last early command that was not held: up to it nothing is known of statements.
     lost: Option<u64>,
+    /// The columns of the result that came last, as its own definitions say: they are known whether or not its statement is. Its exchange.
     result: ResultColumns,
+    result_exchange: u64,
 }
 
 impl Prepared {
     /// None is prepared. As many commands may wait.
     pub(crate) fn new(alloc: Global, waiting: usize) -> Self {
         // (between two packets of the server, commands that no longer wait for their turn are held until the next one)
-        let limits = EarlyLimits {
+        let limits = PipelinedLimits {
             commands: waiting.saturating_mul(2),
             bytes: EARLY_BYTES,
         };
         Prepared {
             statements: Statements::new(alloc, LIMITS),
-            early: EarlyCommands::new(alloc, limits),
+            early: PipelinedCommands::new(alloc, limits),
             lost: None,
             result: ResultColumns::new(alloc, LIMITS.types),
+            result_exchange: 0,
         }
     }
 
@@ -83,7 +86,7 @@ impl Prepared {
     pub(crate) fn take(
         &mut self,
         agreed: SessionCapabilities,
-        kind: Kind,
+        kind: PacketKind,
         exchange: u64,
         payload: &[u8],
     ) -> Result<(), AllocError> {
@@ -99,18 +102,14 @@ impl Prepared {
     fn take_result(
         &mut self,
         agreed: SessionCapabilities,
-        kind: Kind,
+        kind: PacketKind,
         exchange: u64,
         payload: &[u8],
     ) -> Result<(), AllocError> {
-        match kind {
-            Kind::ColumnCount(count, follow) => {
-                self.result.begin(exchange, count, follow);
-                Ok(())
-            }
-            Kind::Column => self.result.define(agreed, exchange, payload),
-            _ => Ok(()),
+        if let PacketKind::ColumnCount(_, _) = kind {
+            self.result_exchange = exchange;
         }
+        self.result.take(agreed, kind, payload)
     }
 
     /// Whether nothing is known of statements in this exchange.
@@ -121,7 +120,7 @@ impl Prepared {
         }
     }
 
-    /// Holds a command that comes early. Where an execution is too long, nothing is known of statements until the server is past it.
+    /// Keeps a pipelined command. If an execution is too long, nothing is known of statements until the server has answered it.
     pub(crate) fn hold(&mut self, exchange: u64, payload: &[u8]) -> Result<(), AllocError> {
         if !self.early.hold(exchange, front_of(payload))? {
             self.statements.clear();
@@ -130,8 +129,8 @@ impl Prepared {
         Ok(())
     }
 
-    /// Forgets all statements, and the commands that wait, after a loss: which types were given, which data was sent ahead and what was
-    /// answered isn't known.
+    /// Forgets all statements, and the pipelined commands, after a loss: types, data that was sent ahead, and answers may be
+    /// missing.
     pub(crate) fn lose(&mut self) {
         self.result.forget();
         self.statements.clear();
@@ -154,7 +153,7 @@ impl Prepared {
                 continue;
             }
             if let Some(code) = command.payload().first() {
-                let kind = Kind::Command(*code);
+                let kind = PacketKind::Command(*code);
                 self.statements.take(agreed, kind, command.payload())?;
             }
         }
@@ -164,14 +163,16 @@ impl Prepared {
     /// The columns of the binary rows of an exchange, where they are known: those that the definitions of the result say; where these were
     /// left out, those of its statement.
     pub(crate) fn columns(&self, exchange: u64) -> Option<&[RowColumn]> {
-        match self.result.columns(exchange) {
-            Some(columns) => Some(columns),
-            None => self.statements.columns_of_rows(),
+        if exchange == self.result_exchange {
+            if let Some(columns) = self.result.columns() {
+                return Some(columns);
+            }
         }
+        self.statements.columns_of_rows()
     }
 
     /// The statement that a command executes, where it is known.
-    pub(crate) fn executed(&self, kind: Kind, payload: &[u8]) -> Option<&Statement> {
+    pub(crate) fn executed(&self, kind: PacketKind, payload: &[u8]) -> Option<&Statement> {
         if !is_execution(kind) {
             return None;
         }
@@ -184,8 +185,8 @@ impl Prepared {
     }
 }
 
-/// Appends the parameters and the attributes of an execution, up to the first that can't be read. Where its statement or their types aren't
-/// known, it says so.
+/// Appends the parameters and the attributes of an execution, up to the first that can't be read. If its statement or their
+/// types aren't known, it says so.
 pub(crate) fn append_params<'p>(
     alloc: Global,
     agreed: SessionCapabilities,
@@ -199,7 +200,7 @@ pub(crate) fn append_params<'p>(
     match view_of(alloc, agreed, statement, payload) {
         Ok(Some(view)) => append_view(view, fields),
         Ok(None) => append_unknown(payload, fields),
-        Err(fault) => Ok(fields.push(Field::word("refused", fault_name(&fault)))?),
+        Err(fault) => append_refused(&fault, &payload[payload.len().min(EXECUTE_HEAD)..], fields),
     }
 }
 
@@ -237,13 +238,11 @@ fn append_view<'p>(
         match view.next_param() {
             Ok(Some(it)) => fields.push(field_of(it.param))?,
             Ok(None) => return Ok(()),
-            Err(fault) => {
-                return Ok(fields.push(Field::word("refused", fault_name(&fault)))?);
-            }
+            Err(fault) => return append_refused(&fault, view.rest().eat_all(), fields),
         }
     }
     match view.attributes() {
-        Some(attributes) => append_attributes(attributes, fields),
+        Some(attributes) => append_attributes(attributes, false, fields),
         None => Ok(()),
     }
 }

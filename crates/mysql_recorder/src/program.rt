@@ -3,17 +3,17 @@
 ghost use Rattle.std.specs.Prelude.{◌≡◌, ◌++◌, ◌^◌, ℕ, List, [], Option, Some, None, true, IfOk, IfSome, MatchOption, map, string_bytes};
 ghost use Rattle.mysql_recorder.specs.Answers as spec;
 ghost use Rattle.mysql_recorder.specs.Calls as calls;
-ghost use Rattle.mysql_output.specs.Output.{Answer, IsFront, IsWritten};
+ghost use Rattle.mysql_show.specs.Output.{Answer, IsFront, IsWritten};
 ghost use Rattle.mysql_recorder.specs.Recorded.{Recorded, has_lost, has_sums, layout, longest};
 ghost use Rattle.mysql_recorder.specs.Shown.{Item};
 
+use crate::entry::Layout;
 use crate::error::RecordingError;
 use crate::recording::Recording;
 use bitflags::Flags;
-use mysql_conversation::KindName;
-use mysql_fields::Layout;
-use mysql_output::write_front;
+use mysql_conversation::PacketKindTag;
 use mysql_replies::SessionCapabilities;
+use mysql_show::write_front;
 use mysql_wire::{CapabilityFlags, MariadbCapabilities};
 use std::alloc::{AllocError, Global};
 use std::io::{Read, Write};
@@ -21,25 +21,25 @@ use std::io::{Read, Write};
 /// The longest payload, where the call names none: 64 MiB, as `max_allowed_packet` is by default.
 const LONGEST: usize = 64 << 20;
 
-/// How many commands may wait for the answers to earlier ones.
+/// The maximum number of pipelined commands.
 const WAITING: usize = 4096;
 
 const USAGE: &[u8] =
     b"usage: mypackets conversation [MAX] [caps=CAPS] [mariadb=CAPS] [--deciphered] [--json] [--sum]\n";
 
-/// What is written where an allocation fails.
+/// The line for a failed allocation.
 const OUT_OF_MEMORY: &[u8] = b"refused: Memory\n";
 
-/// What is asked for.
+/// The arguments of a call.
 #[derive(Clone, Copy)]
 struct Call {
     layout: Layout,
     longest: usize,
     /// Whether sums end the output.
     sums: bool,
-    /// Whether what comes after a request for TLS is what was inside of it.
+    /// Whether the recording contains the decrypted contents of TLS.
     is_deciphered: bool,
-    /// What both sides agreed on, where the connection is taken up amid it.
+    /// The capabilities that both sides agreed on, if the recording begins after the login.
     agreed: Option<SessionCapabilities>,
 }
 
@@ -83,7 +83,7 @@ fn flags_of(digits: &str) -> Option<u32>
     u32::from_str_radix(digits, 16).ok()
 }
 
-/// What both sides agreed on, where that is said.
+/// The agreed capabilities, if they are given.
 fn agreed_of(caps: Option<u32>, mariadb: u32) -> Option<SessionCapabilities>
     ensures { result ≡ calls.agreed_of caps mariadb }
 {
@@ -94,7 +94,7 @@ fn agreed_of(caps: Option<u32>, mariadb: u32) -> Option<SessionCapabilities>
     })
 }
 
-/// Reads a recording, and writes what its packets say, each once it is whole. It answers the status.
+/// Reads a recording, and writes each packet once it is complete. Returns the status.
 ///
 /// | Status | Meaning |
 /// |---|---|
@@ -105,10 +105,10 @@ fn agreed_of(caps: Option<u32>, mariadb: u32) -> Option<SessionCapabilities>
 ///
 /// It keeps no more of the input than a payload of each side and the commands that wait.
 pub fn run<R: Read, W: Write>(alloc: Global, words: &[String], reader: &mut R, writer: &mut W) -> u8
-    ensures { spec.IsRun KindName.ALL (map string_bytes words.now) (R.remaining reader.old) (R.remaining reader.new) (W.contents writer.old) (W.contents writer.new) result }
+    ensures { spec.IsRun PacketKindTag.ALL (map string_bytes words.now) (R.remaining reader.old) (R.remaining reader.new) (W.contents writer.old) (W.contents writer.new) result }
 {
     let Some(call) = call_of(words) else {
-        return end(writer, USAGE, 2);
+        return refuse_call(writer);
     };
     let mut recording = begun(alloc, call);
     show(
@@ -121,7 +121,21 @@ pub fn run<R: Read, W: Write>(alloc: Global, words: &[String], reader: &mut R, w
     )
 }
 
-/// The recording that is asked for, of which nothing has come.
+/// Writes the usage of a bad call, and returns the status 2, or 3 if the write fails.
+pub fn refuse_call<W: Write>(writer: &mut W) -> u8
+    ensures { IsWritten spec.usage (W.contents writer.old) (W.contents writer.new) result }
+{
+    end(writer, USAGE, 2)
+}
+
+/// Writes that an allocation failed, `refused: Memory`, and returns the status 1, or 3 if the write fails.
+pub fn refuse_memory<W: Write>(writer: &mut W) -> u8
+    ensures { IsWritten (record { text = spec.memory_line; status = 1 }) (W.contents writer.old) (W.contents writer.new) result }
+{
+    end(writer, OUT_OF_MEMORY, 1)
+}
+
+/// The recording for these arguments, without input yet.
 fn begun(alloc: Global, call: Call) -> Recording
     ensures recorded { call.agreed ≡ None → Recorded result [] [] }
     ensures layout { layout result ≡ call.layout }
@@ -135,7 +149,7 @@ fn begun(alloc: Global, call: Call) -> Recording
     }
 }
 
-/// The recording, which goes on after a request for TLS where that is asked for.
+/// The recording, with the decrypted contents of TLS if requested.
 fn deciphered_if(is_deciphered: bool, recording: Recording) -> Recording
     ensures recorded { (text : List ℕ) (items : List Item) → Recorded recording text items → Recorded result text items }
     ensures layout { layout result ≡ layout recording }
@@ -148,7 +162,7 @@ fn deciphered_if(is_deciphered: bool, recording: Recording) -> Recording
     }
 }
 
-/// The same without sums.
+/// The recording, without sums.
 fn opened(alloc: Global, call: Call) -> Recording
     ensures recorded { call.agreed ≡ None → Recorded result [] [] }
     ensures layout { layout result ≡ call.layout }
@@ -156,12 +170,12 @@ fn opened(alloc: Global, call: Call) -> Recording
 {
     let recording = Recording::new(alloc, call.layout, call.longest, WAITING);
     match call.agreed {
-        Some(agreed) => recording.taken_up(agreed),
+        Some(agreed) => recording.resync(agreed),
         None => recording,
     }
 }
 
-/// Shows what comes, and answers the status.
+/// Shows the input, and returns the status.
 fn show<R: Read, W: Write>(
     alloc: Global,
     shown_in: Layout,
@@ -171,7 +185,7 @@ fn show<R: Read, W: Write>(
     writer: &mut W,
 ) -> u8
     requires { layout recording.old ≡ shown_in }
-    ensures answer { spec.IsAnswered KindName.ALL shown_in (longest recording.old) sums (Recorded recording.old [] []) (R.remaining reader.old) (R.remaining reader.new) (W.contents writer.old) (W.contents writer.new) result }
+    ensures answer { spec.IsAnswered PacketKindTag.ALL shown_in (longest recording.old) sums (Recorded recording.old [] []) (R.remaining reader.old) (R.remaining reader.new) (W.contents writer.old) (W.contents writer.new) result }
 {
     let mut chunk = [0u8; 16384];
     for _ in 0..u64::MAX {
@@ -189,7 +203,7 @@ fn show<R: Read, W: Write>(
     3
 }
 
-/// Takes a piece of the input, and writes what it says. It answers the status where it goes no further.
+/// Takes a piece of the input, and writes its packets. Returns the status if the recording ends.
 fn take<W: Write>(
     alloc: Global,
     shown_in: Layout,
@@ -198,11 +212,11 @@ fn take<W: Write>(
     piece: &[u8],
     writer: &mut W,
 ) -> Option<u8>
-    ensures goes { result ≡ None → spec.PieceGoesOn KindName.ALL piece.now recording.old recording.new (W.contents writer.old) (W.contents writer.new) }
-    ensures ends { IfSome result (λ status. spec.PieceEnds KindName.ALL shown_in sums piece.now recording.old recording.new (W.contents writer.old) (W.contents writer.new) status) }
+    ensures goes { result ≡ None → spec.PieceGoesOn PacketKindTag.ALL piece.now recording.old recording.new (W.contents writer.old) (W.contents writer.new) }
+    ensures ends { IfSome result (λ status. spec.PieceEnds PacketKindTag.ALL shown_in sums piece.now recording.old recording.new (W.contents writer.old) (W.contents writer.new) status) }
 {
     let mut out = String::new(alloc);
-    let taken = recording.take(piece, &mut out);
+    let taken = recording.push(piece, &mut out);
     let is_written = write_front(writer, out.as_bytes());
     if is_written {
         match taken {
@@ -214,7 +228,7 @@ fn take<W: Write>(
     }
 }
 
-/// Says that the input is at its end, and answers the status.
+/// Ends the input, and returns the status.
 fn finish<W: Write>(
     alloc: Global,
     shown_in: Layout,
@@ -222,7 +236,7 @@ fn finish<W: Write>(
     recording: &mut Recording,
     writer: &mut W,
 ) -> u8
-    ensures { spec.InputEnds KindName.ALL shown_in sums recording.old recording.new (W.contents writer.old) (W.contents writer.new) result }
+    ensures { spec.InputEnds PacketKindTag.ALL shown_in sums recording.old recording.new (W.contents writer.old) (W.contents writer.new) result }
 {
     let mut out = String::new(alloc);
     let finished = recording.finish(&mut out);
@@ -247,7 +261,7 @@ fn lost_status(recording: &Recording) -> u8
     if recording.has_lost() { 1 } else { 0 }
 }
 
-/// Writes why the recording goes no further, and then the sums, where they are asked for, and answers the status.
+/// Writes the reason why the recording ends, and then the sums, if they are requested, and returns the status.
 fn end_refused<W: Write>(
     alloc: Global,
     shown_in: Layout,
@@ -266,7 +280,7 @@ fn end_refused<W: Write>(
     }
 }
 
-/// Writes why the recording goes no further; whether all of it is written. A packet that doesn't come has said so itself.
+/// Writes the reason why the recording ends, and returns whether all of it is written. An unexpected packet has its own entry.
 fn write_error<W: Write>(
     alloc: Global,
     shown_in: Layout,
@@ -284,7 +298,7 @@ fn write_error<W: Write>(
     }
 }
 
-/// The name of an error, but for a packet that doesn't come.
+/// The name of an error, except for an unexpected packet.
 fn name_of(error: RecordingError) -> Option<&'static str>
     ensures { MatchOption result (spec.error_name error ≡ None) (λ name. spec.error_name error ≡ Some name.now) }
 {
@@ -298,7 +312,7 @@ fn name_of(error: RecordingError) -> Option<&'static str>
     }
 }
 
-/// The line that says why the recording goes no further.
+/// The line with the reason why the recording ends.
 fn error_line(alloc: Global, shown_in: Layout, name: &str) -> Result<String, AllocError>
     ensures { IfOk result (λ line. string_bytes line ≡ spec.error_line shown_in name.now) }
 {
@@ -318,7 +332,7 @@ fn joined(alloc: Global, front: &str, name: &str, back: &str) -> Result<String, 
     Ok(text)
 }
 
-/// Writes the sums, where they are asked for, and answers the status; 3 where the write failed.
+/// Writes the sums, if they are requested, and returns the status; 3 if the write failed.
 fn end_with_sums<W: Write>(
     alloc: Global,
     sums: bool,
@@ -333,14 +347,14 @@ fn end_with_sums<W: Write>(
         let mut out = String::new(alloc);
         match recording.append_sums(&mut out) {
             Ok(()) => end(writer, out.as_bytes(), status),
-            Err(_) => end(writer, OUT_OF_MEMORY, 1),
+            Err(_) => refuse_memory(writer),
         }
     } else {
         status
     }
 }
 
-/// Writes the text, and answers the status, or 3 where a write failed: a front of the text is written then.
+/// Writes the text, and returns the status, or 3 if a write failed: a front of the text is written then.
 fn end<W: Write>(writer: &mut W, text: &[u8], status: u8) -> u8
     ensures { IsWritten (record { text = text.now; status = status }) (W.contents writer.old) (W.contents writer.new) result }
 {

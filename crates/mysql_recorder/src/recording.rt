@@ -1,7 +1,7 @@
 //! A recording: what both sides of a connection sent.
 
 ghost use Rattle.std.specs.Prelude.{◌≡◌, ◌↔◌, ◌∷◌, [], ℕ, List, IfErr, IsTrue, None, OnOk, Some, false, true, string_bytes};
-ghost use Rattle.mysql_fields.specs.Entries.{Stays};
+ghost use Rattle.mysql_show.specs.Appended.{Stays};
 ghost use Rattle.mysql_recorder.specs.Losses.{LineEndLoses, LineLoses, Loses, TextLoses};
 ghost use Rattle.mysql_recorder.specs.Lines.{next_place, place_after};
 ghost use Rattle.mysql_recorder.specs.Recorded as spec;
@@ -10,24 +10,25 @@ ghost use Rattle.mysql_recorder.specs.Shown.{Item};
 ghost use Rattle.mysql_recorder.specs.Stops.{LineStops, Stops, TextStops};
 ghost use Rattle.mysql_recorder.specs.Sums.{AppendsSomeSums};
 
+use crate::entry::Layout;
 use crate::error::RecordingError;
 use crate::line::{Place, Said};
 use crate::loss::Loss;
 use crate::mark::{may_be_mark, missing_of};
 use crate::sides::Sides;
-use mysql_conversation::{KindName, Side};
-use mysql_fields::Layout;
+use mysql_conversation::{PacketKindTag, Side};
 use mysql_replies::SessionCapabilities;
 use std::alloc::{AllocError, Global};
 use std::mem;
 
 /// Reads a recording, which is given in pieces of any size, and shows each packet once its last byte is there.
 ///
-/// Where a packet doesn't come, bytes are no frames, or a line says that bytes are missing, that is shown, and both streams are out of
-/// step. They are passed over up to the next line of the client that begins with a command, and the next line of the server that begins
-/// with a frame of the number after that command's; where a stream is in step again is shown, with how many bytes were passed over.
+/// An unexpected packet, bytes that are not the expected frames, or a mark of missing bytes is shown, and both streams are then
+/// out of step. They are skipped up to the next line of the client that begins with a command, and the next line of the server
+/// that begins with a frame of the number after that command's; a notice says where each stream is resynchronized, and how many
+/// bytes were skipped.
 ///
-/// It keeps what came of a payload of each side, the commands that wait, and what the conversation stands at.
+/// It keeps the incomplete payload of each side, the pipelined commands, and the state of the conversation.
 #[derive(Drop)]
 pub struct Recording {
     alloc: Global,
@@ -36,7 +37,7 @@ pub struct Recording {
     sides: Sides,
 }
 
-/// What came of a line, and is not taken yet.
+/// The bytes of a line that aren't taken yet.
 #[derive(Drop)]
 struct Line {
     side: Side,
@@ -46,7 +47,7 @@ struct Line {
 }
 
 impl Recording {
-    /// A recording of which nothing has come, for payloads of at most `longest` bytes, in which as many commands may wait.
+    /// Creates a recording without input, for payloads of at most `longest` bytes, with a limit of pipelined commands.
     pub fn new(alloc: Global, layout: Layout, longest: usize, waiting: usize) -> Self
         ensures recorded { spec.Recorded result [] [] }
         ensures layout { spec.layout result ≡ layout }
@@ -69,8 +70,8 @@ impl Recording {
 
     /// Takes up a connection at its next command, under what both sides agreed on: its greeting and its login were not seen. Both
     /// streams are out of step up to there.
-    pub fn taken_up(self, agreed: SessionCapabilities) -> Self
-        ensures taken_up { spec.IsTakenUp self result agreed }
+    pub fn resync(self, agreed: SessionCapabilities) -> Self
+        ensures resync { spec.IsResynced self result agreed }
         ensures lost { spec.has_lost result ≡ spec.has_lost self }
         ensures layout { spec.layout result ≡ spec.layout self }
         ensures longest { spec.longest result ≡ spec.longest self }
@@ -83,7 +84,7 @@ impl Recording {
         recording
     }
 
-    /// Sums what comes from here on.
+    /// Sums the following packets.
     pub fn with_sums(self) -> Self
         ensures sums { spec.has_sums result ≡ true }
         ensures recorded { (text : List ℕ) (items : List Item) → spec.Recorded self text items → spec.Recorded result text items }
@@ -98,7 +99,7 @@ impl Recording {
         recording
     }
 
-    /// Goes on after a request for TLS: the recording has what was inside of TLS, and no packet is refused as `Encrypted`.
+    /// Continues after a request for TLS: the recording has the decrypted contents, and no packet is refused as `Encrypted`.
     pub fn deciphered(self) -> Self
         ensures deciphered { spec.is_deciphered result ≡ true }
         ensures recorded { (text : List ℕ) (items : List Item) → spec.Recorded self text items → spec.Recorded result text items }
@@ -109,7 +110,7 @@ impl Recording {
         ensures sums { spec.has_sums result ≡ spec.has_sums self }
     {
         let mut recording = self;
-        recording.sides.decipher();
+        recording.sides.tls_established();
         recording
     }
 
@@ -122,18 +123,18 @@ impl Recording {
         self.sides.append_sums(out)
     }
 
-    /// Whether all that was asked for is answered, and no packet is cut.
-    pub fn is_whole(&self) -> bool
+    /// Whether every command is answered, and no packet is incomplete.
+    pub fn is_complete(&self) -> bool
         // What waits of a line is in none of the packets.
         ensures recorded { (text : List ℕ) (items : List Item) → spec.Recorded self.now text items → IsTrue result ↔ spec.IsWhole self.now items }
         ensures finished { (text : List ℕ) (items : List Item) → spec.IsFinished self.now text items → IsTrue result ↔ spec.IsWhole self.now items }
         // After a loss, of what is followed since:
         ensures ended { IsTrue result → spec.HasEnded self.now }
     {
-        self.sides.is_whole()
+        self.sides.is_complete()
     }
 
-    /// Whether something was lost: a packet that doesn't come, bytes that are no frames, or bytes that are missing.
+    /// Whether something was lost: there was an unexpected packet, bytes that aren't the expected frames, or missing bytes.
     pub fn has_lost(&self) -> bool
         ensures { result ≡ spec.has_lost self.now }
     {
@@ -142,8 +143,8 @@ impl Recording {
 
     /// Takes a piece of the input, and appends what its packets say.
     ///
-    /// After a refusal the recording has gone as far as the packet before it.
-    pub fn take(&mut self, input: &[u8], out: &mut String) -> Result<(), RecordingError>
+    /// After an error the recording has taken the packets before the faulty one.
+    pub fn push(&mut self, input: &[u8], out: &mut String) -> Result<(), RecordingError>
         ensures goes { OnOk result (spec.GoesOn input.now self.old self.new (string_bytes out.old) (string_bytes out.new)) }
         ensures lost { spec.has_lost self.old ≡ true → spec.has_lost self.new ≡ true }
         ensures layout { spec.layout self.new ≡ spec.layout self.old }
@@ -151,8 +152,8 @@ impl Recording {
         ensures may_wait { spec.may_wait self.new ≡ spec.may_wait self.old }
         ensures deciphered { spec.is_deciphered self.new ≡ spec.is_deciphered self.old }
         ensures sums { spec.has_sums self.new ≡ spec.has_sums self.old }
-        ensures refused { IfErr result (λ e. Stops KindName.ALL input.now self.old self.new e (string_bytes out.old) (string_bytes out.new)) }
-        ensures loses { Loses result KindName.ALL input.now self.old self.new (string_bytes out.old) (string_bytes out.new) }
+        ensures refused { IfErr result (λ e. Stops PacketKindTag.ALL input.now self.old self.new e (string_bytes out.old) (string_bytes out.new)) }
+        ensures loses { Loses result PacketKindTag.ALL input.now self.old self.new (string_bytes out.old) (string_bytes out.new) }
         ensures text { OnOk result (Stays (string_bytes out.old) (string_bytes out.new)) }
         // The error is `Line` only where a line of the input is none of a recording's, and then it is an error.
         ensures place { OnOk result (place_after (spec.place self.old) input.now ≡ Some (spec.place self.new)) }
@@ -169,8 +170,8 @@ impl Recording {
         ensures goes { OnOk result (spec.GoesOn [] self.old self.new (string_bytes out.old) (string_bytes out.new)) }
         ensures lost { spec.has_lost self.old ≡ true → spec.has_lost self.new ≡ true }
         ensures settings { spec.KeepsSettings self.old self.new }
-        ensures refused { IfErr result (λ e. TextStops KindName.ALL self.old e (string_bytes out.old) (string_bytes out.new)) }
-        ensures loses { TextLoses result KindName.ALL ⊥ self.old self.new (string_bytes out.old) (string_bytes out.new) }
+        ensures refused { IfErr result (λ e. TextStops PacketKindTag.ALL self.old e (string_bytes out.old) (string_bytes out.new)) }
+        ensures loses { TextLoses result PacketKindTag.ALL ⊥ self.old self.new (string_bytes out.old) (string_bytes out.new) }
         ensures text { OnOk result (Stays (string_bytes out.old) (string_bytes out.new)) }
         ensures no_line { IfErr result (λ e. IfLine e ⊥) }
         ensures place { self.new.place ≡ self.old.place }
@@ -187,8 +188,8 @@ impl Recording {
         ensures goes { OnOk result (spec.GoesOn (byte ∷ []) self.old self.new (string_bytes out.old) (string_bytes out.new)) }
         ensures lost { spec.has_lost self.old ≡ true → spec.has_lost self.new ≡ true }
         ensures settings { spec.KeepsSettings self.old self.new }
-        ensures refused { IfErr result (λ e. TextStops KindName.ALL self.old e (string_bytes out.old) (string_bytes out.new)) }
-        ensures loses { TextLoses result KindName.ALL (byte ≡ 10) self.old self.new (string_bytes out.old) (string_bytes out.new) }
+        ensures refused { IfErr result (λ e. TextStops PacketKindTag.ALL self.old e (string_bytes out.old) (string_bytes out.new)) }
+        ensures loses { TextLoses result PacketKindTag.ALL (byte ≡ 10) self.old self.new (string_bytes out.old) (string_bytes out.new) }
         ensures text { OnOk result (Stays (string_bytes out.old) (string_bytes out.new)) }
         ensures place { OnOk result (next_place self.old.place byte ≡ Some self.new.place) }
         ensures line { IfErr result (λ e. IfLine e (next_place self.old.place byte ≡ None)) }
@@ -203,7 +204,7 @@ impl Recording {
         }
     }
 
-    /// Says that the input is at its end, and appends how much of each stream is passed over that is still out of step.
+    /// Ends the input, and appends the number of skipped bytes of each stream that is still out of step.
     pub fn finish(&mut self, out: &mut String) -> Result<(), RecordingError>
         ensures left { OnOk result ((mid : List ℕ) × Stays (string_bytes out.old) mid × spec.SaysLeft self.new mid (string_bytes out.new)) }
         ensures finishes { OnOk result (spec.Finishes self.old self.new (string_bytes out.old) (string_bytes out.new)) }
@@ -213,8 +214,8 @@ impl Recording {
         ensures may_wait { spec.may_wait self.new ≡ spec.may_wait self.old }
         ensures deciphered { spec.is_deciphered self.new ≡ spec.is_deciphered self.old }
         ensures sums { spec.has_sums self.new ≡ spec.has_sums self.old }
-        ensures refused { IfErr result (λ e. TextStops KindName.ALL self.old e (string_bytes out.old) (string_bytes out.new)) }
-        ensures loses { TextLoses result KindName.ALL (Unit {0}) self.old self.new (string_bytes out.old) (string_bytes out.new) }
+        ensures refused { IfErr result (λ e. TextStops PacketKindTag.ALL self.old e (string_bytes out.old) (string_bytes out.new)) }
+        ensures loses { TextLoses result PacketKindTag.ALL (Unit {0}) self.old self.new (string_bytes out.old) (string_bytes out.new) }
         ensures text { OnOk result (Stays (string_bytes out.old) (string_bytes out.new)) }
         ensures no_line { IfErr result (λ e. IfLine e ⊥) }
     {
@@ -236,8 +237,8 @@ impl Recording {
         ensures settings { spec.KeepsSettings self.old self.new }
         ensures place { self.new.place ≡ self.old.place }
         ensures line { OnOk result (self.new.line.bytes.items ≡ []) }
-        ensures refused { IfErr result (λ e. LineStops KindName.ALL self.old e (string_bytes out.old) (string_bytes out.new)) }
-        ensures loses { LineEndLoses result KindName.ALL self.old self.new (string_bytes out.old) (string_bytes out.new) }
+        ensures refused { IfErr result (λ e. LineStops PacketKindTag.ALL self.old e (string_bytes out.old) (string_bytes out.new)) }
+        ensures loses { LineEndLoses result PacketKindTag.ALL self.old self.new (string_bytes out.old) (string_bytes out.new) }
         ensures text { OnOk result (Stays (string_bytes out.old) (string_bytes out.new)) }
         ensures untaken { self.new.line.is_untaken ≡ true }
         ensures no_line { IfErr result (λ e. IfLine e ⊥) }
@@ -247,15 +248,15 @@ impl Recording {
         taken
     }
 
-    /// The same, before the next line begins.
+    /// Takes the end of a line, before the next one begins.
     fn take_last(&mut self, out: &mut String) -> Result<(), RecordingError>
         ensures goes { OnOk result (spec.Takes self.old self.new (string_bytes out.old) (string_bytes out.new)) }
         ensures lost { spec.has_lost self.old ≡ true → spec.has_lost self.new ≡ true }
         ensures settings { spec.KeepsSettings self.old self.new }
         ensures place { self.new.place ≡ self.old.place }
         ensures line { OnOk result (self.new.line.bytes.items ≡ []) }
-        ensures refused { IfErr result (λ e. LineStops KindName.ALL self.old e (string_bytes out.old) (string_bytes out.new)) }
-        ensures loses { LineEndLoses result KindName.ALL self.old self.new (string_bytes out.old) (string_bytes out.new) }
+        ensures refused { IfErr result (λ e. LineStops PacketKindTag.ALL self.old e (string_bytes out.old) (string_bytes out.new)) }
+        ensures loses { LineEndLoses result PacketKindTag.ALL self.old self.new (string_bytes out.old) (string_bytes out.new) }
         ensures text { OnOk result (Stays (string_bytes out.old) (string_bytes out.new)) }
         ensures no_line { IfErr result (λ e. IfLine e ⊥) }
     {
@@ -266,7 +267,7 @@ impl Recording {
         }
     }
 
-    /// Takes a line that says how many bytes are missing.
+    /// Takes a mark of missing bytes.
     fn lose_line(&mut self, count: u64, out: &mut String) -> Result<(), RecordingError>
         ensures lost { OnOk result (spec.has_lost self.new ≡ true) }
         ensures settings { spec.KeepsSettings self.old self.new }
@@ -289,8 +290,8 @@ impl Recording {
         ensures settings { spec.KeepsSettings self.old self.new }
         ensures place { self.new.place ≡ self.old.place }
         ensures line { OnOk result (self.new.line.bytes.items ≡ []) }
-        ensures refused { IfErr result (λ e. LineStops KindName.ALL self.old e (string_bytes out.old) (string_bytes out.new)) }
-        ensures loses { LineLoses result KindName.ALL self.old self.new (string_bytes out.old) (string_bytes out.new) }
+        ensures refused { IfErr result (λ e. LineStops PacketKindTag.ALL self.old e (string_bytes out.old) (string_bytes out.new)) }
+        ensures loses { LineLoses result PacketKindTag.ALL self.old self.new (string_bytes out.old) (string_bytes out.new) }
         ensures text { OnOk result (Stays (string_bytes out.old) (string_bytes out.new)) }
         ensures taken { self.new.line.is_untaken ≡ false }
         ensures no_line { IfErr result (λ e. IfLine e ⊥) }

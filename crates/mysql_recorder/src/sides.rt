@@ -1,8 +1,8 @@
-//! Both sides of a connection: their streams, and what is shown of them.
+//! Both sides of a connection: their streams, and the packets that are shown.
 
 ghost use Rattle.std.specs.Prelude.{◌≡◌, ◌≢◌, ◌↔◌, ◌-◌, ◌∷◌, [], ◌++◌, ℕ, List, IfOk, IfErr, IsTrue, OnOk, None, true, false, string_bytes};
-ghost use Rattle.mysql_fields.specs.Entries.{Stays};
-ghost use Rattle.mysql_recorder.specs.Followed.{IsTakenUp, IsTakenUpAfter};
+ghost use Rattle.mysql_show.specs.Appended.{Stays};
+ghost use Rattle.mysql_recorder.specs.Followed.{IsResynced, IsResyncedAfter};
 ghost use Rattle.mysql_recorder.specs.Frames.{Piece};
 ghost use Rattle.mysql_recorder.specs.Losses.{PieceLoses, PieceLosesIn};
 ghost use Rattle.mysql_recorder.specs.Refusals.{IfLine, IfRefused};
@@ -13,15 +13,16 @@ ghost use Rattle.mysql_recorder.specs.Stops.{PieceStops};
 ghost use Rattle.mysql_recorder.specs.Sums.{AppendsSomeSums};
 ghost use Rattle.mysql_recorder.specs.declared.piece.Came.TheVariants as came_as;
 
+use crate::entry::Layout;
 use crate::error::RecordingError;
 use crate::loss::{HEAD, Loss, begins_command, begins_with};
 use crate::packets::Packets;
 use crate::piece::{Came, read_packets};
 use crate::stream::Stream;
 use crate::unheard::Front;
-use mysql_conversation::{KindName, Side};
-use mysql_fields::{Field, Layout};
+use mysql_conversation::{PacketKindTag, Side};
 use mysql_replies::SessionCapabilities;
+use mysql_show::Field;
 use std::alloc::{AllocError, Global};
 
 /// Both sides of a connection.
@@ -61,7 +62,7 @@ impl Sides {
 
     /// Takes up a connection at its next command, under what both sides agreed on. Both streams are out of step up to there.
     pub(crate) fn take_up_at(&mut self, agreed: SessionCapabilities)
-        ensures taken_up { spec.IsTakenUp self.new agreed self.old.packets.followed.last }
+        ensures resync { spec.IsResynced self.new agreed self.old.packets.followed.last }
         ensures lost { spec.has_lost self.new ≡ spec.has_lost self.old }
         ensures settings { spec.KeepsSettings self.old self.new }
     {
@@ -70,7 +71,7 @@ impl Sides {
         self.packets.take_up(agreed);
     }
 
-    /// Sums what comes from here on.
+    /// Sums the following packets.
     pub(crate) fn sum(&mut self)
         ensures same { spec.IsSummed self.old self.new }
         ensures sums { spec.has_sums self.new ≡ true }
@@ -79,8 +80,8 @@ impl Sides {
         self.packets.sum();
     }
 
-    /// Says that what comes after a request for TLS is what was inside of it.
-    pub(crate) fn decipher(&mut self)
+    /// Declares that the recording contains the decrypted contents of TLS.
+    pub(crate) fn tls_established(&mut self)
         ensures stand { (pieces : List Piece) (items : List Item) → spec.Stand self.old pieces items → spec.Stand self.new pieces items }
         ensures deciphered { spec.is_deciphered self.new ≡ true }
         ensures lost { spec.has_lost self.new ≡ spec.has_lost self.old }
@@ -89,7 +90,7 @@ impl Sides {
         ensures may_wait { spec.may_wait self.new ≡ spec.may_wait self.old }
         ensures sums { spec.has_sums self.new ≡ spec.has_sums self.old }
     {
-        self.packets.decipher();
+        self.packets.tls_established();
     }
 
     /// Appends the sums, where they are asked for.
@@ -101,13 +102,13 @@ impl Sides {
         self.packets.append_sums(out)
     }
 
-    /// Whether all that was asked for is answered, and no packet is cut.
-    pub(crate) fn is_whole(&self) -> bool
+    /// Whether every command is answered, and no packet is incomplete.
+    pub(crate) fn is_complete(&self) -> bool
         ensures stand { (pieces : List Piece) (items : List Item) → spec.Stand self.now pieces items → IsTrue result ↔ spec.IsWhole self.now items }
         // Also after a loss:
         ensures ended { IsTrue result → spec.HasEnded self.now }
     {
-        self.client.is_between() && self.server.is_between() && self.packets.is_at_rest()
+        self.client.is_between() && self.server.is_between() && self.packets.is_idle()
     }
 
     /// Whether something was lost.
@@ -117,12 +118,12 @@ impl Sides {
         self.has_lost
     }
 
-    /// Whether it is known how a line begins of which so much came.
+    /// Whether enough bytes of a line have come to say how it begins.
     pub(crate) fn may_be_begun(&self, side: Side, line: &[u8]) -> bool {
         line.len() >= HEAD || self.passed(side).is_none()
     }
 
-    /// How many bytes of a side's stream are passed over, where it is out of step.
+    /// The number of skipped bytes of a side's stream, if it is out of step.
     fn passed(&self, side: Side) -> Option<u64>
         ensures { result ≡ spec.passed_of side self.now }
     {
@@ -132,7 +133,7 @@ impl Sides {
         }
     }
 
-    /// Takes what came of a line, and appends what its packets say. Where it is the line's beginning, the stream may be in step again.
+    /// Takes bytes of a line, and appends their packets. At the start of a line the stream may be resynchronized.
     pub(crate) fn take_line(
         &mut self,
         side: Side,
@@ -141,10 +142,10 @@ impl Sides {
         out: &mut String,
     ) -> Result<(), RecordingError>
         ensures goes { OnOk result (spec.GoesOn (spec.piece side piece.now ∷ []) self.old self.new (string_bytes out.old) (string_bytes out.new)) }
-        ensures refused { IfErr result (λ e. PieceStops KindName.ALL side piece.now self.old e (string_bytes out.old) (string_bytes out.new)) }
+        ensures refused { IfErr result (λ e. PieceStops PacketKindTag.ALL side piece.now self.old e (string_bytes out.old) (string_bytes out.new)) }
         ensures lost { spec.has_lost self.old ≡ true → spec.has_lost self.new ≡ true }
         ensures settings { spec.KeepsSettings self.old self.new }
-        ensures loses { PieceLoses result KindName.ALL side piece.now self.old self.new (string_bytes out.old) (string_bytes out.new) }
+        ensures loses { PieceLoses result PacketKindTag.ALL side piece.now self.old self.new (string_bytes out.old) (string_bytes out.new) }
         ensures text { OnOk result (Stays (string_bytes out.old) (string_bytes out.new)) }
         ensures no_line { IfErr result (λ e. IfLine e ⊥) }
     {
@@ -188,7 +189,7 @@ impl Sides {
         if self.begins(side, line) {
             self.step_in(side);
             if self.has_lost || passed > 0 {
-                self.say_passed("taken_up", side, passed, out)?;
+                self.say_passed("resync", side, passed, out)?;
             }
         }
         Ok(())
@@ -217,7 +218,7 @@ impl Sides {
         }
     }
 
-    /// Passes over so many bytes of a stream, where it is out of step.
+    /// Passes over `count` bytes of a stream, where it is out of step.
     fn pass_over(&mut self, side: Side, count: usize)
         ensures lost { spec.has_lost self.new ≡ spec.has_lost self.old }
         ensures settings { spec.KeepsSettings self.old self.new }
@@ -228,7 +229,7 @@ impl Sides {
         }
     }
 
-    /// Appends how much of each stream is passed over that is still out of step.
+    /// Appends the number of skipped bytes of each stream that is still out of step.
     pub(crate) fn say_unheard(&self, out: &mut String) -> Result<(), AllocError>
         ensures left { OnOk result (steps.SaysLeft self.now (string_bytes out.old) (string_bytes out.new)) }
         ensures none { OnOk result (spec.SaysNothing self.now (string_bytes out.old) (string_bytes out.new)) }
@@ -238,7 +239,7 @@ impl Sides {
         self.say_left(Side::Server, out)
     }
 
-    /// The same of one of them.
+    /// Appends that of one stream.
     fn say_left(&self, side: Side, out: &mut String) -> Result<(), AllocError>
         ensures text { OnOk result (string_bytes out.new ≡ string_bytes out.old ++ steps.left_text side self.now) }
         ensures none { OnOk result (spec.passed_of side self.now ≡ None → string_bytes out.new ≡ string_bytes out.old) }
@@ -246,13 +247,13 @@ impl Sides {
     {
         match self.passed(side) {
             Some(passed) if self.has_lost || passed > 0 => {
-                self.say_passed("not_taken_up", side, passed, out)
+                self.say_passed("no_resync", side, passed, out)
             }
             _ => Ok(()),
         }
     }
 
-    /// Appends how many bytes of a stream were passed over.
+    /// Appends the number of skipped bytes of a stream.
     fn say_passed(
         &self,
         kind: &'static str,
@@ -263,11 +264,12 @@ impl Sides {
         ensures text { OnOk result (string_bytes out.new ≡ string_bytes out.old ++ steps.passed_text self.now kind.now side passed) }
         ensures stays { OnOk result (Stays (string_bytes out.old) (string_bytes out.new)) }
     {
-        let field = Field::number("passed_over", passed);
-        self.packets.append_remark(kind, side, field, out)
+        let field = Field::number("skipped_bytes", passed);
+        self.packets.append_notice(kind, side, field, out)
     }
 
-    /// Appends what was lost, and has both streams out of step. Where it isn't known what both sides agreed on, that is a refusal.
+    /// Appends a loss, after which both streams are out of step. Before both sides have agreed on capabilities it ends the
+    /// recording.
     pub(crate) fn lose(
         &mut self,
         side: Side,
@@ -284,7 +286,7 @@ impl Sides {
         let Some(agreed) = self.packets.agreed() else {
             return Err(RecordingError::from(loss));
         };
-        self.packets.append_remark("lost", side, loss.field(), out)?;
+        self.packets.append_notice("lost", side, loss.field(), out)?;
         match self.packets.unheard() {
             Some(command) if loss.is_missing() && side == Side::Server => {
                 self.lose_answer(agreed, &command)
@@ -293,15 +295,15 @@ impl Sides {
         }
     }
 
-    /// Has the server's stream out of step, up to the answer to this command, which has come: what is missing is the answer to the one
-    /// before it.
+    /// Puts the server's stream out of step, up to the answer to this command, which has come: the answer to the previous one
+    /// is missing.
     fn lose_answer(
         &mut self,
         agreed: SessionCapabilities,
         command: &Front,
     ) -> Result<(), RecordingError>
         ensures lost { spec.has_lost self.new ≡ true }
-        ensures taken_up { (front : List ℕ) × IsTakenUpAfter self.new.packets.followed agreed front (self.old.packets.followed.last - 1) }
+        ensures resync { (front : List ℕ) × IsResyncedAfter self.new.packets.followed agreed front (self.old.packets.followed.last - 1) }
         ensures refused { IfErr result (λ e. IfRefused e (λ why. ⊥)) }
         ensures settings { spec.KeepsSettings self.old self.new }
         ensures no_line { IfErr result (λ e. IfLine e ⊥) }
@@ -315,7 +317,7 @@ impl Sides {
     /// Has both streams out of step, up to the next command.
     fn be_lost(&mut self, agreed: SessionCapabilities) -> Result<(), RecordingError>
         ensures lost { spec.has_lost self.new ≡ true }
-        ensures taken_up { IsTakenUp self.new.packets.followed agreed [] self.old.packets.followed.last }
+        ensures resync { IsResynced self.new.packets.followed agreed [] self.old.packets.followed.last }
         ensures refused { IfErr result (λ e. IfRefused e (λ why. ⊥)) }
         ensures settings { spec.KeepsSettings self.old self.new }
         ensures no_line { IfErr result (λ e. IfLine e ⊥) }
@@ -335,10 +337,10 @@ impl Sides {
         out: &mut String,
     ) -> Result<(), RecordingError>
         ensures goes { OnOk result (spec.GoesOn (spec.piece side piece.now ∷ []) self.old self.new (string_bytes out.old) (string_bytes out.new)) }
-        ensures refused { IfErr result (λ e. PieceStops KindName.ALL side piece.now self.old e (string_bytes out.old) (string_bytes out.new)) }
+        ensures refused { IfErr result (λ e. PieceStops PacketKindTag.ALL side piece.now self.old e (string_bytes out.old) (string_bytes out.new)) }
         ensures lost { spec.has_lost self.old ≡ true → spec.has_lost self.new ≡ true }
         ensures settings { spec.KeepsSettings self.old self.new }
-        ensures loses { PieceLoses result KindName.ALL side piece.now self.old self.new (string_bytes out.old) (string_bytes out.new) }
+        ensures loses { PieceLoses result PacketKindTag.ALL side piece.now self.old self.new (string_bytes out.old) (string_bytes out.new) }
         ensures text { OnOk result (Stays (string_bytes out.old) (string_bytes out.new)) }
         ensures no_line { IfErr result (λ e. IfLine e ⊥) }
     {
@@ -394,10 +396,10 @@ impl Sides {
         out: &mut String,
     ) -> Result<Came, RecordingError>
         ensures goes { IfOk result (λ came. came ≡ came_as.Whole → spec.GoesOn (spec.piece side piece.now ∷ []) self.old self.new (string_bytes out.old) (string_bytes out.new)) }
-        ensures refused { IfErr result (λ e. PieceStops KindName.ALL side piece.now self.old e (string_bytes out.old) (string_bytes out.new)) }
+        ensures refused { IfErr result (λ e. PieceStops PacketKindTag.ALL side piece.now self.old e (string_bytes out.old) (string_bytes out.new)) }
         ensures lost { spec.has_lost self.new ≡ spec.has_lost self.old }
         ensures settings { spec.KeepsSettings self.old self.new }
-        ensures loses { IfOk result (λ came. came ≢ came_as.Whole → PieceLosesIn KindName.ALL side piece.now self.old (string_bytes out.old) (string_bytes out.new)) }
+        ensures loses { IfOk result (λ came. came ≢ came_as.Whole → PieceLosesIn PacketKindTag.ALL side piece.now self.old (string_bytes out.old) (string_bytes out.new)) }
         ensures stays { IfOk result (λ came. Stays (string_bytes out.old) (string_bytes out.new)) }
         ensures no_line { IfErr result (λ e. IfLine e ⊥) }
     {
@@ -425,7 +427,7 @@ impl Sides {
         }
     }
 
-    /// After the first packet of a client whose stream is in step again, the server's may be, from its answer on.
+    /// After the first packet of a client whose stream is resynchronized, the server's may be too, from its answer on.
     fn await_answer(&mut self, side: Side, number: Option<u8>)
         ensures { spec.IsSame self.old self.new }
     {

@@ -20,23 +20,23 @@ pub(crate) struct Sent<'a> {
 fn expect_sent(reader: &mut FrameReader, input: &[u8])
     ensures { reader.new ≡ as_sent reader.old input.now }
 {
-    reader.expect_as_sent(input);
+    reader.resync_sequence(input);
 }
 
 /// One side's stream: in step, or out of step since something of it was lost.
 #[derive(Drop)]
 pub(crate) struct Stream {
     reader: FrameReader,
-    /// How many bytes came of a payload that is not whole.
+    /// The number of bytes of an incomplete payload.
     unfinished: u64,
-    /// How many bytes are passed over, where it is out of step.
+    /// The number of skipped bytes, if it is out of step.
     passed: Option<u64>,
     /// The number that the frame after the last payload has.
     number: u8,
 }
 
 impl Stream {
-    /// One of which nothing came, for payloads of at most `longest` bytes: in step, or out of step.
+    /// Creates a stream without bytes, for payloads of at most `longest` bytes: in step, or out of step.
     pub(crate) fn new(alloc: Global, longest: usize, is_in_step: bool) -> Self
         ensures held { result.reader.held ≡ [] }
         ensures limit { result.reader.limit ≡ longest }
@@ -51,7 +51,7 @@ impl Stream {
         }
     }
 
-    /// How many bytes are passed over, where it is out of step.
+    /// The number of skipped bytes, if it is out of step.
     pub(crate) fn passed(&self) -> Option<u64>
         ensures { result ≡ self.now.passed }
     {
@@ -65,7 +65,8 @@ impl Stream {
         self.passed.is_none() && self.reader.is_between()
     }
 
-    /// The number that the frame after the last payload has: its answer begins with it, also where a part of the next payload came.
+    /// The number of the frame after the last payload: the answer to it begins with this number, even if a part of the next
+    /// payload has come.
     pub(crate) fn number(&self) -> u8 {
         self.number
     }
@@ -103,13 +104,13 @@ impl Stream {
     }
 
     /// Takes back the memory of a payload.
-    pub(crate) fn give_back(&mut self, payload: CowSlice<'_, u8>)
+    pub(crate) fn recycle(&mut self, payload: CowSlice<'_, u8>)
         ensures { self.new ≡ self.old }
     {
-        self.reader.give_back(payload);
+        self.reader.recycle(payload);
     }
 
-    /// It is out of step from here on: what is held of a payload is passed over.
+    /// Puts it out of step: the bytes of an incomplete payload are skipped.
     pub(crate) fn lose(&mut self) {
         let passed = self.passed.unwrap_or(0);
         self.passed = Some(passed.saturating_add(self.unfinished));
@@ -117,7 +118,7 @@ impl Stream {
         self.reader.expect(0);
     }
 
-    /// Passes over so many bytes, where it is out of step.
+    /// Passes over a given number of bytes, where it is out of step.
     pub(crate) fn pass_over(&mut self, count: usize) {
         if let Some(passed) = self.passed {
             self.passed = Some(passed.saturating_add(count as u64));

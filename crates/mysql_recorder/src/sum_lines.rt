@@ -1,10 +1,11 @@
-//! Lines of what a recording comes to.
+//! Writes the sums as lines.
 
 ghost use Rattle.std.specs.Prelude.{◌≡◌, OnOk, string_bytes};
-ghost use Rattle.mysql_fields.specs.Entries.{Stays};
+ghost use Rattle.mysql_show.specs.Appended.{Stays};
 
+use crate::entry::sign_of;
 use crate::sums::{Large, Tally};
-use mysql_fields::{command_name, sign_of};
+use mysql_show::command_name;
 use mysql_wire::{ConstValue, ServerCommand};
 use std::alloc::AllocError;
 

@@ -1,26 +1,28 @@
-//! What a recording comes to.
+//! The sums over a recording.
 
 ghost use Rattle.std.specs.Prelude.{◌≡◌, ◌++◌, List, ℕ, OnOk, codes, string_bytes};
-ghost use Rattle.mysql_fields.specs.Entries.{Begins, Stays};
+ghost use Rattle.mysql_show.specs.Appended.{Stays};
+ghost use Rattle.mysql_recorder.specs.Entries.{Begins};
 ghost use Rattle.mysql_recorder.specs.Sums.{AppendsSums, count_line};
 
+use crate::entry::{Layout, Packet, name_of_side};
 use crate::sum_lines::{
     append_error, append_exchange, append_large, append_rows, append_statement, append_tally,
 };
-use mysql_conversation::{Kind, Side};
-use mysql_fields::{Layout, Packet, command_name, name_of_side};
+use mysql_conversation::{PacketKind, Side};
+use mysql_show::command_name;
 use mysql_wire::{ConstValue, ServerCommand};
 use serde_json::{Map, Value, push, put};
 use std::alloc::{AllocError, Global};
 use std::collections::BTreeMap;
 
-/// How many of the largest packets are named.
+/// The number of largest packets that are listed.
 const LARGEST: usize = 5;
 
-/// How many statements that are open are named at most.
+/// The maximum number of open statements that are listed.
 const OPEN: usize = 4096;
 
-/// What the packets of one side and kind come to.
+/// The sums of the packets of one side and kind.
 #[derive(Clone, Copy)]
 pub(crate) struct Tally {
     pub(crate) side: Side,
@@ -72,22 +74,22 @@ impl Sums {
     }
 
     /// Counts a packet that came.
-    pub(crate) fn add(&mut self, packet: &Packet<'_>, kind: Kind) -> Result<(), AllocError> {
+    pub(crate) fn add(&mut self, packet: &Packet<'_>, kind: PacketKind) -> Result<(), AllocError> {
         self.packets = self.packets.saturating_add(1);
         self.tally(packet)?;
         self.rank(packet)?;
         match kind {
-            Kind::Command(code) => {
+            PacketKind::Command(code) => {
                 count(&mut self.exchanges, code)?;
                 self.close(code, packet.payload);
                 Ok(())
             }
-            Kind::Row(_) => {
+            PacketKind::Row(_) => {
                 self.rows = self.rows.saturating_add(1);
                 Ok(())
             }
-            Kind::Error | Kind::UnaskedError => self.fail(packet.payload),
-            Kind::PrepareOk(_, _, _) => self.prepare(packet),
+            PacketKind::Error | PacketKind::UnsolicitedError => self.fail(packet.payload),
+            PacketKind::PrepareOk(_, _, _) => self.prepare(packet),
             _ => Ok(()),
         }
     }
@@ -131,7 +133,7 @@ impl Sums {
         Ok(())
     }
 
-    /// Counts an error by its code, which stands after the first byte.
+    /// Counts an error by its code, which follows the first byte.
     fn fail(&mut self, payload: &[u8]) -> Result<(), AllocError> {
         match payload {
             [_, low, high, ..] => count(&mut self.errors, u16::from_le_bytes([*low, *high])),

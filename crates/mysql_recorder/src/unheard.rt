@@ -1,11 +1,11 @@
-//! Commands that came before the answers to earlier ones, and of which nothing is heard yet.
+//! Pipelined commands since the last packet of the server.
 
-use mysql_conversation::{Kind, Side};
+use mysql_conversation::{PacketKind, Side};
 
-/// How many bytes of a command say what answers it: its first, and the flags of an execution.
+/// The number of bytes of a command that say what answers it: its first, and the flags of an execution.
 const FRONT: usize = 6;
 
-/// What a command begins with.
+/// The first bytes of a command.
 #[derive(Clone, Copy)]
 pub(crate) struct Front {
     bytes: [u8; FRONT],
@@ -31,7 +31,7 @@ impl Front {
     }
 }
 
-/// How many such commands came since the last packet of the server, and the last of them.
+/// The number of such commands since the last packet of the server, and the last of them.
 #[derive(Clone, Copy)]
 pub(crate) struct Unheard {
     count: u64,
@@ -48,9 +48,9 @@ impl Unheard {
     }
 
     /// Goes past a packet that came.
-    pub(crate) fn hear(&mut self, side: Side, kind: Kind, is_early: bool, payload: &[u8]) {
+    pub(crate) fn hear(&mut self, side: Side, kind: PacketKind, is_early: bool, payload: &[u8]) {
         match (side, kind) {
-            (Side::Client, Kind::Command(_)) if is_early => {
+            (Side::Client, PacketKind::Command(_)) if is_early => {
                 self.count = self.count.saturating_add(1);
                 self.last = Some(Front::of(payload));
             }

@@ -1,8 +1,8 @@
 //! The values of rows.
 
-use mysql_fields::Field;
-use mysql_prepared::{BinaryRowView, TextRowView, TypedColumn};
-use mysql_values::{ServerSide, ValueRef};
+use mysql_prepared::{BinaryRowView, QueryAttributesView, TextRowView, TypedColumn};
+use mysql_show::Field;
+use mysql_values::ServerSide;
 use mysql_wire::FaultOf;
 use std::alloc::AllocError;
 
@@ -16,43 +16,74 @@ pub(crate) fn fault_name(fault: &FaultOf<'_>) -> &'static str {
     }
 }
 
-/// Appends the value that was read, or the fault, after which no value is read. Whether more values may be read.
-fn append_value<'p>(
-    read: Result<Option<ValueRef<'p>>, FaultOf<'_>>,
-    fields: &mut Vec<Field<'p>>,
-) -> Result<bool, AllocError> {
-    match read {
-        Ok(Some(value)) => fields.push(Field::value("value", value))?,
-        Ok(None) => return Ok(false),
-        Err(fault) => {
-            fields.push(Field::word("refused", fault_name(&fault)))?;
-            return Ok(false);
-        }
-    }
-    Ok(true)
-}
-
-/// Appends the values of a row of text, up to the first that is none.
-pub(crate) fn append_text_row<'p>(
-    row: &mut TextRowView<'p>,
+/// Appends the fault after which nothing more is read, and the bytes from there on.
+pub(crate) fn append_refused<'p>(
+    fault: &FaultOf<'_>,
+    rest: &'p [u8],
     fields: &mut Vec<Field<'p>>,
 ) -> Result<(), AllocError> {
-    for _ in 0..row.left() {
-        if !append_value(row.next_value(), fields)? {
-            break;
+    fields.push(Field::word("refused", fault_name(fault)))?;
+    append_unread(rest, fields)
+}
+
+/// Appends the bytes that can't be read, if there are any.
+pub(crate) fn append_unread<'p>(
+    rest: &'p [u8],
+    fields: &mut Vec<Field<'p>>,
+) -> Result<(), AllocError> {
+    if rest.is_empty() {
+        return Ok(());
+    }
+    Ok(fields.push(Field::bytes("unread", rest))?)
+}
+
+/// Appends the names and the values of attributes, up to the first that can't be read, and the bytes from there on; and the fault, unless its
+/// packet is refused by it.
+pub(crate) fn append_attributes<'p>(
+    attributes: QueryAttributesView<'p>,
+    is_refused: bool,
+    fields: &mut Vec<Field<'p>>,
+) -> Result<(), AllocError> {
+    let mut attributes = attributes;
+    for _ in 0..attributes.left() {
+        match attributes.next_attribute() {
+            Ok(Some(attribute)) => {
+                fields.push(Field::bytes("attribute", attribute.name))?;
+                fields.push(Field::param("attribute_value", attribute.value))?;
+            }
+            Ok(None) => return Ok(()),
+            Err(_) if is_refused => return append_unread(attributes.rest().eat_all(), fields),
+            Err(fault) => return append_refused(&fault, attributes.rest().eat_all(), fields),
         }
     }
     Ok(())
 }
 
-/// Appends the values of a binary row, up to the first that is none.
+/// Appends the values of a row of text, up to the first that can't be read, and the bytes from there on.
+pub(crate) fn append_text_row<'p>(
+    row: &mut TextRowView<'p>,
+    fields: &mut Vec<Field<'p>>,
+) -> Result<(), AllocError> {
+    for _ in 0..row.left() {
+        match row.next_value() {
+            Ok(Some(value)) => fields.push(Field::value("value", value))?,
+            Ok(None) => return Ok(()),
+            Err(fault) => return append_refused(&fault, row.rest().eat_all(), fields),
+        }
+    }
+    Ok(())
+}
+
+/// Appends the values of a binary row, up to the first that can't be read, and the bytes from there on.
 pub(crate) fn append_row<'p, C: TypedColumn>(
     row: &mut BinaryRowView<'p, '_, ServerSide, C>,
     fields: &mut Vec<Field<'p>>,
 ) -> Result<(), AllocError> {
     for _ in 0..row.left() {
-        if !append_value(row.next_value(), fields)? {
-            break;
+        match row.next_value() {
+            Ok(Some(value)) => fields.push(Field::value("value", value))?,
+            Ok(None) => return Ok(()),
+            Err(fault) => return append_refused(&fault, row.rest().eat_all(), fields),
         }
     }
     Ok(())

@@ -22,7 +22,7 @@ lengths sids = map (λ s. length (intervals s)) sids
 
 -- ---- the words after a uuid
 
--- before the first sid come so many intervals, and each sid counts its own
+-- before the first sid come a given number of intervals, and each sid counts its own
 abbrev Counted : List Entry → ℕ → Result Found InvalidSid → Type 0
 Counted list n (Ok found) = (n ≡ length found.0) × (counts list ≡ lengths found.1)
 Counted list n (Err e) = Unit {0}

@@ -51,7 +51,7 @@ AllFit (i ∷ is) = Fits i × AllFit is
 
 -- ---- the sids of a uuid
 
--- what is known of a sid that was read, but for its tag
+-- what is known of a sid that was read, except for its tag
 record IsRead (s : Sid) : Type 0 where
   pub size : length (uuid s) ≡ 16
   pub bytes : All (λ b. b < 256) (uuid s)

@@ -61,7 +61,7 @@ passed-read f count bytes rest e =
     let same : r.1 ≡ rest = done-rest tt tt r.1 rest r.3 in
     (r.0, r.2 ∙ ap (λ (l : List ℕ). Ok (r.0, l)) same)
 
--- a tail is what is left where so many bytes are dropped
+-- a tail is what is left where a given number of bytes are dropped
 tail-dropped : (tail bytes : List ℕ) (n : ℕ) → IsTail tail bytes → n ≡ length bytes - length tail → (n ≤ length bytes) × (drop n bytes ≡ tail)
 tail-dropped tail bytes n t is =
     let whole : length bytes ≡ length t.front + length tail = ap length t.parts ∙ length-append t.front tail in

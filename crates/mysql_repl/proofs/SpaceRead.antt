@@ -87,7 +87,7 @@ pub sid-takes : (tagged : Bool) (s : Sid) (from rest : List ℕ) → ((sid_as ta
 sid-takes true s from rest e = tagged-takes s from rest e
 sid-takes false s from rest e = untagged-takes s from rest e
 
--- ---- and where one may be refused for memory, so many are there
+-- ---- and where one may be refused for memory, this many are there
 
 ok-of : (r : Reading ℕ) → counts_any r ≡ true → (x : ℕ × List ℕ) × (r ≡ Ok x)
 ok-of (Ok x) h = (x, refl)

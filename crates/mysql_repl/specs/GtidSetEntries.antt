@@ -15,7 +15,7 @@ use Rattle.mysql_repl.specs.SidText.{after, before, colon, comma, has}
 abbrev pub Entry : Type 0
 Entry = Result GtidSetEntry InvalidSid
 
--- a sid, before so many intervals of it
+-- a sid, before a given number of intervals of it
 abbrev pub sid : (id : List ℕ) (tag : Option (List ℕ)) (count : ℕ) → Entry
 sid id tag count = Ok (entry.Sid (record { uuid = id; tag = tag; intervals = count }))
 

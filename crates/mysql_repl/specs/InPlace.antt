@@ -9,15 +9,15 @@ abbrev pub items_read : {A : Type 0} → Reading (List A) → List A
 items_read (Ok x) = x.0
 items_read (Err kind) = []
 
--- so many values, off the front of the bytes
+-- a given number of values, off the front of the bytes
 abbrev pub items_in : {A : Type 0} → Form A → (count : ℕ) (bytes : List ℕ) → List A
 items_in f count bytes = items_read ((counted count f).reads bytes)
 
--- so many values are so many bytes off the front
+-- a given number of values are a given number of bytes off the front
 abbrev pub AreThere : {A : Type 0} → Form A → (count len : ℕ) (bytes : List ℕ) → Type 0
 AreThere f count len bytes = (len ≤ length bytes) × ((counted count f).reads bytes ≡ Ok (items_in f count bytes, drop len bytes))
 
--- so many values stand in a place: with what follows it they are read, and what follows is left
+-- a given number of values stand in a place: with what follows it they are read, and what follows is left
 abbrev pub StandIn : {A : Type 0} → Form A → (count : ℕ) (place : List ℕ) (items : List A) → Type 0
 StandIn f count place items = (after : List ℕ) × ((counted count f).reads (place ++ after) ≡ Ok (items, after))
 

@@ -16,8 +16,8 @@ are_after last [] = true
 are_after last (i ∷ is) = is_after last i && are_after (end i) is
 
 -- the first begins at 1 or later
-abbrev pub is_as_servers_write : Sid → Bool
-is_as_servers_write s = are_after 0 (intervals s)
+abbrev pub is_canonical : Sid → Bool
+is_canonical s = are_after 0 (intervals s)
 
 abbrev pub are_as_servers_write : List Sid → Bool
-are_as_servers_write sids = list_all is_as_servers_write sids
+are_as_servers_write sids = list_all is_canonical sids

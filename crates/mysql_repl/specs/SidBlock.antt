@@ -1,4 +1,4 @@
--- The sids of a dump: a head, and so many sids in one of two layouts.
+-- The sids of a dump: a head, and a given number of sids in one of two layouts.
 use Rattle.std.specs.Prelude.{ℕ, ◌+◌, ◌*◌, ◌/◌, ◌%◌, ◌<◌, ◌^◌, List, [], ◌++◌, length, min, Option, Some, None, is_some, Bool, true, false, ◌&&◌, ◌==◌, nat_lt, if◌then◌else◌}
 use Rattle.std.specs.List.{flat_map, list_any}
 use Rattle.mysql_wire.specs.Form.{Form, ◌>>=◌, decode, within, beginning}
@@ -29,7 +29,7 @@ head_of strict head = if strict && nat_lt 1 (layout head) then None else Some he
 
 -- ---- how a block is read
 
--- the head, and so many sids
+-- the head, and a given number of sids
 unfoldable pub sids_form : (strict : Bool) → Form (List Sid)
 sids_form strict = do
   head ← decode (head_of strict) (number_of le_u64)

@@ -8,7 +8,7 @@ use Rattle.mysql_repl.specs.BinlogDumpGtid.{gtid_dump_head}
 use Rattle.mysql_repl.specs.SidBlock.{head_of, count_of, is_tagged}
 use Rattle.mysql_repl.specs.TagString.{tag_form}
 
--- so many values, each of so many bytes at least
+-- a given number of values, each of a given number of bytes at least
 abbrev pub space_for : (count least : ℕ) → Form ℕ
 space_for count least = looking (λ bytes. give (min count (length bytes / least)))
 

@@ -39,6 +39,13 @@ pub type ComBinlogDumpHeader = ConstU8<InvalidComBinlogDumpHeader, 0x12>;
 ///
 /// Numbers are little-endian. Fewer than 11 bytes are `UnexpectedEof`, another first byte is
 /// `InvalidData`. Reading takes no memory.
+///
+/// ```
+/// let request = ComBinlogDump::new(server_id)
+///     .with_flags(flags)
+///     .with_pos(FIRST);
+/// connection.command_packet(&request)
+/// ```
 #[derive(Debug, PartialEq, Eq, Hash, Drop)]
 pub struct ComBinlogDump<'a> {
     header: ComBinlogDumpHeader,
@@ -119,7 +126,7 @@ impl<'a> ComBinlogDump<'a> {
         self.server_id.0
     }
 
-    /// The log's name as text, with U+FFFD for what is not UTF-8. UTF-8 is borrowed.
+    /// The log's name as text, with U+FFFD for invalid UTF-8. Valid UTF-8 is borrowed.
     pub fn filename(&self, alloc: Global) -> Result<CowStr<'_>, AllocError>
         ensures text { GivesText (spec.filename self.now) result }
     {

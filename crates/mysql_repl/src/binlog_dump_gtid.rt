@@ -46,19 +46,25 @@ pub type ComBinlogDumpGtidHeader = ConstU8<InvalidComBinlogDumpGtidHeader, 0x1e>
 /// | 8 | `pos` |
 /// | 4 + n | the block of `sids`, after its length |
 ///
-/// Numbers are little-endian. The block is a head of eight bytes, and so many sids. The head's
-/// top byte is 1 where the sids are in the form with tags: the count then stands in the bits 8 to
-/// 55. With any other top byte the sids are in the form without tags, and the count stands in the
-/// bits 0 to 55. A sid is 16 bytes; with tags, a length of varying width and so many bytes of a tag;
-/// a count of eight bytes, and so many pairs of numbers of eight bytes. Bytes of the block after the
-/// last sid are ignored, unless the reader is [`parse_strict`](Self::parse_strict).
+/// Numbers are little-endian. The block is a head of eight bytes, and the sids. If the head's top byte is 1, the sids are in
+/// the form with tags, and their count is in the bits 8 to 55. With any other top byte they are in the form without tags, and
+/// the count is in the bits 0 to 55. A sid is 16 bytes; with tags, the tag after a length of variable width; a count of eight
+/// bytes, and that many pairs of numbers of eight bytes. Bytes of the block after the last sid are ignored, unless the reader
+/// is [`parse_strict`](Self::parse_strict).
 ///
-/// Missing bytes are `UnexpectedEof`. Another first byte, or the bytes of a tag that are no tag, are
-/// `InvalidData`. Reading takes memory for the sids as it comes to them, and answers `Memory` where
-/// that is refused; where the head counts no sid, it takes none.
+/// Missing bytes are `UnexpectedEof`. Another first byte, or an invalid tag, is `InvalidData`. Reading takes memory for the
+/// sids as it reaches them, and returns `Memory` if an allocation fails; without sids it takes none.
 ///
 /// The block is written with tags where some sid has one, and whole; its length is written as
 /// 2^32 - 1 where it is more. The first 2^32 - 1 bytes of the name are written.
+///
+/// ```
+/// let request = ComBinlogDumpGtid::new(server_id)
+///     .with_flags(flags)
+///     .with_pos(u64::from(FIRST))
+///     .with_gtid_set(connection.alloc, gtids)?;
+/// connection.command_packet(&request)
+/// ```
 #[derive(Debug, PartialEq, Eq, Hash)]
 pub struct ComBinlogDumpGtid<'a> {
     header: ComBinlogDumpGtidHeader,
@@ -139,7 +145,7 @@ impl<'a> ComBinlogDumpGtid<'a> {
         self.sid_block.as_slice()
     }
 
-    /// The log's name as text, with U+FFFD for what is not UTF-8. UTF-8 is borrowed.
+    /// The log's name as text, with U+FFFD for invalid UTF-8. Valid UTF-8 is borrowed.
     pub fn filename(&self, alloc: Global) -> Result<CowStr<'_>, AllocError>
         ensures text { GivesText (spec.filename self.now) result }
     {
@@ -162,7 +168,7 @@ impl<'a> ComBinlogDumpGtid<'a> {
         self
     }
 
-    /// The request with these flags, but for BINLOG_THROUGH_GTID, which is set exactly if there is a
+    /// The request with these flags, except for BINLOG_THROUGH_GTID, which is set exactly if there is a
     /// sid.
     pub fn with_flags(mut self, flags: BinlogDumpFlags) -> Self
         ensures value { result ≡ spec.with_flags flags.0 self.entry }
@@ -179,8 +185,8 @@ impl<'a> ComBinlogDumpGtid<'a> {
         self
     }
 
-    /// The request with a sid more, at the end, and with the flag BINLOG_THROUGH_GTID. Borrowed sids
-    /// are copied first. Where an allocation fails, the request is given up.
+    /// Appends a sid, and sets the flag BINLOG_THROUGH_GTID. Borrowed sids are copied first. If an allocation fails, the
+    /// request is dropped.
     pub fn with_sid(mut self, alloc: Global, sid: Sid<'a>) -> Result<Self, AllocError>
         ensures value { IfOk result (λ p. p ≡ spec.with_sid sid.entry self.entry) }
     {
@@ -203,10 +209,10 @@ impl<'a> ComBinlogDumpGtid<'a> {
     /// block whose head's top byte is neither 0 nor 1, before any sid is read; and bytes of the
     /// block after the last sid.
     ///
-    /// It is strict on the block's layout alone: any two numbers are an interval, and intervals may stand in any order,
-    /// overlap and touch. [`is_as_servers_write`](Self::is_as_servers_write) tells whether MySQL takes them.
+    /// It is strict only about the block's layout: any two numbers are an interval, and intervals may overlap, touch and come
+    /// in any order. [`is_canonical`](Self::is_canonical) says whether MySQL accepts them.
     ///
-    /// What it reads is what `parse` reads. After a refusal the buffer is as it was.
+    /// It returns what `parse` returns. After an error the buffer is unchanged.
     pub fn parse_strict(buf: &mut ParseBuf<'a>) -> Result<Self, Fault>
         ensures value { Answers (counts_any ((space_in_dump true).reads buf.old)) result buf.new ((spec.gtid_dump.form true).reads buf.old) }
         ensures spelled { IfOk result (λ p. (spec.gtid_dump.form true).Spells p buf.old buf.new) }

@@ -1,4 +1,4 @@
-//! The request for a binary log without the transactions of a GTID set, where it lies.
+//! Borrowed requests for a binary log without the transactions of a GTID set.
 #![tactic(auto, using(mysql_wire::proofs::Packets::packets), unfolding(crate::specs::BinlogDumpGtid::gtid_dump))]
 
 ghost use Rattle.std.specs.Prelude.{false, ◌≡◌, [], IfOk, IsOk, ⊤};
@@ -19,7 +19,18 @@ use std::marker::Model;
 /// A replica's request for a binary log without the transactions that it has, whose file's name and sids stay in the packet:
 /// a [`ComBinlogDumpGtid`] for as long as the packet lives, without memory.
 ///
-/// It is read of the same bytes with the same faults but for `Memory`, and in a clause it is that request.
+/// It is read of the same bytes with the same faults except for `Memory`, and in a clause it is that request.
+///
+/// ```
+/// let request: ComBinlogDumpGtidRef<'_> = ParseBuf::new(alloc, payload).parse(())?;
+/// let mut count: u64 = 0;
+/// for sid in request.sids() {
+///     for interval in sid.intervals() {
+///         count = count.saturating_add(interval.end().saturating_sub(interval.start()));
+///     }
+/// }
+/// Ok(count)
+/// ```
 #[derive(Drop)]
 pub struct ComBinlogDumpGtidRef<'a> {
     flags: BinlogDumpFlags,
@@ -39,7 +50,7 @@ impl<'a> Model for ComBinlogDumpGtidRef<'a> {
 }
 
 impl<'a> ComBinlogDumpGtidRef<'a> {
-    /// As [`ComBinlogDumpGtid::server_id`].
+    /// Like [`ComBinlogDumpGtid::server_id`].
     #[inline]
     pub fn server_id(&self) -> u32
         ensures value { result ≡ spec.server_id self.now }
@@ -47,7 +58,7 @@ impl<'a> ComBinlogDumpGtidRef<'a> {
         self.server_id
     }
 
-    /// As [`ComBinlogDumpGtid::flags`].
+    /// Like [`ComBinlogDumpGtid::flags`].
     #[inline]
     pub fn flags(&self) -> BinlogDumpFlags
         ensures value { result.0 ≡ spec.flag_bits self.now }
@@ -63,7 +74,7 @@ impl<'a> ComBinlogDumpGtidRef<'a> {
         self.filename
     }
 
-    /// As [`ComBinlogDumpGtid::pos`].
+    /// Like [`ComBinlogDumpGtid::pos`].
     #[inline]
     pub fn pos(&self) -> u64
         ensures value { result ≡ spec.pos self.now }
@@ -79,7 +90,7 @@ impl<'a> ComBinlogDumpGtidRef<'a> {
         self.sids.iter()
     }
 
-    /// The request in its other form, which borrows the name and the tags still. For no sid no memory is taken.
+    /// Converts to a [`ComBinlogDumpGtid`], which still borrows the name and the tags. Without sids it takes no memory.
     pub fn to_packet(&self, alloc: Global) -> Result<ComBinlogDumpGtid<'a>, AllocError>
         ensures value { IfOk result (λ packet. packet ≡ self.now) }
         ensures no_memory { spec.sids self.now ≡ [] → IsOk result }
@@ -140,7 +151,7 @@ impl Debug for ComBinlogDumpGtidRef<'_> {
     }
 }
 
-/// As a [`ComBinlogDumpGtid`], but for `Memory`: none is taken.
+/// Read like a [`ComBinlogDumpGtid`], but never `Memory`.
 impl<'de> MyDeserialize<'de> for ComBinlogDumpGtidRef<'de> {
     const SIZE: Option<usize> = None;
 

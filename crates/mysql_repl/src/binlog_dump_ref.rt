@@ -1,4 +1,4 @@
-//! The request for a binary log from a position, where it lies.
+//! Borrowed requests for a binary log from a position.
 #![tactic(auto, using(mysql_wire::proofs::Packets::packets), unfolding(crate::specs::BinlogDump::binlog_dump, mysql_wire::specs::Int::raw, mysql_wire::specs::ConstantValue::coded))]
 
 ghost use Rattle.std.specs.Prelude.{◌≡◌, ⊤};
@@ -18,6 +18,11 @@ use std::marker::Model;
 /// long as the packet lives.
 ///
 /// It is read of the same bytes with the same faults, and in a clause it is that request.
+///
+/// ```
+/// let request: ComBinlogDumpRef<'_> = ParseBuf::new(alloc, payload).parse(())?;
+/// Ok((request.filename(), request.pos()))
+/// ```
 #[derive(Drop)]
 pub struct ComBinlogDumpRef<'a> {
     pos: u32,
@@ -36,7 +41,7 @@ impl<'a> Model for ComBinlogDumpRef<'a> {
 }
 
 impl<'a> ComBinlogDumpRef<'a> {
-    /// As [`ComBinlogDump::pos`].
+    /// Like [`ComBinlogDump::pos`].
     #[inline]
     pub fn pos(&self) -> u32
         ensures value { result ≡ spec.pos self.now }
@@ -44,7 +49,7 @@ impl<'a> ComBinlogDumpRef<'a> {
         self.pos
     }
 
-    /// As [`ComBinlogDump::flags`].
+    /// Like [`ComBinlogDump::flags`].
     #[inline]
     pub fn flags(&self) -> BinlogDumpFlags
         ensures value { result ≡ spec.flags_of self.now }
@@ -52,7 +57,7 @@ impl<'a> ComBinlogDumpRef<'a> {
         self.flags
     }
 
-    /// As [`ComBinlogDump::server_id`].
+    /// Like [`ComBinlogDump::server_id`].
     #[inline]
     pub fn server_id(&self) -> u32
         ensures value { result ≡ spec.server_id self.now }
@@ -68,7 +73,7 @@ impl<'a> ComBinlogDumpRef<'a> {
         self.filename
     }
 
-    /// The request in its other form, which borrows the name still. It takes no memory.
+    /// Converts to a [`ComBinlogDump`], which still borrows the name. It takes no memory.
     #[inline]
     pub fn to_packet(&self) -> ComBinlogDump<'a>
         ensures value { result ≡ self.now }

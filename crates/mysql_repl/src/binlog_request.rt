@@ -13,6 +13,14 @@ use std::borrow::CowSlice;
 
 /// A request for a binary log, which [`as_cmd`](Self::as_cmd) makes a command of: a dump by position
 /// or a dump by GTID set.
+///
+/// ```
+/// let request = BinlogRequest::new(server_id).with_use_gtid(use_gtid);
+/// Ok(match request.as_cmd() {
+///     Either::Left(by_file) => by_file.serialize(out)?,
+///     Either::Right(by_gtids) => by_gtids.serialize(out)?,
+/// })
+/// ```
 #[derive(Debug, PartialEq, Eq, Hash)]
 pub struct BinlogRequest<'a> {
     server_id: u32,

@@ -31,13 +31,18 @@ pub type BinlogStreamEventHeader = ConstU8<InvalidBinlogStreamEventHeader, 0x00>
 
 /// An event of a binary log, as a server sends it: the byte `00`; where semi-synchronous replication is agreed on, the byte
 /// `ef` and a byte of flags, whose lowest bit asks for a [`SemiSyncAckPacket`](crate::SemiSyncAckPacket); and the event's
-/// bytes to the end of the packet.
+/// bytes to the end of the packet. `ef` is `kPacketMagicNum` of MySQL's `plugin/semisync/semisync.h`.
 ///
 /// Reading is passed whether it is agreed on: the replica sets `@rpl_semi_sync_slave` (`@rpl_semi_sync_replica`) to 1 before
 /// it asks for the dump, and the server has its side enabled.
 ///
 /// Missing bytes before the event are `UnexpectedEof`, another value for `00` or `ef` is `InvalidData`. Reading takes no
 /// memory.
+///
+/// ```
+/// let event = BinlogStreamEvent::new(CowSlice::Borrowed(event)).with_semi_sync(true);
+/// Ok(event.serialize(out)?)
+/// ```
 #[derive(Clone, Debug, PartialEq, Eq)]
 pub struct BinlogStreamEvent<'a> {
     header: BinlogStreamEventHeader,
@@ -69,7 +74,7 @@ impl<'a> BinlogStreamEvent<'a> {
         }
     }
 
-    /// The same for semi-synchronous replication, where it wants an acknowledgement or doesn't.
+    /// Adds the header of semi-synchronous replication, which asks for an acknowledgement or not.
     #[inline]
     pub fn with_semi_sync(mut self, wants_ack: bool) -> Self
         ensures value { result ≡ spec.event_of (Some (header_of wants_ack)) (spec.event_bytes self.entry) }
@@ -98,7 +103,7 @@ impl<'a> BinlogStreamEvent<'a> {
         }
     }
 
-    /// The same, on memory of its own. An event without bytes takes none.
+    /// Copies the event's bytes, so that it borrows nothing. An event without bytes needs no allocation.
     pub fn into_owned(self, alloc: Global) -> Result<BinlogStreamEvent<'static>, AllocError>
         ensures value { IfOk result (λ owned. owned ≡ self.entry) }
         ensures no_memory { spec.event_bytes self.entry ≡ [] → IsOk result }

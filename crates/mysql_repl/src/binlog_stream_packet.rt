@@ -7,7 +7,7 @@ use crate::binlog_stream_event::BinlogStreamEvent;
 use mysql_wire::{AnyWidth, EofBytes, FaultOf, MyDeserialize, ParseBuf, Parts, RawBytes, Sink};
 use std::borrow::CowSlice;
 
-/// A packet of the stream that a server answers a dump with ("Binlog Network Stream").
+/// A packet of the stream with which a server answers a dump ("Binlog Network Stream").
 ///
 /// | First byte | Packet |
 /// |---|---|
@@ -17,6 +17,14 @@ use std::borrow::CowSlice;
 ///
 /// An event that is cut before its own bytes, and an empty packet, are `UnexpectedEof`; a packet that begins with another
 /// byte is `InvalidData`. Reading takes no memory: the bytes stay in the payload.
+///
+/// ```
+/// let packet: BinlogStreamPacket<'_> = ParseBuf::new(alloc, payload).parse(semi_sync)?;
+/// if let BinlogStreamPacket::Event(event) = &packet {
+///     out.extend_from_slice(event.event())?;
+/// }
+/// Ok(())
+/// ```
 #[derive(Clone, Debug, PartialEq, Eq, Drop)]
 pub enum BinlogStreamPacket<'a> {
     /// An event of the log.

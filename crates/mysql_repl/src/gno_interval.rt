@@ -11,6 +11,10 @@ use mysql_wire::{
 use thiserror::Error;
 
 /// Why two numbers are no interval of transactions.
+///
+/// ```
+/// GnoInterval::check_and_new(first, last.saturating_add(1))
+/// ```
 #[derive(Clone, Copy, Debug, PartialEq, Eq, Hash, Error)]
 pub enum InvalidGno {
     /// The start is not below the end.
@@ -18,7 +22,7 @@ pub enum InvalidGno {
     Order {
         /// The number that was to be the first.
         start: u64,
-        /// The number that was to stand after the last.
+        /// The number after the last one.
         end: u64,
     },
     /// The start is 0, which numbers no transaction.
@@ -29,6 +33,10 @@ pub enum InvalidGno {
 /// The transactions from `start` on, before `end`: two numbers of eight bytes, little-endian.
 ///
 /// Fewer than 16 bytes are `UnexpectedEof`. Any two numbers are read and written.
+///
+/// ```
+/// GnoInterval::check_and_new(first, last.saturating_add(1))
+/// ```
 #[derive(Clone, Copy, Debug, PartialEq, Eq, Hash)]
 pub struct GnoInterval {
     start: u64,

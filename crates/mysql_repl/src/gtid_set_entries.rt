@@ -25,11 +25,11 @@ pub struct GtidSetSid<'a> {
     pub uuid: [u8; UUID_LEN],
     /// The tag of its transactions, if they have one.
     pub tag: Option<TagText<'a>>,
-    /// How many intervals follow, before the next sid.
+    /// The number of intervals that follow, before the next sid.
     pub intervals: u64,
 }
 
-/// What comes next in the text of a GTID set.
+/// An item of the text of a GTID set.
 #[derive(Clone, Debug, PartialEq, Eq, Drop)]
 pub enum GtidSetEntry<'a> {
     /// A sid, whose intervals follow.
@@ -38,14 +38,14 @@ pub enum GtidSetEntry<'a> {
     Interval(GnoInterval),
 }
 
-/// The interval that a word spells.
+/// Parses a word as an interval.
 fn interval_entry<'a>(word: &str) -> Result<GtidSetEntry<'a>, InvalidSid>
     ensures value { result ≡ spec.interval_entry (interval_in word.now) }
 {
     Ok(GtidSetEntry::Interval(server_interval(word)?))
 }
 
-/// The sid of the tag that a word spells, whose intervals follow it.
+/// Parses a word as a tag, and returns its sid; the intervals after it belong to this sid.
 fn tag_entry<'a>(
     uuid: [u8; UUID_LEN],
     word: &'a str,
@@ -68,7 +68,7 @@ fn tag_entry<'a>(
     }))
 }
 
-/// What is left of the text of a GTID set: words after a uuid, and the pieces after them.
+/// The rest of the text of a GTID set: words after a uuid, and the pieces after them.
 #[derive(Drop)]
 struct Left<'a> {
     uuid: [u8; UUID_LEN],
@@ -77,7 +77,7 @@ struct Left<'a> {
 }
 
 impl<'a> Left<'a> {
-    /// What the first word of a text gives, which is left after a uuid.
+    /// Returns the item of the first word after a uuid.
     fn next_word(&mut self, text: &'a str) -> Result<GtidSetEntry<'a>, InvalidSid>
         ensures value { spec.word_entries self.old.uuid (words colon text.now) ≡ result ∷ spec.word_entries self.new.uuid (left_words colon (option_map (λ t. t.now) self.new.words)) }
         ensures pieces { self.new.pieces ≡ self.old.pieces }
@@ -91,7 +91,7 @@ impl<'a> Left<'a> {
         }
     }
 
-    /// What a piece that is not blank gives first.
+    /// Returns the first item of a piece that isn't blank.
     #[tactic(auto, using(crate::proofs::GtidEntries::entries), unfolding(crate::specs::GtidSetEntries::piece_entries))]
     fn open(&mut self, piece: &'a str) -> Result<GtidSetEntry<'a>, InvalidSid>
         requires some { piece.now ≢ [] }
@@ -139,9 +139,16 @@ impl<'a> Left<'a> {
 /// The text of a GTID set, as MySQL shows one in `@@gtid_executed`, one sid and one interval after another. It takes no
 /// memory.
 ///
-/// Up to the first refusal these are the sids and intervals of [`sids_from_text`](crate::sids_from_text), in their order,
-/// and that refusal is the one of the text. After it comes what follows the word that is refused, or the piece that has no
-/// uuid. In a clause it is the list of what is left.
+/// Up to the first error these are the sids and intervals of [`sids_from_text`](crate::sids_from_text), in their order, and
+/// that error is the one of the text. After it, parsing continues after the faulty word, or after the piece without a uuid. In
+/// a clause it is the list of the remaining items.
+///
+/// ```
+/// let mut left = GtidSetEntries::new(text);
+/// while let Some(entry) = left.next() {
+///     entry?;
+/// }
+/// ```
 #[derive(Drop)]
 pub struct GtidSetEntries<'a> {
     left: Left<'a>,

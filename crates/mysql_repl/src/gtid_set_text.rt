@@ -14,7 +14,7 @@ use crate::tag::Tag;
 use std::alloc::Global;
 use std::borrow::CowSlice;
 
-/// Whether an interval comes next.
+/// Whether an interval follows.
 fn interval_follows(left: Option<&str>) -> bool
     ensures value { result ≡ spec.interval_follows (left_words colon (option_map (λ t. t.now) left.entry)) }
 {
@@ -24,7 +24,7 @@ fn interval_follows(left: Option<&str>) -> bool
     is_interval(first_word(text).word)
 }
 
-/// The tag that a word spells, in lower case.
+/// Parses a word as a tag, in lower case.
 #[tactic(auto, unfolding(crate::specs::GtidSetText::server_tag))]
 fn server_tag(alloc: Global, word: &str, left: Option<&str>) -> Result<Tag<'static>, InvalidSid>
     ensures value { Answered result (spec.server_tag word.now (left_words colon (option_map (λ t. t.now) left.entry))) }
@@ -55,7 +55,7 @@ fn with_kept(
     Ok(sids)
 }
 
-/// The sids that were read, and the one whose intervals are being read.
+/// The complete sids, and the one whose intervals are being read.
 #[derive(Drop)]
 struct Building {
     sids: Vec<Sid<'static>>,
@@ -63,7 +63,7 @@ struct Building {
 }
 
 impl Building {
-    /// The same with a word more: an interval of the sid, or the tag of the next one.
+    /// Adds a word: an interval of the sid, or the tag of the next one.
     #[tactic(auto, using(crate::proofs::GtidSetTexts::takes))]
     fn with_word(
         self,
@@ -89,7 +89,7 @@ impl Building {
     }
 }
 
-/// The sids with those that the words after a uuid spell.
+/// Appends the sids in the words after a uuid.
 #[tactic(auto, using(crate::proofs::GtidSetTexts::word_loops))]
 fn with_words(
     alloc: Global,
@@ -113,7 +113,7 @@ fn with_words(
     with_kept(building.sids, building.sid)
 }
 
-/// The sids with those that a piece between commas spells.
+/// Appends the sids in a piece between commas.
 #[tactic(auto, unfolding(crate::specs::GtidSetText::read_piece, crate::specs::GtidSetEarly::early_piece))]
 fn with_piece(
     alloc: Global,
@@ -136,19 +136,26 @@ fn with_piece(
     with_words(alloc, sids, uuid, text)
 }
 
-/// The sids that the text of a GTID set spells, as MySQL shows one in `@@gtid_executed`: pieces with commas between them,
-/// as `UUID:1-8:_x9:4-5:app:1-3:5-6, UUID:7`.
+/// Parses the text of a GTID set, as MySQL shows one in `@@gtid_executed`: pieces separated by commas, such as
+/// `UUID:1-8:_x9:4-5:app:1-3:5-6, UUID:7`.
 ///
 /// A piece is a uuid, in any form without a colon, and words, each after a colon. A word that begins with a digit is an
-/// interval: a number, or the first and the last number with a hyphen between them. Another word is a tag, in either
-/// case, and the intervals after it are those of the tag: each tag is a sid of its own, and so are the intervals before
-/// the first tag. A tag is read in lower case, and has at least one interval. The first number of an interval is at
-/// least 1 and at most the last, and the last is at most 2^63 - 2. White space of ASCII may stand around uuids, tags and
-/// numbers. A piece of white space alone spells no sid, so that an empty text is the empty set.
+/// interval: a number, or the first and the last number with a hyphen between them. Another word is a tag, in upper or lower
+/// case, and the intervals after it are those of the tag: each tag is a sid of its own, and so are the intervals before the
+/// first tag. A tag is converted to lower case, and has at least one interval. The first number of an interval is at least 1
+/// and at most the last, and the last is at most 2^63 - 2. ASCII white space is allowed around uuids, tags and numbers. A blank
+/// piece has no sid, so an empty text is the empty set.
 ///
-/// Sids and intervals come in the order of the text, as often as they stand there. Another text is refused by its first
-/// fault. No memory is asked for before the first uuid is read, and its first interval or a byte of its first tag: so a text of no
-/// sid, and one with a fault up to there, are never refused for memory.
+/// Sids and intervals are returned in the order of the text, including repeated ones. An invalid text returns its first error.
+/// No memory is taken before the first uuid is read, and its first interval or the first byte of its first tag, so an empty
+/// set, or an error up to there, never returns `Memory`.
+///
+/// ```
+/// let sids = sids_from_text(alloc, text)?;
+/// this_gtid_set_text_round_trips(&sids);
+/// let set = GtidSetText(&sids);
+/// Ok(format!(in alloc; "{set}")?)
+/// ```
 #[tactic(auto, using(crate::proofs::GtidSetTexts::piece_loops), unfolding(crate::specs::GtidSetText::read_sids, crate::specs::GtidSetEarly::early_answer))]
 pub fn sids_from_text(alloc: Global, text: &str) -> Result<Vec<Sid<'static>>, InvalidSid>
     ensures value { Answered (sids_read result) (spec.read_sids text.now) }
@@ -168,7 +175,7 @@ impl<'a> ComBinlogDumpGtid<'a> {
     /// The request with the sids of the text of a GTID set, as MySQL shows one in `@@gtid_executed`, in place of its own:
     /// those of [`sids_from_text`], in their order. The flag BINLOG_THROUGH_GTID is set exactly if there is a sid.
     ///
-    /// A text that is refused there is refused here. The request is given up then.
+    /// It fails for the same texts. The request is dropped then.
     #[tactic(auto, using(crate::proofs::GtidSetTexts::dumps))]
     pub fn with_gtid_set(self, alloc: Global, text: &str) -> Result<Self, InvalidSid>
         ensures value { Answered result (spec.with_read_sids (spec.read_sids text.now) self.entry) }

@@ -7,7 +7,7 @@ use crate::sid::Sid;
 use crate::sid_text::{ShownIntervals, ShownTag};
 use std::fmt;
 
-/// Whether a sid has a tag and the uuid of the one before.
+/// Whether a sid has a tag and the same uuid as the previous one.
 fn goes_on(before: &Sid<'_>, after: &Sid<'_>) -> bool
     ensures value { result ≡ spec.goes_on before.now after.now }
 {
@@ -53,13 +53,19 @@ impl fmt::Display for ShownNext<'_, '_> {
 
 /// The text of these sids, which [`sids_from_text`](crate::sids_from_text) reads: `UUID:1-8:_x9:4-5:app:1-3,\nUUID:7`.
 ///
-/// Each sid is written as its own text, after a comma and a newline but for the first. A sid with a tag that comes after
-/// one of the same uuid is written without its uuid. Every sid is written as it stands in the list, in its order.
+/// Each sid is written as its own text, after a comma and a newline except for the first. A sid with a tag that follows one of
+/// the same uuid is written without its uuid. The sids are written in the order of the list.
 ///
-/// MySQL writes the sids of a set in the order of their uuids, those of a uuid in the order of their tags, the one without
-/// a tag first, each with merged intervals ([`Sid::with_merged_intervals`]). A list in that order is written as MySQL
-/// writes it, and what [`sids_from_text`](crate::sids_from_text) reads of such a text is one. An empty list is an empty
-/// text.
+/// MySQL writes the sids of a set in the order of their uuids, those of a uuid in the order of their tags, the one without a
+/// tag first, each with merged intervals ([`Sid::normalized`]). A list in that order is written as MySQL writes it, and
+/// [`sids_from_text`](crate::sids_from_text) reads such a text as one. An empty list is an empty text.
+///
+/// ```
+/// let sids = sids_from_text(alloc, text)?;
+/// this_gtid_set_text_round_trips(&sids);
+/// let set = GtidSetText(&sids);
+/// Ok(format!(in alloc; "{set}")?)
+/// ```
 #[derive(Drop)]
 pub struct GtidSetText<'b, 'a>(pub &'b [Sid<'a>]);
 

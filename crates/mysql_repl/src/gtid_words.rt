@@ -48,7 +48,7 @@ fn server_numbers(first: Option<u64>, last: Option<u64>) -> Result<GnoInterval, 
     checked(first, last)
 }
 
-/// The interval that a word spells.
+/// Parses a word as an interval.
 #[tactic(auto, unfolding(crate::specs::GtidSetText::server_interval))]
 pub(crate) fn server_interval(word: &str) -> Result<GnoInterval, InvalidSid>
     ensures value { result ≡ spec.server_interval word.now }
@@ -63,8 +63,7 @@ pub(crate) fn server_interval(word: &str) -> Result<GnoInterval, InvalidSid>
     server_numbers(plain_number(trimmed(first)), plain_number(trimmed(last)))
 }
 
-/// A text up to its first separator, without white space at its ends, and what stands after that separator, if there is
-/// one.
+/// Splits a text at its first separator, and trims the part before it. The second part is `None` without a separator.
 #[derive(Drop)]
 pub(crate) struct Word<'a> {
     pub(crate) word: &'a str,
@@ -112,7 +111,7 @@ pub(crate) fn is_interval(word: &str) -> bool
     }
 }
 
-/// How many intervals a text begins with.
+/// Returns the number of intervals that a text begins with.
 fn intervals_before(text: &str) -> u64
     ensures value { result ≡ lead (spec.words colon text.now) }
 {
@@ -129,7 +128,7 @@ fn intervals_before(text: &str) -> u64
     count
 }
 
-/// How many intervals stand before the first tag.
+/// Returns the number of intervals before the first tag.
 pub(crate) fn leading_intervals(left: Option<&str>) -> u64
     ensures value { result ≡ lead (left_words colon (option_map (λ t. t.now) left.entry)) }
 {

@@ -1,4 +1,4 @@
-//! The intervals of a sid: a count of eight bytes, and so many intervals.
+//! The intervals of a sid: a count of eight bytes, and a given number of intervals.
 #![tactic(auto, using(mysql_wire::proofs::Packets::packets))]
 
 ghost use Rattle.std.specs.Prelude.{◌≡◌, ◌+◌, ◌/◌, ◌++◌, ◌≤◌, length, min, drop};
@@ -13,10 +13,10 @@ use crate::gno_interval::GnoInterval;
 use mysql_wire::{Buffer, FaultOf, IntRepr, LeU64, MySerialize, ParseBuf, RawInt, Seq};
 use std::cmp::min;
 
-/// How many bytes an interval takes.
+/// The length of an interval in bytes.
 const INTERVAL_LEN: usize = 16;
 
-/// Reads so many intervals. Capacity is taken for no more than the bytes can hold.
+/// Reads `count` intervals. It reserves memory for at most as many as the bytes can hold.
 #[inline(always)]
 fn read_counted<'s>(count: u64, buf: &mut ParseBuf<'_>) -> Result<Vec<GnoInterval>, FaultOf<'s>>
     ensures value { Answers (is_any (min count (length buf.old / 16))) (items_of result) buf.new ((counted count (interval.form tt)).reads buf.old) }
@@ -30,7 +30,7 @@ fn read_counted<'s>(count: u64, buf: &mut ParseBuf<'_>) -> Result<Vec<GnoInterva
     Ok(intervals)
 }
 
-/// Reads a count, and so many intervals. For no interval no memory is taken.
+/// Reads a count, and that many intervals. Without intervals it takes no memory.
 #[inline(always)]
 #[tactic(auto, using(mysql_wire::proofs::Packets::packets), unfolding(mysql_wire::specs::Seq::counted))]
 pub(crate) fn read_intervals<'s, 'de>(

@@ -1,4 +1,4 @@
-//! The intervals of a sid, where they lie.
+//! Borrowed intervals of a sid.
 #![tactic(auto, using(mysql_wire::proofs::Packets::packets))]
 
 ghost use Rattle.std.specs.Prelude.{false, [], ◌≡◌, length, option_map, refl, IfOk, IsOk, ⊤};
@@ -16,15 +16,26 @@ use std::fmt;
 use std::fmt::Debug;
 use std::marker::Model;
 
-/// The intervals of a sid, where they lie: the list of [`Sid::intervals`](crate::Sid::intervals) for as long as the packet
-/// lives, without memory.
+/// The intervals of a sid: the list of [`Sid::intervals`](crate::Sid::intervals), which borrows from the packet and takes no
+/// memory.
 ///
-/// It gives one interval after another. All of them were read before the first one is given, so none is refused. In a
-/// clause it is the list of the intervals that are left.
+/// An iterator over the intervals. All of them are read when it is created, so none of them fails later. In a clause it is the
+/// list of the remaining intervals.
+///
+/// ```
+/// let request: ComBinlogDumpGtidRef<'_> = ParseBuf::new(alloc, payload).parse(())?;
+/// let mut count: u64 = 0;
+/// for sid in request.sids() {
+///     for interval in sid.intervals() {
+///         count = count.saturating_add(interval.end().saturating_sub(interval.start()));
+///     }
+/// }
+/// Ok(count)
+/// ```
 #[derive(Drop)]
 pub struct IntervalsRef<'a> {
     count: u64,
-    /// How many bytes they take.
+    /// The length in bytes.
     len: usize,
     /// They, and what follows them.
     bytes: ParseBuf<'a>,
@@ -43,7 +54,7 @@ impl<'a> Model for IntervalsRef<'a> {
     ghost invariant = { λ p. AreThere (interval.form tt) p.count p.len p.bytes };
 }
 
-/// Reads past so many intervals.
+/// Reads past `count` intervals.
 fn skip_intervals<'s>(count: u64, buf: &mut ParseBuf<'_>) -> Result<(), FaultOf<'s>>
     ensures value { Answers false result buf.new (passed ((counted count (interval.form tt)).reads buf.old)) }
 {
@@ -53,7 +64,7 @@ fn skip_intervals<'s>(count: u64, buf: &mut ParseBuf<'_>) -> Result<(), FaultOf<
     Ok(())
 }
 
-/// Reads so many intervals.
+/// Reads `count` intervals.
 #[tactic(auto, using(crate::proofs::InPlace::places))]
 fn read_counted<'s, 'a>(count: u64, buf: &mut ParseBuf<'a>) -> Result<IntervalsRef<'a>, FaultOf<'s>>
     ensures value { Answers false result buf.new ((counted count (interval.form tt)).reads buf.old) }
@@ -84,7 +95,7 @@ fn first_and_others<'a>(intervals: &IntervalsRef<'a>) -> Option<(GnoInterval, In
 }
 
 impl<'a> IntervalsRef<'a> {
-    /// How many are left.
+    /// The number of remaining intervals.
     #[inline]
     #[tactic(auto, using(crate::proofs::InPlace::how_many))]
     pub fn left(&self) -> u64
@@ -102,7 +113,7 @@ impl<'a> IntervalsRef<'a> {
         bytes.eat(self.len)
     }
 
-    /// The same intervals once more.
+    /// Iterates over the intervals from the first one on.
     #[inline]
     pub fn iter(&self) -> IntervalsRef<'a>
         ensures value { result ≡ self.now }
@@ -114,7 +125,7 @@ impl<'a> IntervalsRef<'a> {
         }
     }
 
-    /// The intervals, on memory of their own. For no interval no memory is taken.
+    /// Copies the intervals. Without intervals it takes no memory.
     pub fn to_vec(&self, alloc: Global) -> Result<Vec<GnoInterval>, AllocError>
         ensures value { IfOk result (λ intervals. intervals.items ≡ self.now) }
         ensures no_memory { self.now ≡ [] → IsOk result }
@@ -155,7 +166,7 @@ impl Clone for IntervalsRef<'_> {
     }
 }
 
-/// The same intervals, one after another.
+/// Compares the intervals, in order.
 impl PartialEq for IntervalsRef<'_> {
     ghost use Rattle.std.specs.Cmp.Lexicographic.{lists_per, pointwise};
     ghost use Rattle.mysql_repl.specs.contracts.gno_interval.GnoIntervalPartialEq.TheImpl.Laws.{laws-law};
@@ -205,7 +216,7 @@ impl<'a> Iterator for IntervalsRef<'a> {
     }
 }
 
-/// A count of eight bytes, and so many intervals. Missing bytes are `UnexpectedEof`.
+/// A count of eight bytes, and a given number of intervals. Missing bytes are `UnexpectedEof`.
 impl<'de> MyDeserialize<'de> for IntervalsRef<'de> {
     const SIZE: Option<usize> = None;
 

@@ -1,7 +1,7 @@
 //! Laws over the grammars and the defined bytes of this crate's packets, and over texts.
 //!
-//! Each law is a function with nothing in it, whose contract holds for all values: but those on sizes answer them, those
-//! that begin with `this` speak of the value at hand, and `request_written` makes two calls.
+//! Each law is an empty function, whose contract holds for all values. Exceptions: those about sizes return them, those that
+//! begin with `this` are about a given value, and `request_written` makes two calls.
 #![tactic(auto, using(mysql_wire::proofs::Packets::packets, crate::proofs::Fits::plain_fits, crate::proofs::SidFits::sid_fits))]
 
 ghost use Rattle.std.specs.Prelude.{◌≡◌, ◌++◌, ℕ, List, None, Some, Ok, OnErr, OnOk, IsTrue, IsUtf8, ◌↔◌, true, false, Bool, length, map};
@@ -26,7 +26,7 @@ ghost use Rattle.mysql_repl.specs.SemiSyncAck.{semi_sync_ack, SemiSyncAckFits};
 ghost use Rattle.mysql_repl.specs.Sid.{sid, tagged_sid, intervals, IsSid, AreSids};
 ghost use Rattle.mysql_repl.specs.MergedIntervals.{any_has, are_apart, NumbersFit};
 ghost use Rattle.mysql_repl.specs.ProperSid.{ProperSid};
-ghost use Rattle.mysql_repl.specs.ServerSids.{is_as_servers_write};
+ghost use Rattle.mysql_repl.specs.ServerSids.{is_canonical};
 ghost use Rattle.mysql_repl.specs.GtidSetEntries.{alone, counts, sids_of, text_entries};
 ghost use Rattle.mysql_repl.specs.GtidSetText.{read_sids};
 ghost use Rattle.mysql_repl.specs.GtidSetWritten.{set_text, SidsInSet};
@@ -51,52 +51,51 @@ pub use values::{
     this_sid_text_round_trips, this_table_dump_round_trips,
 };
 
-/// What is written of a registration is read again, whatever follows.
+/// A registration is read back, whatever bytes follow.
 pub fn register_slave_round_trips()
     ensures spelled { (p : ComRegisterSlave) (rest : List ℕ) → RegisterSlaveFits p → (register_slave.form tt).Spells p (register_slave.bytes p ++ rest) rest }
 {}
 
-/// What is written of a request for a table is read again, whatever follows.
+/// A request for a table is read back, whatever bytes follow.
 pub fn table_dump_round_trips()
     ensures spelled { (p : ComTableDump) (rest : List ℕ) → TableDumpFits p → (table_dump.form tt).Spells p (table_dump.bytes p ++ rest) rest }
 {}
 
-/// What is written of a dump by position is read again, where nothing follows.
+/// A dump by position is read back if nothing follows.
 pub fn binlog_dump_round_trips()
     ensures spelled { (p : ComBinlogDump) (rest : List ℕ) → BinlogDumpFits p rest → (binlog_dump.form tt).Spells p (binlog_dump.bytes p ++ rest) rest }
 {}
 
-/// What is written of an acknowledgement is read again, where nothing follows.
+/// An acknowledgement is read back if nothing follows.
 pub fn semi_sync_ack_round_trips()
     ensures spelled { (p : SemiSyncAckPacket) (rest : List ℕ) → SemiSyncAckFits p rest → (semi_sync_ack.form tt).Spells p (semi_sync_ack.bytes p ++ rest) rest }
 {}
 
-/// What is written of a packet of a stream is read again, where nothing follows: with the header of semi-synchronous replication where
-/// that is agreed on, and without it where it is not.
+/// A packet of a stream is read back if nothing follows: with the header of semi-synchronous replication where that is agreed
+/// on, and without it where it is not.
 #[tactic(auto, using(crate::proofs::StreamFits::streams))]
 pub fn binlog_stream_packet_round_trips()
     ensures spelled { (agreed : Bool) (p : BinlogStreamPacket) (rest : List ℕ) → StreamPacketFits agreed p rest → (stream_packet.form agreed).Spells p (stream_packet.bytes p ++ rest) rest }
 {}
 
-/// What is written of a sid without a tag is read again, whatever follows; and what is written of any sid in the form
-/// with tags.
+/// A sid without a tag is read back, whatever bytes follow; and what is written of any sid in the form with tags.
 pub fn sid_round_trips()
     ensures untagged { (s : Sid) (rest : List ℕ) → IsSid s → s.tag ≡ None → (sid.form tt).Spells s (sid.bytes s ++ rest) rest }
     ensures tagged { (s : Sid) (rest : List ℕ) → IsSid s → (tagged_sid.form tt).Spells s (tagged_sid.bytes s ++ rest) rest }
 {}
 
-/// What is written of a dump by GTID set is read again, whatever follows, by either reader.
+/// A dump by GTID set is read back, whatever bytes follow, by either reader.
 pub fn binlog_dump_gtid_round_trips()
     ensures lenient { (p : ComBinlogDumpGtid) (rest : List ℕ) → GtidDumpFits p → (gtid_dump.form false).Spells p (gtid_dump.bytes p ++ rest) rest }
     ensures strict { (p : ComBinlogDumpGtid) (rest : List ℕ) → GtidDumpFits p → (gtid_dump.form true).Spells p (gtid_dump.bytes p ++ rest) rest }
 {}
 
-/// What the strict reader of dumps by GTID set accepts, the other reads as the same request with the same rest.
+/// A dump by GTID set that the strict reader accepts is read by the other one as the same request with the same rest.
 pub fn strict_is_lenient()
     ensures spelled { (p : ComBinlogDumpGtid) (bytes rest : List ℕ) → (gtid_dump.form true).Spells p bytes rest → (gtid_dump.form false).Spells p bytes rest }
 {}
 
-/// What stays in its packet is read of the same bytes as what can leave it, and is that value.
+/// A borrowed form is read from the same bytes as the owned one, and has the same value.
 pub fn borrowed_requests_read_requests()
     ensures registration { (bytes : List ℕ) → (⟦<crate::register_slave_ref::ComRegisterSlaveRef<'static> as MyDeserialize<'static>>⟧.form tt).reads bytes ≡ (register_slave.form tt).reads bytes }
     ensures dump { (bytes : List ℕ) → (⟦<crate::binlog_dump_ref::ComBinlogDumpRef<'static> as MyDeserialize<'static>>⟧.form tt).reads bytes ≡ (binlog_dump.form tt).reads bytes }
@@ -105,8 +104,8 @@ pub fn borrowed_requests_read_requests()
     ensures intervals { (bytes : List ℕ) → (⟦<crate::intervals_ref::IntervalsRef<'static> as MyDeserialize<'static>>⟧.form tt).reads bytes ≡ (seq (number_of le_u64) (interval.form tt)).reads bytes }
 {}
 
-/// A dump that is made or changed has the flag BINLOG_THROUGH_GTID exactly if it has a sid. Each other flag is as it was
-/// handed in, or as it stood.
+/// A dump that was created or changed has the flag BINLOG_THROUGH_GTID exactly if it has a sid. The other flags are those that
+/// were passed, or unchanged.
 #[tactic(auto, using(crate::proofs::ThroughGtid::through_gtids))]
 pub fn through_gtid_is_set_for_sids()
     ensures flags { (bits : ℕ) (p : ComBinlogDumpGtid) → TellsSids (with_flags bits p) × KeepsOthers bits (with_flags bits p) }
@@ -114,7 +113,7 @@ pub fn through_gtid_is_set_for_sids()
     ensures request { (r : BinlogRequest) → TellsSids (request_spec.gtid_dump r) × KeepsOthers (request_spec.flags r).0 (request_spec.gtid_dump r) }
 {}
 
-/// A text spells one sid at the most, and what it spells is what it is read as. So a text that spells no sid is refused.
+/// A text has at most one sid, and is parsed as that sid. So a text without a sid is an error.
 #[tactic(auto, using(crate::proofs::SidTextRead::texts_spelled))]
 pub fn sid_text_is_spelled()
     ensures one { (text : List ℕ) (s t : Sid) → SpellsSid text s → SpellsSid text t → s ≡ t }
@@ -122,8 +121,7 @@ pub fn sid_text_is_spelled()
     ensures spelled { (text : List ℕ) (s : Sid) → IsUtf8 text → read_sid text ≡ Ok s → SpellsSid text s }
 {}
 
-/// The text that is written of a sid spells that sid, and is read as it, where it has at least one interval, and each is
-/// proper.
+/// The written text of a sid is parsed as that sid, if it has at least one interval, and each is valid.
 #[tactic(auto, using(crate::proofs::SidTextAgain::sid_texts_again))]
 pub fn sid_text_round_trips()
     ensures spelled { (s : Sid) → ProperSid s → SpellsSid (sid_text s) s }
@@ -136,11 +134,11 @@ pub fn read_sid_text_round_trips()
     ensures read { (text : List ℕ) (s : Sid) → IsUtf8 text → read_sid text ≡ Ok s → read_sid (sid_text s) ≡ Ok s }
 {}
 
-/// Intervals that are in order and apart are as servers write them, where their numbers are from 1 to 2^63 - 2; and so are the numbers
-/// of merged intervals, where those of the given ones are.
+/// Intervals in order that don't touch are canonical if their numbers are from 1 to 2^63 - 2; the numbers of merged intervals
+/// are if those of the given ones are.
 pub fn merged_intervals_are_as_servers_write()
     ensures fit { (merged given : List GnoInterval) → are_apart merged ≡ true → NumbersFit given → ((n : ℕ) → any_has n merged ≡ any_has n given) → NumbersFit merged }
-    ensures servers { (s : Sid) → are_apart (intervals s) ≡ true → NumbersFit (intervals s) → is_as_servers_write s ≡ true }
+    ensures servers { (s : Sid) → are_apart (intervals s) ≡ true → NumbersFit (intervals s) → is_canonical s ≡ true }
 {}
 
 /// The text that is written of sids is read as these sids, where each has at least one interval, and each interval is
@@ -155,8 +153,8 @@ pub fn read_gtid_set_text_round_trips()
     ensures read { (text : List ℕ) (sids : List Sid) → AreSids sids → read_sids text ≡ Ok sids → read_sids (set_text sids) ≡ Ok sids }
 {}
 
-/// The text of a GTID set is read as the sids that it gives one after another, each with the intervals after it, or refused for
-/// the first refusal among them; and each sid says how many intervals follow.
+/// The text of a GTID set is parsed as the sids of its entries, each with the intervals after it, or returns the first error
+/// among them; and each sid gives the number of intervals that follow.
 #[tactic(auto, using(crate::proofs::GtidEntriesRead::entries_read))]
 pub fn gtid_set_entries_are_read()
     ensures read { (text : List ℕ) → sids_of (text_entries text) ≡ alone (read_sids text) }
@@ -170,8 +168,8 @@ pub fn tag_has_no_fault()
     ensures tag { (text : List ℕ) → IsUtf8 text → tag_fault text ≡ None → IsTag text }
 {}
 
-/// What is written of the command that a request makes: the bytes of either command, after what stood there. A refused
-/// growth leaves the buffer as it was.
+/// The command of a request is written as the bytes of either command, after the bytes that the buffer had. If an allocation
+/// fails, the buffer is unchanged.
 ///
 /// This law makes the two calls.
 #[tactic(auto, using(crate::proofs::RequestBytes::commands_written))]
@@ -203,7 +201,7 @@ pub fn equal_requests_are_the_same()
     ensures ack { (x y : SemiSyncAckPacket) → IsTrue (⟦<crate::semi_sync_ack::SemiSyncAckPacket<'static> as PartialEq>⟧.eq x y) ↔ (x ≡ y) }
 {}
 
-/// So are packets of a stream.
+/// Packets of a replication stream are equal exactly if they are the same.
 #[tactic(auto, using(crate::proofs::EqualRequests::equal_requests))]
 pub fn equal_stream_packets_are_the_same()
     ensures packet { (x y : BinlogStreamPacket) → IsTrue (⟦<crate::binlog_stream_packet::BinlogStreamPacket<'static> as PartialEq>⟧.eq x y) ↔ (x ≡ y) }

@@ -18,7 +18,7 @@ fn has_any(interval: &GnoInterval) -> bool
     interval.start() < interval.end()
 }
 
-/// Whether each interval has a number, and begins after this number, or after the end of the one before.
+/// Whether each interval is nonempty, and begins after this number, or after the end of the previous one.
 fn are_apart_after(first: u64, intervals: &[GnoInterval]) -> bool
     ensures value { result ≡ spec.are_apart_after first intervals.now }
 {
@@ -32,7 +32,7 @@ fn are_apart_after(first: u64, intervals: &[GnoInterval]) -> bool
     true
 }
 
-/// Whether each interval has a number, and begins after the end of the one before.
+/// Whether each interval is nonempty, and begins after the end of the previous one.
 fn are_apart(intervals: &[GnoInterval]) -> bool
     ensures value { result ≡ spec.are_apart intervals.now }
 {
@@ -64,7 +64,7 @@ fn sort(intervals: &mut Vec<GnoInterval>)
     intervals.sort_unstable_by_key(|interval| interval.start());
 }
 
-/// Intervals in order, of which those that touch are one.
+/// Merges intervals that are in order.
 fn merged(alloc: Global, sorted: &[GnoInterval]) -> Result<Vec<GnoInterval>, AllocError>
     ensures value { IfOk result (λ merged. merged.items ≡ spec.merged sorted.now) }
     ensures no_memory { sorted.now ≡ [] → IsOk result }
@@ -86,7 +86,7 @@ fn merged(alloc: Global, sorted: &[GnoInterval]) -> Result<Vec<GnoInterval>, All
     Ok(merged)
 }
 
-/// The same numbers in intervals that are in order and apart.
+/// The numbers of all intervals, as intervals in order and apart.
 fn put_in_order(alloc: Global, intervals: &[GnoInterval]) -> Result<Vec<GnoInterval>, AllocError>
     ensures in_order { IfOk result (λ merged. spec.are_apart merged.items ≡ true) }
     ensures same { IfOk result (λ merged. (n : ℕ) → spec.any_has n merged.items ≡ spec.any_has n intervals.now) }
@@ -98,14 +98,14 @@ fn put_in_order(alloc: Global, intervals: &[GnoInterval]) -> Result<Vec<GnoInter
 }
 
 impl<'a> Sid<'a> {
-    /// The same transactions, in intervals that are in order, each of one number at least, and apart: none touch, and
-    /// none overlap. So servers write them: [`is_as_servers_write`](Sid::is_as_servers_write) holds, where the numbers are
+    /// Returns the sid with its transactions in intervals that are in order, not empty, and apart: none touch, and
+    /// none overlap. So servers write them: [`is_canonical`](Sid::is_canonical) holds, where the numbers are
     /// from 1 to 2^63 - 2.
     ///
-    /// Any intervals may be handed in: an empty one, whose start is not below its end, is left out. Intervals that are so
-    /// already stay as they are, and no memory is taken; nor is it where none has a number. Where memory runs out, the
-    /// transactions are given up.
-    pub fn with_merged_intervals(self, alloc: Global) -> Result<Self, AllocError>
+    /// Any intervals are accepted: an empty one, whose start is not below its end, is dropped. Intervals that are already
+    /// normalized are returned unchanged, without memory; if all are empty, no memory is taken either. If the allocation fails,
+    /// the sid is dropped.
+    pub fn normalized(self, alloc: Global) -> Result<Self, AllocError>
         ensures uuid { IfOk result (λ s. uuid s ≡ uuid self.entry) }
         ensures tag { IfOk result (λ s. tag s ≡ tag self.entry) }
         ensures in_order { IfOk result (λ s. spec.are_apart (intervals s) ≡ true) }

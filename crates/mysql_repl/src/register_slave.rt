@@ -43,6 +43,11 @@ pub type ComRegisterSlaveHeader = ConstU8<InvalidComRegisterSlaveHeader, 0x15>;
 ///
 /// Numbers are little-endian. The first 255 bytes of a string are written. Missing bytes are
 /// `UnexpectedEof`, another first byte is `InvalidData`. Reading takes no memory.
+///
+/// ```
+/// let request = ComRegisterSlave::new(server_id).with_port(3306);
+/// connection.command_packet(&request)?;
+/// ```
 #[derive(Debug, PartialEq, Eq, Hash)]
 pub struct ComRegisterSlave<'a> {
     header: ComRegisterSlaveHeader,
@@ -72,7 +77,7 @@ impl Drop for ComRegisterSlave<'_> {
 }
 
 impl<'a> ComRegisterSlave<'a> {
-    /// The registration of the replica with this number. All else is empty or 0.
+    /// Creates the registration of the replica with this number. The other fields are empty or 0.
     pub fn new(server_id: u32) -> Self
         ensures value { result ≡ spec.registration server_id }
     {
@@ -152,7 +157,7 @@ impl<'a> ComRegisterSlave<'a> {
         self.hostname.as_bytes()
     }
 
-    /// The replica's name or address as text, with U+FFFD for what is not UTF-8. UTF-8 is borrowed.
+    /// The replica's name or address as text, with U+FFFD for invalid UTF-8. Valid UTF-8 is borrowed.
     pub fn hostname(&self, alloc: Global) -> Result<CowStr<'_>, AllocError>
         ensures text { GivesText (spec.hostname self.now) result }
     {
@@ -167,7 +172,7 @@ impl<'a> ComRegisterSlave<'a> {
         self.user.as_bytes()
     }
 
-    /// The account's name as text, with U+FFFD for what is not UTF-8. UTF-8 is borrowed.
+    /// The account's name as text, with U+FFFD for invalid UTF-8. Valid UTF-8 is borrowed.
     pub fn user(&self, alloc: Global) -> Result<CowStr<'_>, AllocError>
         ensures text { GivesText (spec.user self.now) result }
     {
@@ -182,7 +187,7 @@ impl<'a> ComRegisterSlave<'a> {
         self.password.as_bytes()
     }
 
-    /// The password as text, with U+FFFD for what is not UTF-8. UTF-8 is borrowed.
+    /// The password as text, with U+FFFD for invalid UTF-8. Valid UTF-8 is borrowed.
     pub fn password(&self, alloc: Global) -> Result<CowStr<'_>, AllocError>
         ensures text { GivesText (spec.password self.now) result }
     {

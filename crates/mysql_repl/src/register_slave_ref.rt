@@ -1,4 +1,4 @@
-//! The registration of a replica, where it lies.
+//! Borrowed registrations of a replica.
 #![tactic(auto, using(mysql_wire::proofs::Packets::packets), unfolding(crate::specs::RegisterSlave::register_slave))]
 
 ghost use Rattle.std.specs.Prelude.{false, ◌≡◌, OnErr, ⊤};
@@ -18,6 +18,11 @@ use std::marker::Model;
 /// The registration of a replica, whose texts stay in the packet: a [`ComRegisterSlave`] for as long as the packet lives.
 ///
 /// It is read of the same bytes with the same faults, and in a clause it is that registration.
+///
+/// ```
+/// let request: ComRegisterSlaveRef<'_> = ParseBuf::new(alloc, payload).parse(())?;
+/// Ok(request.server_id())
+/// ```
 #[derive(Drop)]
 pub struct ComRegisterSlaveRef<'a> {
     server_id: u32,
@@ -48,7 +53,7 @@ impl<'a> Model for ComRegisterSlaveRef<'a> {
 }
 
 impl<'a> ComRegisterSlaveRef<'a> {
-    /// As [`ComRegisterSlave::server_id`].
+    /// Like [`ComRegisterSlave::server_id`].
     #[inline]
     pub fn server_id(&self) -> u32
         ensures value { result ≡ spec.server_id self.now }
@@ -80,7 +85,7 @@ impl<'a> ComRegisterSlaveRef<'a> {
         self.password
     }
 
-    /// As [`ComRegisterSlave::port`].
+    /// Like [`ComRegisterSlave::port`].
     #[inline]
     pub fn port(&self) -> u16
         ensures value { result ≡ spec.port self.now }
@@ -88,7 +93,7 @@ impl<'a> ComRegisterSlaveRef<'a> {
         self.port
     }
 
-    /// As [`ComRegisterSlave::replication_rank`].
+    /// Like [`ComRegisterSlave::replication_rank`].
     #[inline]
     pub fn replication_rank(&self) -> u32
         ensures value { result ≡ spec.replication_rank self.now }
@@ -96,7 +101,7 @@ impl<'a> ComRegisterSlaveRef<'a> {
         self.replication_rank
     }
 
-    /// As [`ComRegisterSlave::master_id`].
+    /// Like [`ComRegisterSlave::master_id`].
     #[inline]
     pub fn master_id(&self) -> u32
         ensures value { result ≡ spec.master_id self.now }
@@ -104,7 +109,7 @@ impl<'a> ComRegisterSlaveRef<'a> {
         self.master_id
     }
 
-    /// The registration in its other form, which borrows the texts still. It takes no memory.
+    /// Converts to a [`ComRegisterSlave`], which still borrows the texts. It takes no memory.
     #[inline]
     pub fn to_packet(&self) -> ComRegisterSlave<'a>
         ensures value { result ≡ self.now }

@@ -32,6 +32,11 @@ pub type SemiSyncAckPacketPacketHeader = ConstU8<InvalidSemiSyncAckPacketPacketH
 ///
 /// Fewer than 9 bytes are `UnexpectedEof`, another first byte is `InvalidData`. Reading takes no
 /// memory.
+///
+/// ```
+/// let ack = SemiSyncAckPacket::new(position, CowSlice::Borrowed(file));
+/// Ok(ack.serialize(out)?)
+/// ```
 #[derive(PartialEq, Drop)]
 pub struct SemiSyncAckPacket<'a> {
     header: SemiSyncAckPacketPacketHeader,
@@ -83,7 +88,7 @@ impl<'a> SemiSyncAckPacket<'a> {
         self.position.0
     }
 
-    /// The log's name as text, with U+FFFD for what is not UTF-8. UTF-8 is borrowed.
+    /// The log's name as text, with U+FFFD for invalid UTF-8. Valid UTF-8 is borrowed.
     pub fn filename(&self, alloc: Global) -> Result<CowStr<'_>, AllocError>
         ensures text { GivesText (spec.filename self.now) result }
     {

@@ -1,4 +1,4 @@
-//! What semi-synchronous replication puts in front of an event.
+//! The header that semi-synchronous replication puts before an event.
 #![tactic(auto, using(mysql_wire::proofs::Packets::packets), unfolding(crate::specs::SemiSyncHeader::semi_sync_header))]
 
 ghost use Rattle.std.specs.Prelude.{◌≡◌, ◌<◌, ◌^◌};

@@ -37,21 +37,21 @@ impl Sid<'_> {
     /// 2^63 - 1.
     ///
     /// MySQL refuses a dump by GTID set whose sids have others (error 1773). No interval is in order too.
-    pub fn is_as_servers_write(&self) -> bool
-        ensures value { result ≡ spec.is_as_servers_write self.now }
+    pub fn is_canonical(&self) -> bool
+        ensures value { result ≡ spec.is_canonical self.now }
     {
         are_in_order(self.intervals())
     }
 }
 
 impl ComBinlogDumpGtid<'_> {
-    /// Whether the intervals of each sid are as servers write them: see [`Sid::is_as_servers_write`].
+    /// Whether the intervals of each sid are as servers write them: see [`Sid::is_canonical`].
     ///
-    /// Neither reader looks at this: [`parse_strict`](Self::parse_strict) refuses blocks of another layout and bytes
-    /// after the last sid, and takes intervals of any two numbers in any order.
-    pub fn is_as_servers_write(&self) -> bool
+    /// The readers don't check this: [`parse_strict`](Self::parse_strict) rejects blocks of another layout and bytes after the
+    /// last sid, and accepts intervals of any two numbers in any order.
+    pub fn is_canonical(&self) -> bool
         ensures value { result ≡ spec.are_as_servers_write (sids self.now) }
     {
-        self.sids().iter().all(|sid| sid.is_as_servers_write())
+        self.sids().iter().all(|sid| sid.is_canonical())
     }
 }

@@ -19,15 +19,21 @@ use mysql_wire::{
 use std::alloc::{AllocError, Global};
 use std::borrow::CowSlice;
 
-/// How many bytes a server's identifier has.
+/// The length of a server's identifier in bytes.
 pub const UUID_LEN: usize = 16;
 
 /// The transactions of one server, or those of them that have one tag: a part of a GTID set.
 ///
 /// Its own reader and writer are the form without tags, which drops the tag: the identifier's 16
-/// bytes, a count of eight bytes, and so many intervals of 16 bytes each. Missing bytes are
+/// bytes, a count of eight bytes, and a given number of intervals of 16 bytes each. Missing bytes are
 /// `UnexpectedEof`. Reading takes memory for the intervals alone. The packet
 /// [`ComBinlogDumpGtid`](crate::ComBinlogDumpGtid) has the form with tags.
+///
+/// ```
+/// let merged = sid.normalized(alloc)?;
+/// merged_intervals_are_as_servers_write();
+/// Ok(merged)
+/// ```
 #[derive(Debug, PartialEq, Eq, Hash)]
 pub struct Sid<'a> {
     uuid: [u8; UUID_LEN],
@@ -90,8 +96,7 @@ impl<'a> Sid<'a> {
         self.intervals.as_slice()
     }
 
-    /// The same with an interval more, at the end. Borrowed intervals are copied first. Where a
-    /// allocation fails, the transactions are given up.
+    /// Appends an interval. Borrowed intervals are copied first. If an allocation fails, the sid is dropped.
     pub fn with_interval(mut self, alloc: Global, interval: GnoInterval) -> Result<Self, AllocError>
         ensures value { IfOk result (λ s. s ≡ spec.with_interval interval self.entry) }
     {
@@ -99,7 +104,7 @@ impl<'a> Sid<'a> {
         Ok(self)
     }
 
-    /// The same with these intervals, in place of its own.
+    /// Replaces the intervals.
     pub fn with_intervals(mut self, intervals: Vec<GnoInterval>) -> Self
         ensures value { result ≡ spec.with_intervals intervals.items self.entry }
     {
@@ -107,7 +112,7 @@ impl<'a> Sid<'a> {
         self
     }
 
-    /// The same with this tag.
+    /// Sets the tag.
     ///
     /// A packet with a tag anywhere is written in the form with tags throughout.
     pub fn with_tag(mut self, tag: Tag<'a>) -> Self

@@ -23,7 +23,7 @@ pub(crate) fn layout(head: u64) -> u64
     head >> 56
 }
 
-/// How many sids the head tells.
+/// Returns the number of sids from the head.
 pub(crate) fn count_of(head: u64) -> u64
     ensures value { result ≡ spec.count_of head }
 {
@@ -34,7 +34,7 @@ pub(crate) fn count_of(head: u64) -> u64
     }
 }
 
-/// How many bytes a sid takes at least: its identifier, the length of its tag where it has one, and its count.
+/// The minimum length of a sid in bytes: its identifier, the length of its tag if it has one, and its count.
 fn least_len(tagged: bool) -> usize
     ensures value { result ≡ least_len tagged }
     ensures some { 0 < result }
@@ -42,7 +42,7 @@ fn least_len(tagged: bool) -> usize
     if tagged { 25 } else { 24 }
 }
 
-/// Reads so many sids, in the form with tags or in the other. Capacity is taken for no more than the bytes can hold.
+/// Reads `count` sids, in the form with or without tags. It reserves memory for at most as many as the bytes can hold.
 #[inline(always)]
 fn read_counted<'s, 'de>(
     tagged: bool,
@@ -60,7 +60,7 @@ fn read_counted<'s, 'de>(
     Ok(sids)
 }
 
-/// Reads so many sids in the form with tags. It is a call, so that it costs the other form nothing.
+/// Reads `count` sids in the form with tags. It isn't inlined, so that it costs the other form nothing.
 #[inline(never)]
 fn read_tagged<'s, 'de>(count: u64, block: &mut ParseBuf<'de>) -> Result<Vec<Sid<'de>>, FaultOf<'s>>
     ensures value { Answers (is_any (min count (length block.old / least_len true))) (items_of result) block.new ((counted count ((sid_as true).form tt)).reads block.old) }
@@ -68,7 +68,7 @@ fn read_tagged<'s, 'de>(count: u64, block: &mut ParseBuf<'de>) -> Result<Vec<Sid
     read_counted(true, count, block)
 }
 
-/// Reads the head, and so many sids. A strict reader knows the layouts 0 and 1 alone.
+/// Reads the head, and a given number of sids. A strict reader knows the layouts 0 and 1 alone.
 #[tactic(auto, using(mysql_wire::proofs::Packets::packets), unfolding(crate::specs::SidBlock::sids_form))]
 fn read_sids<'s, 'de>(strict: bool, block: &mut ParseBuf<'de>) -> Result<Vec<Sid<'de>>, FaultOf<'s>>
     ensures value { Answers (counts_any ((space_in_sids strict).reads block.old)) (items_of result) block.new ((spec.sids_form strict).reads block.old) }
@@ -86,7 +86,7 @@ fn read_sids<'s, 'de>(strict: bool, block: &mut ParseBuf<'de>) -> Result<Vec<Sid
     }
 }
 
-/// Reads a block after its length, as a strict reader: no bytes stand after the last sid.
+/// Reads a block after its length, strictly: no bytes may follow the last sid.
 #[tactic(auto, using(mysql_wire::proofs::Packets::packets), unfolding(crate::specs::SidBlock::block_form))]
 fn read_whole_block<'s, 'de>(
     buf: &mut ParseBuf<'de>,
@@ -153,7 +153,7 @@ impl<'a> SidBlock<'_, 'a> {
         }
     }
 
-    /// How many bytes the sids are written as, or `usize::MAX` where that is less.
+    /// The encoded length of the sids in bytes, or `usize::MAX` if it is greater.
     #[tactic(auto, unfolding(mysql_wire::specs::Writing::saturated))]
     fn sids_len(&self, tagged: bool) -> usize
         ensures value { result ≡ saturated (length (flat_map (sid_as tagged).bytes self.now.0.now)) }
@@ -166,7 +166,7 @@ impl<'a> SidBlock<'_, 'a> {
         total
     }
 
-    /// How many bytes the head and the sids are written as, or `usize::MAX` where that is less.
+    /// The encoded length of the head and the sids in bytes, or `usize::MAX` if it is greater.
     #[tactic(auto, using(mysql_wire::specs::Writing::lengths), unfolding(crate::specs::SidBlock::content, mysql_wire::specs::Writing::le_bytes, mysql_wire::specs::Writing::saturated))]
     fn content_len(&self, tagged: bool) -> usize
         requires { tagged ≡ spec.any_tag self.now.0.now }

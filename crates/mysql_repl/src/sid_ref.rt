@@ -1,4 +1,4 @@
-//! A server's transactions, where they lie.
+//! Borrowed transactions of a server.
 #![tactic(auto, using(mysql_wire::proofs::Packets::packets), unfolding(crate::specs::Sid::sid, crate::specs::Sid::tagged_sid))]
 
 ghost use Rattle.std.specs.Prelude.{false, ◌≡◌, [], option_map, IfOk, IsOk, OnErr, ⊤};
@@ -13,10 +13,20 @@ use mysql_wire::{AnyWidth, Fault, FaultOf, MyDeserialize, ParseBuf};
 use std::alloc::{AllocError, Global};
 use std::marker::Model;
 
-/// The transactions of one server, or those of them that have one tag, where they lie: a [`Sid`] for as long as the packet
-/// lives, without memory.
+/// The transactions of one server, or those that have one tag: a [`Sid`] that borrows from the packet, and takes no memory.
 ///
-/// It is read of the same bytes with the same faults but for `Memory`, and in a clause it is that sid.
+/// It is read of the same bytes with the same faults except for `Memory`, and in a clause it is that sid.
+///
+/// ```
+/// let request: ComBinlogDumpGtidRef<'_> = ParseBuf::new(alloc, payload).parse(())?;
+/// let mut count: u64 = 0;
+/// for sid in request.sids() {
+///     for interval in sid.intervals() {
+///         count = count.saturating_add(interval.end().saturating_sub(interval.start()));
+///     }
+/// }
+/// Ok(count)
+/// ```
 #[derive(Debug, Drop)]
 pub struct SidRef<'a> {
     uuid: [u8; UUID_LEN],
@@ -57,8 +67,8 @@ impl<'a> SidRef<'a> {
         self.intervals.iter()
     }
 
-    /// Reads a sid in the form with tags or in the other, as [`ParseBuf::parse`] reads the other. After a refusal the buffer
-    /// is as it was.
+    /// Reads a sid in the form with tags or in the other, as [`ParseBuf::parse`] reads the other. After an error the buffer is
+    /// unchanged.
     pub fn parse_as(tagged: bool, buf: &mut ParseBuf<'a>) -> Result<Self, Fault>
         ensures value { Answers false result buf.new (((spec.sid_as tagged).form tt).reads buf.old) }
         ensures err { OnErr result (buf.new ≡ buf.old) }
@@ -69,7 +79,7 @@ impl<'a> SidRef<'a> {
         Ok(sid)
     }
 
-    /// The sid in its other form, which borrows the tag still, with intervals of its own. For no interval no memory is taken.
+    /// Converts to a [`Sid`], which still borrows the tag and copies the intervals. Without intervals it takes no memory.
     pub fn to_sid(&self, alloc: Global) -> Result<Sid<'a>, AllocError>
         ensures value { IfOk result (λ sid. sid ≡ self.now) }
         ensures no_memory { spec.intervals self.now ≡ [] → IsOk result }
@@ -143,7 +153,7 @@ impl Eq for SidRef<'_> {
     ghost laws = { laws-law };
 }
 
-/// As a [`Sid`], in the form without tags, but for `Memory`: none is taken.
+/// Read like a [`Sid`], in the form without tags, but never `Memory`.
 impl<'de> MyDeserialize<'de> for SidRef<'de> {
     const SIZE: Option<usize> = None;
 

@@ -17,19 +17,29 @@ use std::fmt;
 use thiserror::Error;
 use uuid::Uuid;
 
-/// Why a text is no sid, or no GTID set: the first refusal from the left.
+/// The first error in the text of a sid or of a GTID set.
+///
+/// ```
+/// let sid = SidTextRef::new(text)?;
+/// let mut count: usize = 0;
+/// for interval in sid.intervals() {
+///     interval?;
+///     count = count.saturating_add(1);
+/// }
+/// Ok(count)
+/// ```
 #[derive(Clone, Debug, PartialEq, Drop, Error)]
 pub enum InvalidSid {
     /// No colon follows the uuid.
     #[error("NoColon")]
     NoColon,
-    /// What stands before the first colon is no uuid.
+    /// The text before the first colon isn't a uuid.
     #[error("Uuid")]
     Uuid,
     /// Nothing follows the first colon; in a GTID set, any colon.
     #[error("Empty")]
     Empty,
-    /// What stands before intervals is no tag.
+    /// The text before the intervals isn't a tag.
     #[error("{0}")]
     Tag(InvalidTag),
     /// No colon follows the tag; in a GTID set, no interval follows it.
@@ -38,7 +48,8 @@ pub enum InvalidSid {
     /// An interval has more than one hyphen.
     #[error("Parts")]
     Parts,
-    /// An interval has something else than digits, or a number past 64 bits. In a GTID set a plus before them is refused.
+    /// An interval has a character that isn't a digit, or a number of more than 64 bits. In a GTID set a plus sign is an error
+    /// too.
     #[error("Number")]
     Number,
     /// The last number of an interval is 2^64 - 1, after which there is none; in a GTID set, it is above 2^63 - 2.
@@ -47,7 +58,7 @@ pub enum InvalidSid {
     /// The numbers of an interval are no interval of transactions.
     #[error("{0}")]
     Gno(InvalidGno),
-    /// An allocation failed. The same text may be read once memory is there.
+    /// An allocation failed. The same text can be parsed again once memory is available.
     #[error("Memory")]
     Memory,
 }
@@ -92,7 +103,7 @@ impl<T: Drop> From<AllocFailed<T>> for InvalidSid {
     }
 }
 
-/// What stands before the first colon, and what after it.
+/// Splits at the first colon.
 #[tactic(auto, using(crate::proofs::SidTexts::cuts))]
 pub(crate) fn cut_at_colon(text: &str) -> Option<(&str, &str)>
     ensures value { MatchOption result (spec.has spec.colon text.now ≡ false) (λ cut. (spec.has spec.colon text.now ≡ true) × (cut.0.now ≡ spec.before spec.colon text.now) × (cut.1.now ≡ spec.after spec.colon text.now)) }
@@ -100,7 +111,7 @@ pub(crate) fn cut_at_colon(text: &str) -> Option<(&str, &str)>
     text.split_once(':')
 }
 
-/// What stands before the first hyphen, and what after it.
+/// Splits at the first hyphen.
 #[tactic(auto, using(crate::proofs::SidTexts::cuts))]
 pub(crate) fn cut_at_hyphen(text: &str) -> Option<(&str, &str)>
     ensures value { MatchOption result (spec.has spec.hyphen text.now ≡ false) (λ cut. (spec.has spec.hyphen text.now ≡ true) × (cut.0.now ≡ spec.before spec.hyphen text.now) × (cut.1.now ≡ spec.after spec.hyphen text.now)) }
@@ -108,7 +119,7 @@ pub(crate) fn cut_at_hyphen(text: &str) -> Option<(&str, &str)>
     text.split_once('-')
 }
 
-/// What stands before the first comma, and what after it.
+/// Splits at the first comma.
 #[tactic(auto, using(crate::proofs::SidTexts::cuts))]
 pub(crate) fn cut_at_comma(text: &str) -> Option<(&str, &str)>
     ensures value { MatchOption result (spec.has spec.comma text.now ≡ false) (λ cut. (spec.has spec.comma text.now ≡ true) × (cut.0.now ≡ spec.before spec.comma text.now) × (cut.1.now ≡ spec.after spec.comma text.now)) }
@@ -133,7 +144,7 @@ pub(crate) fn checked(first: u64, last: u64) -> Result<GnoInterval, InvalidSid>
     Ok(GnoInterval::check_and_new(first, end)?)
 }
 
-/// A text up to its first colon, and what stands after that colon, if there is one.
+/// Splits a text at its first colon. The second part is `None` without a colon.
 #[derive(Drop)]
 pub(crate) struct FirstPart<'a> {
     pub(crate) part: &'a str,
@@ -174,7 +185,7 @@ fn read_intervals(
 }
 
 impl Sid<'static> {
-    /// The sid that a text spells: `UUID:1-5:7`, or with a tag `UUID:tag:1-5:7`.
+    /// Parses the text of a sid: `UUID:1-5:7`, or with a tag `UUID:tag:1-5:7`.
     ///
     /// The text is a uuid in any form without a colon; a colon; a tag and a colon, or none; and
     /// intervals with colons between them. An interval is a number, or the first and the last number
@@ -185,8 +196,8 @@ impl Sid<'static> {
     /// The text of a whole GTID set, with several uuids or several tags after one, is read by
     /// [`sids_from_text`](crate::sids_from_text).
     ///
-    /// Another text is refused by its first fault. No memory is asked for before the uuid and the tag with its colon, or
-    /// else the first interval, are read.
+    /// An invalid text returns its first error. No memory is taken before the uuid and the tag with its colon, or else the
+    /// first interval, are read.
     #[tactic(auto, using(crate::proofs::SidTextRead::answers))]
     pub fn from_str(alloc: Global, text: &str) -> Result<Sid<'static>, InvalidSid>
         ensures spelled { IfOk result (SpellsSid text.now) }
@@ -199,7 +210,7 @@ impl Sid<'static> {
     }
 }
 
-/// The sid that a text spells, or the text's first refusal.
+/// Parses the text of a sid, or returns its first error.
 #[tactic(auto, unfolding(crate::specs::SidText::read_sid, crate::specs::SidText::early_refusal))]
 fn read_sid(alloc: Global, text: &str) -> Result<Sid<'static>, InvalidSid>
     ensures value { spec.Answered result (spec.read_sid text.now) }

@@ -1,4 +1,4 @@
-//! The text of a sid in its parts, where they lie.
+//! Borrowed parts of a sid's text.
 
 ghost use Rattle.std.specs.Prelude.{◌≡◌, ◌≢◌, IfErr, length, option_map};
 ghost use Rattle.mysql_repl.specs.declared.sid_text.InvalidSid.TheVariants as fault;
@@ -22,7 +22,7 @@ fn from_numbers(first: Option<u64>, last: Option<u64>) -> Result<GnoInterval, In
     }
 }
 
-/// The interval that a text spells.
+/// Parses an interval.
 #[tactic(auto, unfolding(crate::specs::SidText::read_interval))]
 fn read_interval(text: &str) -> Result<GnoInterval, InvalidSid>
     ensures value { result ≡ spec.read_interval text.now }
@@ -37,13 +37,23 @@ fn read_interval(text: &str) -> Result<GnoInterval, InvalidSid>
     from_numbers(number_of(first), number_of(last))
 }
 
-/// The intervals that a text spells with colons between them, one after another, without memory.
+/// An iterator over the intervals in a text, which are separated by colons. It takes no memory.
 ///
-/// Each of them is read by itself: one that is refused leaves those after it as they are. In a clause it is the list of what
-/// those that are left are read as.
+/// Each interval is parsed by itself: after an error the next ones follow. In a clause it is the list of the results of the
+/// remaining ones.
+///
+/// ```
+/// let sid = SidTextRef::new(text)?;
+/// let mut count: usize = 0;
+/// for interval in sid.intervals() {
+///     interval?;
+///     count = count.saturating_add(1);
+/// }
+/// Ok(count)
+/// ```
 #[derive(Debug, Drop)]
 pub struct IntervalTextsRef<'a> {
-    /// What is not read yet; none after the last one.
+    /// The text that isn't parsed yet; `None` after the last interval.
     rest: Option<&'a str>,
 }
 
@@ -59,7 +69,7 @@ impl<'a> Model for IntervalTextsRef<'a> {
     ghost view = { λ p. read_each (left_parts (option_map (λ t. t.now) p.rest)) };
 }
 
-/// How many parts a text has between its colons.
+/// Returns the number of parts of a text, which colons separate.
 #[tactic(auto, using(crate::proofs::IntervalTexts::counts))]
 fn count_parts(text: &str) -> usize
     ensures value { result ≡ length (spec.parts_of text.now) }
@@ -74,7 +84,7 @@ fn count_parts(text: &str) -> usize
 }
 
 impl IntervalTextsRef<'_> {
-    /// How many are left.
+    /// The number of remaining intervals.
     #[tactic(auto, using(crate::proofs::IntervalTexts::counts))]
     pub fn left(&self) -> usize
         ensures value { result ≡ length self.now }
@@ -108,10 +118,20 @@ impl<'a> Iterator for IntervalTextsRef<'a> {
     }
 }
 
-/// The text of a sid in its parts, where they lie, without memory: its uuid, its tag if there is one, and its intervals,
-/// which are not read yet.
+/// The borrowed parts of a sid's text: its uuid, its tag if there is one, and its intervals, which aren't parsed yet. It takes
+/// no memory.
 ///
 /// In a clause it is these parts, with what each of the intervals is read as.
+///
+/// ```
+/// let sid = SidTextRef::new(text)?;
+/// let mut count: usize = 0;
+/// for interval in sid.intervals() {
+///     interval?;
+///     count = count.saturating_add(1);
+/// }
+/// Ok(count)
+/// ```
 #[derive(Debug, Drop)]
 pub struct SidTextRef<'a> {
     uuid: [u8; UUID_LEN],
@@ -127,7 +147,7 @@ impl<'a> Model for SidTextRef<'a> {
     ghost view = { λ s. parts_with s.uuid s.tag s.intervals.now };
 }
 
-/// The parts with that uuid that a text spells after it.
+/// Parses the text after a uuid.
 #[tactic(auto, unfolding(crate::specs::SidText::parts_after))]
 fn after_uuid(uuid: [u8; UUID_LEN], text: &str) -> Result<SidTextRef<'_>, InvalidSid>
     ensures value { result ≡ spec.parts_after uuid text.now }
@@ -155,8 +175,8 @@ fn after_uuid(uuid: [u8; UUID_LEN], text: &str) -> Result<SidTextRef<'_>, Invali
 }
 
 impl<'a> SidTextRef<'a> {
-    /// The parts of a text, in the form that [`Sid::from_str`](crate::Sid::from_str) reads. A text without such parts is
-    /// refused by its first fault, as it is there; its intervals are not read yet, and none of them is refused here.
+    /// Splits a text into its parts, in the form that [`Sid::from_str`](crate::Sid::from_str) reads. An invalid text returns
+    /// the same first error; the intervals aren't parsed yet, so they are no error here.
     #[tactic(auto, unfolding(crate::specs::SidText::sid_parts, crate::specs::SidText::read_sid))]
     pub fn new(text: &'a str) -> Result<Self, InvalidSid>
         ensures value { result ≡ spec.sid_parts text.now }

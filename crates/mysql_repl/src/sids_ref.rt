@@ -1,4 +1,4 @@
-//! The sids of a dump, where they lie.
+//! Borrowed sids of a dump.
 #![tactic(auto, using(mysql_wire::proofs::Packets::packets))]
 
 ghost use Rattle.std.specs.Prelude.{false, [], ◌≡◌, length, option_map, IfOk, IsOk, ⊤};
@@ -18,16 +18,27 @@ use std::fmt;
 use std::fmt::Debug;
 use std::marker::Model;
 
-/// The sids of a dump, where they lie: the list of [`ComBinlogDumpGtid::sids`](crate::ComBinlogDumpGtid::sids) for as long as
-/// the packet lives, without memory.
+/// The sids of a dump: the list of [`ComBinlogDumpGtid::sids`](crate::ComBinlogDumpGtid::sids), which borrows from the packet
+/// and takes no memory.
 ///
-/// It gives one sid after another. All of them were read before the first one is given, so none is refused. In a clause it
-/// is the list of the sids that are left.
+/// An iterator over the sids. All of them are read when it is created, so none of them fails later. In a clause it is the list
+/// of the remaining sids.
+///
+/// ```
+/// let request: ComBinlogDumpGtidRef<'_> = ParseBuf::new(alloc, payload).parse(())?;
+/// let mut count: u64 = 0;
+/// for sid in request.sids() {
+///     for interval in sid.intervals() {
+///         count = count.saturating_add(interval.end().saturating_sub(interval.start()));
+///     }
+/// }
+/// Ok(count)
+/// ```
 #[derive(Drop)]
 pub struct SidsRef<'a> {
     tagged: bool,
     count: u64,
-    /// How many bytes they take.
+    /// The length in bytes.
     len: usize,
     /// They, and what follows them.
     bytes: ParseBuf<'a>,
@@ -46,7 +57,7 @@ impl<'a> Model for SidsRef<'a> {
     ghost invariant = { λ p. AreThere ((sid_as p.tagged).form tt) p.count p.len p.bytes };
 }
 
-/// Reads past so many sids.
+/// Reads past `count` sids.
 fn skip_sids<'s>(tagged: bool, count: u64, buf: &mut ParseBuf<'_>) -> Result<(), FaultOf<'s>>
     ensures value { Answers false result buf.new (passed ((counted count ((sid_as tagged).form tt)).reads buf.old)) }
 {
@@ -56,7 +67,7 @@ fn skip_sids<'s>(tagged: bool, count: u64, buf: &mut ParseBuf<'_>) -> Result<(),
     Ok(())
 }
 
-/// Reads so many sids.
+/// Reads `count` sids.
 #[tactic(auto, using(crate::proofs::InPlace::places))]
 fn read_counted<'s, 'a>(
     tagged: bool,
@@ -76,7 +87,7 @@ fn read_counted<'s, 'a>(
     })
 }
 
-/// Reads the head, and so many sids.
+/// Reads the head, and a given number of sids.
 #[tactic(auto, using(mysql_wire::proofs::Packets::packets), unfolding(crate::specs::SidBlock::sids_form))]
 fn read_sids<'s, 'a>(buf: &mut ParseBuf<'a>) -> Result<SidsRef<'a>, FaultOf<'s>>
     ensures value { Answers false result buf.new ((block.sids_form false).reads buf.old) }
@@ -116,7 +127,7 @@ fn first_and_others<'a>(sids: &SidsRef<'a>) -> Option<(SidRef<'a>, SidsRef<'a>)>
 }
 
 impl<'a> SidsRef<'a> {
-    /// How many are left.
+    /// The number of remaining sids.
     #[inline]
     #[tactic(auto, using(crate::proofs::InPlace::how_many))]
     pub fn left(&self) -> u64
@@ -125,8 +136,8 @@ impl<'a> SidsRef<'a> {
         self.count
     }
 
-    /// The bytes of those that are left, after their head, and whether they are in the form with tags. Where none is left, the
-    /// form is the one without.
+    /// The bytes of the remaining sids, after their head, and whether they are in the form with tags. Without sids the form is
+    /// the one without tags.
     #[inline]
     #[tactic(auto, using(mysql_wire::proofs::Packets::packets, crate::proofs::InPlace::standing))]
     pub fn as_bytes(&self) -> (&'a [u8], bool)
@@ -140,7 +151,7 @@ impl<'a> SidsRef<'a> {
         (bytes.eat(self.len), self.tagged)
     }
 
-    /// The same sids once more.
+    /// Iterates over the sids from the first one on.
     #[inline]
     pub fn iter(&self) -> SidsRef<'a>
         ensures value { result ≡ self.now }
@@ -153,7 +164,7 @@ impl<'a> SidsRef<'a> {
         }
     }
 
-    /// The sids in their other form, which borrow their tags still. For no sid no memory is taken.
+    /// Converts to a list of [`Sid`](crate::Sid)s, which still borrow the tags. Without sids it takes no memory.
     pub fn to_vec(&self, alloc: Global) -> Result<Vec<Sid<'a>>, AllocError>
         ensures value { IfOk result (λ sids. sids.items ≡ self.now) }
         ensures no_memory { self.now ≡ [] → IsOk result }
@@ -194,7 +205,7 @@ impl Clone for SidsRef<'_> {
     }
 }
 
-/// The same sids, one after another, in either form.
+/// Compares the sids, in order, whichever form they are in.
 impl PartialEq for SidsRef<'_> {
     ghost use Rattle.std.specs.Cmp.Lexicographic.{lists_per, pointwise};
     ghost use Rattle.mysql_repl.specs.contracts.sid.SidPartialEq.TheImpl.Laws.{laws-law};

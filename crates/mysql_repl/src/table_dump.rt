@@ -31,6 +31,11 @@ pub type ComTableDumpHeader = ConstU8<InvalidComTableDumpHeader, 0x13>;
 ///
 /// The first 255 bytes of a name are written. Missing bytes are `UnexpectedEof`, another first byte
 /// is `InvalidData`. Reading takes no memory.
+///
+/// ```
+/// let request = ComTableDump::new(CowSlice::Borrowed(database), CowSlice::Borrowed(table));
+/// Ok(request.serialize(out)?)
+/// ```
 #[derive(Clone, Debug, PartialEq, Eq, Hash)]
 pub struct ComTableDump<'a> {
     header: ComTableDumpHeader,
@@ -69,7 +74,7 @@ impl<'a> ComTableDump<'a> {
         self.database.as_bytes()
     }
 
-    /// The database's name as text, with U+FFFD for what is not UTF-8. UTF-8 is borrowed.
+    /// The database's name as text, with U+FFFD for invalid UTF-8. Valid UTF-8 is borrowed.
     pub fn database(&self, alloc: Global) -> Result<CowStr<'_>, AllocError>
         ensures text { GivesText (spec.database self.now) result }
     {
@@ -84,7 +89,7 @@ impl<'a> ComTableDump<'a> {
         self.table.as_bytes()
     }
 
-    /// The table's name as text, with U+FFFD for what is not UTF-8. UTF-8 is borrowed.
+    /// The table's name as text, with U+FFFD for invalid UTF-8. Valid UTF-8 is borrowed.
     pub fn table(&self, alloc: Global) -> Result<CowStr<'_>, AllocError>
         ensures text { GivesText (spec.table self.now) result }
     {

@@ -18,20 +18,24 @@ use std::hash::{Hash, Hasher};
 use std::marker::Model;
 use thiserror::Error;
 
-/// Why a text is no tag. The first fault is answered: the text is empty, it is too long, its first
-/// character, and then its other characters from the left.
+/// The error of an invalid tag. The first one of these is returned: the text is empty, it is too long, its first character is
+/// invalid, and then its other characters from the left.
+///
+/// ```
+/// Tag::new(CowStr::Borrowed(text))
+/// ```
 #[derive(Clone, Debug, PartialEq, Eq, Hash, Drop, Error)]
 pub enum InvalidTag {
     /// The text is empty.
     #[error("tag is empty")]
     Empty,
-    /// The text has so many bytes, and so more than 32.
+    /// The text has a given number of bytes, and so more than 32.
     #[error("tag is too long ({0} > 32)")]
     TooLong(usize),
     /// The text begins with this character.
     #[error("invalid first character '{0}' (must be lowercase letter or underscore)")]
     InvalidFirstChar(char),
-    /// This character stands further on in the text.
+    /// This later character is invalid.
     #[error("invalid character '{0}' (must be lowercase letter, digit, or underscore)")]
     InvalidChar(char),
 }
@@ -43,7 +47,7 @@ fn is_first_char(c: char) -> bool
     ('a' <= c && c <= 'z') || c == '_'
 }
 
-/// Whether the character may stand in a tag.
+/// Whether a tag may contain the character.
 fn is_later_char(c: char) -> bool
     ensures value { result ≡ is_later c }
 {
@@ -62,7 +66,7 @@ fn first_bad_char(text: &str) -> Option<char>
     text.chars().find(|c| !is_later_char(*c))
 }
 
-/// The first fault of a text of so many bytes, by its first character and the first one that stands in no tag.
+/// Returns the first error of a text of `len` bytes, by its first character and its first invalid one.
 fn fault_of(len: usize, first: Option<char>, bad: Option<char>) -> Option<InvalidTag>
     ensures { result ≡ spec.fault_of len first bad }
 {
@@ -86,7 +90,7 @@ pub(crate) fn fault_in(text: &str) -> Option<InvalidTag>
     fault_of(text.len(), first_char(text), first_bad_char(text))
 }
 
-/// The first character that stands in no tag in lower case.
+/// Returns the first character that a tag in lower case can't contain.
 fn first_bad_char_in_lower_case(text: &str) -> Option<char>
     ensures value { result ≡ find (λ c. not (is_later (to_ascii_lowercase c))) (chars text.now) }
 {
@@ -118,6 +122,10 @@ pub(crate) fn fault_in_lower_case(text: &str) -> Option<InvalidTag>
 ///
 /// Tags with the same text are equal, hash equally and have one place in the order, whoever owns the
 /// text. They are ordered by their bytes.
+///
+/// ```
+/// Tag::new(CowStr::Borrowed(text))
+/// ```
 pub struct Tag<'a>(CowStr<'a>);
 
 impl Drop for Tag<'_> {
@@ -155,7 +163,7 @@ impl<'a> Tag<'a> {
         }
     }
 
-    /// The tag of this text, which is that of one.
+    /// Creates a tag from a valid text.
     #[inline]
     pub(crate) fn of(text: &'a str) -> Self
         requires { IsTag text.now }
@@ -164,7 +172,7 @@ impl<'a> Tag<'a> {
         Tag(CowStr::Borrowed(text))
     }
 
-    /// The text, which is that of a tag.
+    /// Returns the text of the tag.
     #[inline]
     pub fn as_str(&self) -> &str
         ensures value { result.now ≡ self.now }
@@ -173,8 +181,8 @@ impl<'a> Tag<'a> {
         self.0.as_str()
     }
 
-    /// The same tag, on memory of its own: a text that it owns is kept as it is. Where the copy is refused, the tag is given
-    /// up, and the text that it borrowed stays.
+    /// Converts to an owned tag; an owned text is kept. If the allocation fails, the tag is dropped; the text that it borrowed
+    /// isn't affected.
     pub fn into_owned(self, alloc: Global) -> Result<Tag<'static>, AllocError>
         ensures value { IfOk result (λ owned. owned ≡ self.entry) }
     {
@@ -183,7 +191,7 @@ impl<'a> Tag<'a> {
     }
 }
 
-/// The tag of this text, which is that of one. An owned text is kept as it is.
+/// Creates a tag from a valid text. An owned text is kept.
 fn owned_tag(text: CowStr<'_>, alloc: Global) -> Result<Tag<'static>, AllocError>
     requires { IsTag (cow_str_bytes text) }
     ensures value { IfOk result (λ owned. owned ≡ cow_str_bytes text.entry) }

@@ -10,7 +10,7 @@ use crate::tag_ref::TagRef;
 use mysql_wire::{BytesRepr, FaultOf, ParseBuf, VarLen};
 use std::str;
 
-/// What stands in place of a tag, where it is none.
+/// The text of an absent tag.
 const INVALID: &str = "Invalid tag";
 
 /// The tag of some bytes; none, if there are no bytes.
@@ -29,7 +29,7 @@ fn tag_of<'s, 'a>(bytes: &'a [u8]) -> Result<Option<TagRef<'a>>, FaultOf<'s>>
     }
 }
 
-/// Reads a tag after its length, which is 0 where there is none. It takes no memory.
+/// Reads a tag after its length, which is 0 for no tag. It takes no memory.
 ///
 /// Bytes that are no tag are `InvalidData`.
 #[tactic(auto, unfolding(crate::specs::TagString::tag_form))]
@@ -42,7 +42,7 @@ pub(crate) fn read_tag_ref<'s, 'de>(
     tag_of(content.eat_all())
 }
 
-/// The same of a tag that can leave its packet.
+/// Reads a tag that can outlive its packet.
 pub(crate) fn read_tag<'s, 'de>(buf: &mut ParseBuf<'de>) -> Result<Option<Tag<'de>>, FaultOf<'s>>
     ensures value { Answers false result buf.new (spec.tag_form.reads buf.old) }
 {

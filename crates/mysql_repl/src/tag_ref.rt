@@ -39,7 +39,7 @@ impl<'a> TagRef<'a> {
         }
     }
 
-    /// The text, which is that of a tag.
+    /// Returns the text of the tag.
     #[inline]
     pub fn as_str(&self) -> &'a str
         ensures value { result.now ≡ self.now }
@@ -48,7 +48,7 @@ impl<'a> TagRef<'a> {
         self.text
     }
 
-    /// The tag in its other form, which borrows the text still. It takes no memory.
+    /// Converts to a [`Tag`], which still borrows the text. It takes no memory.
     #[inline]
     pub fn to_tag(&self) -> Tag<'a>
         ensures value { result ≡ self.now }

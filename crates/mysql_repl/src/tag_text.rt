@@ -13,6 +13,10 @@ use std::marker::Model;
 /// A tag in either case, which stays in its text: in lower case it is a [`Tag`](crate::Tag). In a clause it is the text.
 ///
 /// Tags are equal that are the same in lower case.
+///
+/// ```
+/// Ok(TagText::new(text)?.as_str())
+/// ```
 #[derive(Drop)]
 pub struct TagText<'a> {
     text: &'a str,
@@ -43,7 +47,7 @@ impl<'a> TagText<'a> {
         }
     }
 
-    /// The text, in the case that it has where it stands.
+    /// The text, in its original case.
     #[inline]
     pub fn as_str(&self) -> &'a str
         ensures value { result.now ≡ self.now }

@@ -1,4 +1,4 @@
--- So many bytes are taken.
+-- A given number of bytes are taken.
 use Rattle.std.proofs.Common.{◌≡◌, ◌+◌, ℕ, List, length, Ok}
 use Rattle.mysql_wire.specs.Form.{bytes}
 use Rattle.mysql_wire.specs.FormLaws.{bytes-sized}

@@ -28,22 +28,22 @@ has-state sends None is width = sym is
 has-state sends (Some state) is width = (sym is, width)
 
 flags-fit : (capabilities : CapabilityFlags) (p : ErrPacket) → SuitsFlags capabilities p → HasWidths p → ErrPacketFits capabilities p []
-flags-fit capabilities (err.Error e) suits widths = record {
+flags-fit capabilities (err.Error e) matches_type widths = record {
   code = widths.0;
-  state = has-state (sends_state capabilities) e.state suits.0 widths.1;
-  no_report = suits.1;
+  state = has-state (sends_state capabilities) e.state matches_type.0 widths.1;
+  no_report = matches_type.1;
   at_end = refl;
 }
-flags-fit capabilities (err.Progress r) suits widths = record {
-  taken = suits.0;
+flags-fit capabilities (err.Progress r) matches_type widths = record {
+  taken = matches_type.0;
   stage = widths.0;
   max_stage = widths.1;
-  progress = suits.1;
+  progress = matches_type.1;
   stage_info = widths.2;
 }
 
 pub err_packet-again : (capabilities : CapabilityFlags) (p : ErrPacket) → SuitsFlags capabilities p → HasWidths p → (err_packet.form capabilities).Spells p (err_packet.bytes p) []
-err_packet-again capabilities p suits widths =
-    rw (append-nil (err_packet.bytes p)) at (err_packet.again capabilities p [] (err_packet-fits capabilities p [] (flags-fit capabilities p suits widths)))
+err_packet-again capabilities p matches_type widths =
+    rw (append-nil (err_packet.bytes p)) at (err_packet.again capabilities p [] (err_packet-fits capabilities p [] (flags-fit capabilities p matches_type widths)))
 
 pub ruleset err_packets = (err_packet-fits, err_packet-again)

@@ -62,7 +62,7 @@ unfolding column_count
 column_count-plain capabilities c rest h =
     column_count.again capabilities c rest (
       h.count,
-      (said-fits capabilities (says_follow capabilities) c.metadata_follows rest h.byte h.suits, tt),
+      (said-fits capabilities (says_follow capabilities) c.metadata_follows rest h.byte h.matches_type, tt),
     )
 
 pub ruleset plain = (column_count-plain, column-plain, local_infile-plain, progress_report-plain, server_error-plain, session_state_info-plain, sql_state-plain)

@@ -18,7 +18,7 @@ follow (Some b) = not (b.0 == 0)
 abbrev pub metadata_follows : ColumnCount → Bool
 metadata_follows c = follow c.metadata_follows
 
--- so many columns, and no byte says whether definitions follow
+-- a given number of columns, and no byte says whether definitions follow
 abbrev pub columns : ℕ → ColumnCount
 columns n = record { count = raw_int n; metadata_follows = None }
 
@@ -60,4 +60,4 @@ SuitsSession capabilities c = IsSaid (says_follow capabilities) c.metadata_follo
 pub record ColumnCountFits (capabilities : SessionCapabilities) (c : ColumnCount) : Type 0 where
   pub count : count c < 2 ^ 64
   pub byte : SaysByte c.metadata_follows
-  pub suits : SuitsSession capabilities c
+  pub matches_type : SuitsSession capabilities c

@@ -98,7 +98,7 @@ abbrev pub StateHasWidth : Option SqlState → Type 0
 StateHasWidth None = Unit {0}
 StateHasWidth (Some state) = length (state_bytes state) ≡ 5
 
--- the numbers have their widths, but for a report's progress, whose type is wider
+-- the numbers have their widths, except for a report's progress, whose type is wider
 abbrev pub HasWidths : ErrPacket → Type 0
 HasWidths (err.Error e) = (error_code e < 2 ^ 16) × StateHasWidth (sql_state_of e)
 HasWidths (err.Progress r) = (stage r < 2 ^ 8) × (max_stage r < 2 ^ 8) × (length (stage_info r) < 2 ^ 64)

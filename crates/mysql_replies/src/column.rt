@@ -41,9 +41,14 @@ pub type ColumnDefinitionCatalog = ConstBytes<Catalog, 4>;
 /// (four), the type, the flags (two), the decimals, and two bytes that are skipped. Numbers are
 /// little-endian.
 ///
-/// A short definition is `UnexpectedEof`; another catalog, another byte for `0c`, or a byte that is
-/// no type is `InvalidData`. Reading copies the names once all five are there, if one has any byte, and answers `Memory`
-/// where that is refused.
+/// A short definition is `UnexpectedEof`; another catalog, another byte for `0c`, or an unknown type is `InvalidData`. Reading
+/// copies the names in one block once all five are there, unless all are empty; if that allocation fails, it returns `Memory`.
+///
+/// ```
+/// fn column(alloc: Global, payload: &[u8]) -> Result<Column> {
+///     Ok(ParseBuf::new(alloc, payload).parse(())?)
+/// }
+/// ```
 #[derive(Clone, Debug, PartialEq, Eq, Drop)]
 pub struct Column {
     pub(crate) catalog: ColumnDefinitionCatalog,
@@ -79,7 +84,7 @@ impl Column {
         }
     }
 
-    /// The column with this name of the schema. Where the copy is refused, the column is given up; without any name none is made.
+    /// Sets the schema's name. If the allocation fails, the column is dropped; if all names are empty, nothing is allocated.
     pub fn with_schema(self, alloc: Global, schema: &[u8]) -> Result<Column, AllocError>
         ensures value { IfOk result (λ column. column ≡ spec.with_schema self schema.now) }
         ensures no_memory { spec.HasNoName (spec.with_schema self schema.now) → IsOk result }
@@ -91,7 +96,8 @@ impl Column {
         named(alloc, &names, self.fields)
     }
 
-    /// The column with this name of the table, or of its alias. Where the copy is refused, the column is given up; without any name none is made.
+    /// Sets the name of the table or of its alias. If the allocation fails, the column is dropped; if all names are empty,
+    /// nothing is allocated.
     pub fn with_table(self, alloc: Global, table: &[u8]) -> Result<Column, AllocError>
         ensures value { IfOk result (λ column. column ≡ spec.with_table self table.now) }
         ensures no_memory { spec.HasNoName (spec.with_table self table.now) → IsOk result }
@@ -103,7 +109,8 @@ impl Column {
         named(alloc, &names, self.fields)
     }
 
-    /// The column with this name of the table itself. Where the copy is refused, the column is given up; without any name none is made.
+    /// Sets the table's original name. If the allocation fails, the column is dropped; if all names are empty, nothing is
+    /// allocated.
     pub fn with_org_table(self, alloc: Global, org_table: &[u8]) -> Result<Column, AllocError>
         ensures value { IfOk result (λ column. column ≡ spec.with_org_table self org_table.now) }
         ensures no_memory { spec.HasNoName (spec.with_org_table self org_table.now) → IsOk result }
@@ -115,7 +122,8 @@ impl Column {
         named(alloc, &names, self.fields)
     }
 
-    /// The column with this name of the column, or of its alias. Where the copy is refused, the column is given up; without any name none is made.
+    /// Sets the name of the column or of its alias. If the allocation fails, the column is dropped; if all names are empty,
+    /// nothing is allocated.
     pub fn with_name(self, alloc: Global, name: &[u8]) -> Result<Column, AllocError>
         ensures value { IfOk result (λ column. column ≡ spec.with_name self name.now) }
         ensures no_memory { spec.HasNoName (spec.with_name self name.now) → IsOk result }
@@ -127,7 +135,8 @@ impl Column {
         named(alloc, &names, self.fields)
     }
 
-    /// The column with this name of the column itself. Where the copy is refused, the column is given up; without any name none is made.
+    /// Sets the column's original name. If the allocation fails, the column is dropped; if all names are empty, nothing is
+    /// allocated.
     pub fn with_org_name(self, alloc: Global, org_name: &[u8]) -> Result<Column, AllocError>
         ensures value { IfOk result (λ column. column ≡ spec.with_org_name self org_name.now) }
         ensures no_memory { spec.HasNoName (spec.with_org_name self org_name.now) → IsOk result }
@@ -211,8 +220,8 @@ impl Column {
         self.fields.flags.0
     }
 
-    /// The most decimals of a value: 0 for integers and strings of fixed length, 31 for other strings
-    /// and floats, else up to 81.
+    /// The maximum number of decimals: 0 for integers and strings of fixed length, 31 for other strings and floats, otherwise
+    /// up to 81.
     #[inline]
     pub fn decimals(&self) -> u8
         ensures value { result ≡ spec.decimals self.now }
@@ -228,7 +237,7 @@ impl Column {
         self.meta.schema()
     }
 
-    /// The name of the schema as text, with U+FFFD for what is not UTF-8. UTF-8 is borrowed.
+    /// The name of the schema as text, with U+FFFD for invalid UTF-8. Valid UTF-8 is borrowed.
     pub fn schema_str(&self, alloc: Global) -> Result<CowStr<'_>, AllocError>
         ensures text { GivesText (spec.schema self.now) result }
     {
@@ -243,7 +252,7 @@ impl Column {
         self.meta.table()
     }
 
-    /// The name of the table, or of its alias as text, with U+FFFD for what is not UTF-8. UTF-8 is borrowed.
+    /// The name of the table, or of its alias as text, with U+FFFD for invalid UTF-8. Valid UTF-8 is borrowed.
     pub fn table_str(&self, alloc: Global) -> Result<CowStr<'_>, AllocError>
         ensures text { GivesText (spec.table self.now) result }
     {
@@ -258,7 +267,7 @@ impl Column {
         self.meta.org_table()
     }
 
-    /// The name of the table itself as text, with U+FFFD for what is not UTF-8. UTF-8 is borrowed.
+    /// The name of the table itself as text, with U+FFFD for invalid UTF-8. Valid UTF-8 is borrowed.
     pub fn org_table_str(&self, alloc: Global) -> Result<CowStr<'_>, AllocError>
         ensures text { GivesText (spec.org_table self.now) result }
     {
@@ -273,7 +282,7 @@ impl Column {
         self.meta.name()
     }
 
-    /// The name of the column, or of its alias as text, with U+FFFD for what is not UTF-8. UTF-8 is borrowed.
+    /// The name of the column, or of its alias as text, with U+FFFD for invalid UTF-8. Valid UTF-8 is borrowed.
     pub fn name_str(&self, alloc: Global) -> Result<CowStr<'_>, AllocError>
         ensures text { GivesText (spec.name self.now) result }
     {
@@ -288,7 +297,7 @@ impl Column {
         self.meta.org_name()
     }
 
-    /// The name of the column itself as text, with U+FFFD for what is not UTF-8. UTF-8 is borrowed.
+    /// The name of the column itself as text, with U+FFFD for invalid UTF-8. Valid UTF-8 is borrowed.
     pub fn org_name_str(&self, alloc: Global) -> Result<CowStr<'_>, AllocError>
         ensures text { GivesText (spec.org_name self.now) result }
     {

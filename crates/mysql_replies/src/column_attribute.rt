@@ -13,14 +13,14 @@ use mysql_wire::{
 use std::alloc::{AllocError, Global};
 use std::borrow::{CowSlice, CowStr};
 
-/// What an attribute of a column says.
+/// The kind of a column's attribute.
 #[derive(Clone, Copy, Debug, PartialEq, Eq)]
 pub enum ColumnAttributeKind {
     /// The name of the column's type, as `uuid`, `inet6` or `point`: 0.
     TypeName,
     /// The name of the format of its values, as `json`: 1.
     FormatName,
-    /// Anything else, by its number. Of 0 and 1 it is written as the kinds above.
+    /// Another kind, by its number. The numbers 0 and 1 are written as the kinds above.
     Unknown(u8),
 }
 
@@ -36,7 +36,7 @@ impl ColumnAttributeKind {
         }
     }
 
-    /// Its number.
+    /// Returns the kind's number.
     pub fn code(self) -> u8
         ensures value { result ≡ spec.kind_code self }
     {
@@ -48,7 +48,8 @@ impl ColumnAttributeKind {
     }
 }
 
-/// What the extended metadata of a column say beyond its type (MariaDB's "Result Set Packets", extended metadata).
+/// An attribute in the extended metadata of a column, which adds to its type (MariaDB's "Result Set Packets", extended
+/// metadata).
 ///
 /// | Bytes | Field |
 /// |---|---|
@@ -91,7 +92,7 @@ impl<'a> ColumnAttribute<'a> {
         self.code.0
     }
 
-    /// What it says.
+    /// Returns the kind.
     #[inline]
     pub fn kind(&self) -> ColumnAttributeKind
         ensures value { result ≡ spec.attribute_kind self.now }
@@ -107,14 +108,14 @@ impl<'a> ColumnAttribute<'a> {
         self.text.as_bytes()
     }
 
-    /// The text, with U+FFFD for what is not UTF-8. UTF-8 is borrowed, and takes no memory.
+    /// The text, with U+FFFD for invalid UTF-8. Valid UTF-8 is borrowed, and takes no memory.
     pub fn text_str(&self, alloc: Global) -> Result<CowStr<'_>, AllocError>
         ensures text { GivesText (spec.attribute_text self.now) result }
     {
         self.text.as_str(alloc)
     }
 
-    /// The same attribute, on memory of its own. An empty text takes none.
+    /// Copies the text, so that the attribute borrows nothing. An empty text needs no allocation.
     pub fn into_owned(self, alloc: Global) -> Result<ColumnAttribute<'static>, AllocError>
         ensures value { IfOk result (λ owned. owned ≡ self.entry) }
         ensures no_memory { spec.attribute_text self.entry ≡ [] → IsOk result }

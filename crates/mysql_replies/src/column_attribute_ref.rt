@@ -1,4 +1,4 @@
-//! An attribute of a column, where it lies.
+//! Borrowed attributes of a column.
 #![tactic(auto, using(mysql_wire::proofs::Packets::packets), unfolding(crate::specs::ColumnAttribute::column_attribute))]
 
 ghost use Rattle.std.specs.Prelude.{◌≡◌, None, refl, ⊤};
@@ -17,6 +17,16 @@ use std::marker::Model;
 /// An attribute of a column whose text stays in the packet: a [`ColumnAttribute`] for as long as the packet lives.
 ///
 /// It is read of the same bytes with the same faults, and in a clause it is that attribute.
+///
+/// ```
+/// let column: ExtendedColumnRef<'_> = ParseBuf::new(alloc, payload).parse(agreed)?;
+/// let mut count: usize = 0;
+/// for attribute in column.attributes(alloc) {
+///     let _text = attribute?.text();
+///     count = count.saturating_add(1);
+/// }
+/// Ok(count)
+/// ```
 #[derive(Drop)]
 pub struct ColumnAttributeRef<'a> {
     code: u8,
@@ -30,7 +40,7 @@ impl<'a> Model for ColumnAttributeRef<'a> {
 }
 
 impl<'a> ColumnAttributeRef<'a> {
-    /// What it says.
+    /// Returns the kind.
     #[inline]
     pub fn kind(&self) -> ColumnAttributeKind
         ensures value { result ≡ spec.attribute_kind self.now }
@@ -46,7 +56,7 @@ impl<'a> ColumnAttributeRef<'a> {
         self.text
     }
 
-    /// The attribute in its other form, which borrows the text still. It takes no memory.
+    /// Converts to a [`ColumnAttribute`], which still borrows the text. It takes no memory.
     #[inline]
     pub fn to_attribute(&self) -> ColumnAttribute<'a>
         ensures value { result ≡ self.now }

@@ -8,10 +8,20 @@ use crate::column_attribute_ref::ColumnAttributeRef;
 use mysql_wire::{Fault, ParseBuf};
 use std::marker::Model;
 
-/// The attributes in the extended metadata of a column, where they lie: each attribute, or the fault of the first one that is
-/// none, and then no more. They take no memory.
+/// An iterator over the attributes in the extended metadata of a column. Each borrows from the packet; a fault is the last
+/// item. It takes no memory.
 ///
 /// In a clause it is the list of the bytes that are left.
+///
+/// ```
+/// let column: ExtendedColumnRef<'_> = ParseBuf::new(alloc, payload).parse(agreed)?;
+/// let mut count: usize = 0;
+/// for attribute in column.attributes(alloc) {
+///     let _text = attribute?.text();
+///     count = count.saturating_add(1);
+/// }
+/// Ok(count)
+/// ```
 #[derive(Drop)]
 pub struct ColumnAttributes<'a> {
     attributes: ParseBuf<'a>,

@@ -12,17 +12,22 @@ use mysql_wire::{
     Parts, RawInt, Sink, parts,
 };
 
-/// How many columns a result has, and whether their definitions follow: the first packet of a result.
+/// The first packet of a result: the number of columns, and whether their definitions follow.
 ///
 /// | Bytes | Field |
 /// |---|---|
 /// | 1, 3, 4 or 9 | `count`, length-encoded |
 /// | 1 | `metadata_follows`, where both sides have `CLIENT_OPTIONAL_RESULTSET_METADATA` or `MARIADB_CLIENT_CACHE_METADATA` |
 ///
-/// The byte is 0 where the server leaves the definitions out: MySQL, where the client asked for none (`resultset_metadata`), and MariaDB,
-/// where they are those of the statement's last execution. Without the byte they follow. MySQL writes the count first and then the byte
-/// (`start_result_metadata` in `sql/protocol_classic.cc`), though its page of the protocol has the byte first. Missing bytes are
-/// `UnexpectedEof`, a count that begins with `fb` or `ff` is `InvalidData`.
+/// The byte is 0 if the server omits the definitions: MySQL, because the client asked for none (`resultset_metadata`); MariaDB,
+/// because they are those of the statement's last execution. Without the byte, the definitions follow. MySQL writes the count
+/// first and then the byte (`start_result_metadata` in `sql/protocol_classic.cc`), although the protocol's page has the byte
+/// first. Missing bytes are `UnexpectedEof`, a count that begins with `fb` or `ff` is `InvalidData`.
+///
+/// ```
+/// let packet: ColumnCount = ParseBuf::new(alloc, payload).parse(agreed)?;
+/// Ok((packet.count(), packet.metadata_follows()))
+/// ```
 #[derive(Clone, Debug, PartialEq, Eq, Drop)]
 pub struct ColumnCount {
     count: RawInt<LenEnc>,
@@ -41,7 +46,7 @@ impl ColumnCount {
         }
     }
 
-    /// The same count with the byte that says whether definitions follow, as either flag asks for.
+    /// Adds the byte that says whether definitions follow, for sessions whose flags ask for it.
     #[inline]
     pub fn with_metadata_follows(self, follows: bool) -> Self
         ensures value { result ≡ spec.with_metadata_follows follows self }
@@ -52,7 +57,7 @@ impl ColumnCount {
         }
     }
 
-    /// How many columns there are.
+    /// The number of columns.
     #[inline]
     pub fn count(&self) -> u64
         ensures value { result ≡ spec.count self.now }
@@ -71,7 +76,7 @@ impl ColumnCount {
         }
     }
 
-    /// The byte that says so, where there is one.
+    /// The byte that says whether the definitions follow, if there is one.
     #[inline]
     pub fn metadata_byte(&self) -> Option<u8>
         ensures value { option_map raw_int result ≡ self.now.metadata_follows }
@@ -101,7 +106,7 @@ impl<'de> MyDeserialize<'de> for ColumnCount {
 
     type Size = AnyWidth;
 
-    /// What both sides can do.
+    /// The capabilities of both sides.
     type Ctx = SessionCapabilities;
 
     ghost form = { spec.column_count.form };

@@ -55,7 +55,7 @@ impl Parts for ColumnMeta<'_> {
     }
 }
 
-/// The names of a column, where they lie. In a clause they are a column's names.
+/// The borrowed names of a column. In a clause they are a column's names.
 #[derive(Drop)]
 pub(crate) struct Names<'a> {
     pub(crate) schema: &'a [u8],
@@ -88,7 +88,7 @@ impl<'a> Names<'a> {
         }
     }
 
-    /// The same names.
+    /// Copies the names; both borrow from the packet.
     pub(crate) fn again(&self) -> Names<'a>
         ensures value { result ≡ self.now }
     {
@@ -101,7 +101,7 @@ impl<'a> Names<'a> {
         }
     }
 
-    /// How many bytes the names have, or `usize::MAX` where that is less.
+    /// The length of the names in bytes, or `usize::MAX` if it is greater.
     #[inline(always)]
     #[tactic(auto, unfolding(mysql_wire::specs::Writing::saturated))]
     fn len(&self) -> usize
@@ -116,7 +116,7 @@ impl<'a> Names<'a> {
     }
 }
 
-/// Reads a length-encoded string where it lies.
+/// Reads a length-encoded string, which borrows from the packet.
 #[inline(always)]
 pub(crate) fn read_name<'s, 'de>(buf: &mut ParseBuf<'de>) -> Result<&'de [u8], FaultOf<'s>>
     ensures value { MatchResult result (λ name. lenenc_string.reads buf.old ≡ Ok (name.now, buf.new)) (λ fault. Faults false fault (lenenc_string.reads buf.old)) }
@@ -125,9 +125,10 @@ pub(crate) fn read_name<'s, 'de>(buf: &mut ParseBuf<'de>) -> Result<&'de [u8], F
     Ok(name.eat_all())
 }
 
-/// Reads five length-encoded strings. After a fault the bytes are as they were.
+/// Reads five length-encoded strings. After a fault the bytes are unchanged.
 ///
-/// Either reader of columns has an instance of its own, so that it stands there in line, and names that nobody asks for cost nothing.
+/// Each of the two readers of columns has its own instance, so that it is inlined there, and names that nobody uses cost
+/// nothing.
 #[inline(always)]
 pub(crate) fn read_names<'s, 'de, const COPIED: bool>(
     buf: &mut ParseBuf<'de>,
@@ -147,8 +148,8 @@ pub(crate) fn read_names<'s, 'de, const COPIED: bool>(
     Ok(names)
 }
 
-/// The names of a column after one another, in memory that is taken at once: each begins where the one before it ends,
-/// and the original name runs to the end.
+/// The names of a column in one block of memory: each begins where the previous one ends, and the original name extends to the
+/// end.
 #[derive(Default, Drop)]
 pub(crate) struct ColumnNames {
     bytes: RawBytes<'static, EofBytes>,
@@ -177,7 +178,7 @@ fn borrowed(name: &[u8]) -> RawBytes<'_, LenEnc>
     RawBytes::new(CowSlice::Borrowed(name))
 }
 
-/// Puts a name after the others, for which there is memory, and answers where it ends.
+/// Appends a name, for which there is capacity, and returns where it ends.
 #[inline(always)]
 fn put(name: &[u8], bytes: &mut Vec<u8>) -> usize
     requires { vec_len bytes.old + length name.now ≤ vec_capacity bytes.old }
@@ -213,7 +214,7 @@ impl ColumnNames {
         })
     }
 
-    /// The names, where they lie.
+    /// Returns the names as slices.
     pub(crate) fn names(&self) -> Names<'_>
         ensures value { result ≡ self.now }
     {

@@ -18,7 +18,12 @@ use std::marker::Model;
 
 /// A column of a result (`Protocol::ColumnDefinition41`) whose names stay in the packet: [`Column`] without memory.
 ///
-/// It is read of the same bytes as a [`Column`], with the same faults but for `Memory`, and in a clause it is that column.
+/// It is read of the same bytes as a [`Column`], with the same faults except for `Memory`, and in a clause it is that column.
+///
+/// ```
+/// let column: ColumnRef<'_> = ParseBuf::new(alloc, payload).parse(())?;
+/// Ok(column.name())
+/// ```
 #[derive(Drop)]
 pub struct ColumnRef<'a> {
     pub(crate) names: Names<'a>,
@@ -80,7 +85,7 @@ impl<'a> ColumnRef<'a> {
         self.names.org_name
     }
 
-    /// As [`Column::character_set`].
+    /// Like [`Column::character_set`].
     #[inline]
     pub fn character_set(&self) -> u16
         ensures value { result ≡ spec.character_set self.now }
@@ -88,7 +93,7 @@ impl<'a> ColumnRef<'a> {
         self.character_set
     }
 
-    /// As [`Column::column_length`].
+    /// Like [`Column::column_length`].
     #[inline]
     pub fn column_length(&self) -> u32
         ensures value { result ≡ spec.column_length self.now }
@@ -96,7 +101,7 @@ impl<'a> ColumnRef<'a> {
         self.column_length
     }
 
-    /// As [`Column::column_type`].
+    /// Like [`Column::column_type`].
     #[inline]
     pub fn column_type(&self) -> ColumnType
         ensures value { result ≡ spec.column_type self.now }
@@ -104,7 +109,7 @@ impl<'a> ColumnRef<'a> {
         self.column_type
     }
 
-    /// As [`Column::flags`].
+    /// Like [`Column::flags`].
     #[inline]
     pub fn flags(&self) -> ColumnFlags
         ensures value { result ≡ spec.flags self.now }
@@ -112,7 +117,7 @@ impl<'a> ColumnRef<'a> {
         self.flags
     }
 
-    /// As [`Column::decimals`].
+    /// Like [`Column::decimals`].
     #[inline]
     pub fn decimals(&self) -> u8
         ensures value { result ≡ spec.decimals self.now }
@@ -201,7 +206,7 @@ pub(crate) fn placed<'a>(names: Names<'a>, fields: &ColumnFields) -> ColumnRef<'
     }
 }
 
-/// As a [`Column`], but for `Memory`: none is taken.
+/// Read like a [`Column`], but never `Memory`.
 impl<'de> MyDeserialize<'de> for ColumnRef<'de> {
     const SIZE: Option<usize> = None;
 

@@ -25,23 +25,16 @@ pub(crate) const PROGRESS_CODE: u16 = 0xffff;
 /// An error or a progress report (`Protocol::ERR_Packet`): the byte `ff`, a code of two bytes,
 /// little-endian, then what it is the code of.
 ///
-/// Where the code is `ffff` and the flags have `CLIENT_PROGRESS_OBSOLETE`, that is a progress
-/// report. Else it is an error, with an SQL state where the flags have `CLIENT_PROTOCOL_41`.
+/// If the code is `ffff` and the flags have `CLIENT_PROGRESS_OBSOLETE`, it is a progress report. Otherwise it is an error, with
+/// an SQL state if the flags have `CLIENT_PROTOCOL_41`.
 ///
 /// Before the handshake no flags are agreed: an error in place of the greeting, as 'Too many connections', is a
 /// [`GreetingError`](crate::GreetingError), with or without an SQL state.
 ///
 /// ```
-/// let packet: ErrPacket<'_> = buf.parse(connection.capabilities)?;
-/// match packet {
-///     ErrPacket::Error(error) => {
-///         let error = error.into_owned(alloc);
-///         Err(error.map_or(Error::Memory, Error::Server))
-///     }
-///     ErrPacket::Progress(report) => {
-///         let report = report.into_owned(alloc)?;
-///         Ok(connection.reports.push(report)?)
-///     }
+/// match packet.to_packet() {
+///     ErrPacket::Error(error) => Ok(error.into_owned(alloc)?),
+///     ErrPacket::Progress(_) => Err(Error::Unknown("a report in place of an error")),
 /// }
 /// ```
 #[derive(Clone, Debug, PartialEq, Drop)]
@@ -97,7 +90,7 @@ impl<'de> MyDeserialize<'de> for ErrPacket<'de> {
 
     type Size = AnyWidth;
 
-    /// What both sides can do.
+    /// The capabilities of both sides.
     type Ctx = CapabilityFlags;
 
     ghost form = { spec.err_packet.form };

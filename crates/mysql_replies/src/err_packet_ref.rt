@@ -14,7 +14,7 @@ use bitflags::Flags;
 use mysql_wire::{AnyWidth, CapabilityFlags, FaultOf, LeU16, MyDeserialize, ParseBuf, RawInt};
 use std::marker::Model;
 
-/// What the packet is.
+/// The content of the packet.
 #[derive(Drop)]
 enum Answer<'a> {
     Error(ServerErrorRef<'a>),
@@ -24,6 +24,13 @@ enum Answer<'a> {
 /// An error or a progress report whose texts stay in the packet: an [`ErrPacket`] for as long as the packet lives.
 ///
 /// It is read of the same bytes with the same faults, and in a clause it is that packet.
+///
+/// ```
+/// match packet.to_packet() {
+///     ErrPacket::Error(error) => Ok(error.into_owned(alloc)?),
+///     ErrPacket::Progress(_) => Err(Error::Unknown("a report in place of an error")),
+/// }
+/// ```
 #[derive(Drop)]
 pub struct ErrPacketRef<'a> {
     answer: Answer<'a>,
@@ -74,7 +81,7 @@ impl<'a> ErrPacketRef<'a> {
         }
     }
 
-    /// The packet in its other form, which borrows the texts still. It takes no memory.
+    /// Converts to an [`ErrPacket`], which still borrows the texts. It takes no memory.
     pub fn to_packet(&self) -> ErrPacket<'a>
         ensures value { result ≡ self.now }
     {
@@ -91,7 +98,7 @@ impl<'de> MyDeserialize<'de> for ErrPacketRef<'de> {
 
     type Size = AnyWidth;
 
-    /// What both sides can do.
+    /// The capabilities of both sides.
     type Ctx = CapabilityFlags;
 
     ghost form = { spec.err_packet.form };

@@ -23,12 +23,11 @@ use std::borrow::CowSlice;
 /// | 1 and more | `metadata`, a length-encoded string, under the flag alone |
 /// | 13 | the other fields of a [`Column`] |
 ///
-/// The metadata are attributes, [`ColumnAttribute`](crate::ColumnAttribute)s, one after another. They are kept as they are, so
-/// that what was read is written again as it was: [`attributes`](Self::attributes) gives them one by one, and the fault of
-/// one that is cut.
+/// The metadata are a list of [`ColumnAttribute`](crate::ColumnAttribute)s. Their bytes are kept, so that they are written as
+/// they were read: [`attributes`](Self::attributes) iterates over them, and returns the fault of an incomplete one.
 ///
-/// The faults are those of a [`Column`], and of a length-encoded string for the metadata. Reading copies the texts once the whole column
-/// is there, if one has any byte, and answers `Memory` where that is refused.
+/// The faults are those of a [`Column`], and of a length-encoded string for the metadata. Reading copies the texts once the
+/// whole column is there, unless all are empty; if that allocation fails, it returns `Memory`.
 #[derive(Clone, Debug, PartialEq, Eq)]
 pub struct ExtendedColumn {
     column: Column,
@@ -57,8 +56,8 @@ impl ExtendedColumn {
         }
     }
 
-    /// The column with metadata of these bytes, as it is sent where the flag is agreed to: attributes, one after another, or
-    /// none. Where the copy is refused, the column is given up; of no byte none is made.
+    /// Sets the metadata, which are sent if the flag is agreed on: a list of attributes, or nothing. If the allocation fails,
+    /// the column is dropped; an empty list takes no memory.
     pub fn with_metadata(self, alloc: Global, metadata: &[u8]) -> Result<Self, AllocError>
         ensures value { IfOk result (λ column. column ≡ spec.extended (spec.column_of self) (Some metadata.now)) }
         ensures no_memory { metadata.now ≡ [] → IsOk result }
@@ -120,7 +119,7 @@ impl ExtendedColumn {
         }
     }
 
-    /// The attributes in the metadata, one after another; none where there is no metadata.
+    /// Iterates over the attributes in the metadata, if there are metadata.
     pub fn attributes(&self, alloc: Global) -> ColumnAttributes<'_>
         ensures value { result ≡ spec.attribute_bytes (spec.metadata_of self.now) }
     {
@@ -145,7 +144,7 @@ impl<'de> MyDeserialize<'de> for ExtendedColumn {
 
     ghost takes_memory = { λ capabilities bytes. spec.reads_text ((spec.extended_column.form capabilities).reads bytes) };
 
-    /// What both sides can do of MariaDB's own.
+    /// The MariaDB capabilities of both sides.
     type Ctx = MariadbCapabilities;
 
     ghost form = { spec.extended_column.form };

@@ -27,6 +27,16 @@ use std::marker::Model;
 ///
 /// It is read from the same bytes as an [`ExtendedColumn`], with the same faults except `Memory`, and written as the same bytes. In a
 /// clause it is that column.
+///
+/// ```
+/// let column: ExtendedColumnRef<'_> = ParseBuf::new(alloc, payload).parse(agreed)?;
+/// let mut count: usize = 0;
+/// for attribute in column.attributes(alloc) {
+///     let _text = attribute?.text();
+///     count = count.saturating_add(1);
+/// }
+/// Ok(count)
+/// ```
 #[derive(Drop)]
 pub struct ExtendedColumnRef<'a> {
     column: ColumnRef<'a>,
@@ -64,7 +74,7 @@ impl<'a> ExtendedColumnRef<'a> {
         self.metadata
     }
 
-    /// The attributes in the metadata, one after another; none where there is no metadata.
+    /// Iterates over the attributes in the metadata, if there are metadata.
     #[inline]
     pub fn attributes(&self, alloc: Global) -> ColumnAttributes<'a>
         ensures value { result ≡ spec.attribute_bytes (spec.metadata_of self.now) }
@@ -152,13 +162,13 @@ impl Parts for ExtendedColumnRef<'_> {
     }
 }
 
-/// As an [`ExtendedColumn`], but for `Memory`: none is taken.
+/// Read like an [`ExtendedColumn`], but never `Memory`.
 impl<'de> MyDeserialize<'de> for ExtendedColumnRef<'de> {
     const SIZE: Option<usize> = None;
 
     type Size = AnyWidth;
 
-    /// What both sides can do of MariaDB's own.
+    /// The MariaDB capabilities of both sides.
     type Ctx = MariadbCapabilities;
 
     ghost form = { spec.extended_column.form };

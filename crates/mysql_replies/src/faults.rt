@@ -1,4 +1,4 @@
-//! What a reader answers where a constant field has another value.
+//! Errors for constant fields with another value.
 #![tactic(auto)]
 
 use mysql_wire::ConstFault;

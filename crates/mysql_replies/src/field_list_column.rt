@@ -1,4 +1,4 @@
-//! A column definition that answers `COM_FIELD_LIST`.
+//! The column definitions in the answer to `COM_FIELD_LIST`.
 #![tactic(auto, using(mysql_wire::proofs::Packets::packets), unfolding(crate::specs::FieldListColumn::field_list_column))]
 
 ghost use Rattle.std.specs.Prelude.{false, ◌≡◌, None, refl, option_map, MatchResult, Ok};
@@ -18,7 +18,7 @@ use std::marker::Model;
 /// The first byte of a default value that is NULL.
 const NULL: u8 = 0xfb;
 
-/// A column definition that answers `COM_FIELD_LIST`, whose texts stay in the packet: a column with its default value.
+/// A column definition in the answer to `COM_FIELD_LIST`: a column with its default value. The texts borrow from the packet.
 ///
 /// | Bytes | Field |
 /// |---|---|
@@ -28,7 +28,12 @@ const NULL: u8 = 0xfb;
 /// The server writes the default value as a row of text has it (`Item::send`, under `SEND_DEFAULTS` in `send_result_set_metadata`). A
 /// column without a default value has NULL. The definitions of results and of prepared statements end without it.
 ///
-/// The faults are those of the column, and of a length-encoded string; missing bytes are `UnexpectedEof`. No memory is taken.
+/// The faults are those of the column, and of a length-encoded string; missing bytes are `UnexpectedEof`. It takes no memory.
+///
+/// ```
+/// let column: FieldListColumn<'_> = ParseBuf::new(alloc, payload).parse(agreed)?;
+/// Ok(column.default_value())
+/// ```
 #[derive(Drop)]
 pub struct FieldListColumn<'a> {
     column: ExtendedColumnRef<'a>,
@@ -70,7 +75,7 @@ impl<'a> FieldListColumn<'a> {
     }
 }
 
-/// Reads a length-encoded string where it lies, or NULL.
+/// Reads a length-encoded string, which borrows from the packet, or NULL.
 #[inline]
 #[tactic(auto, using(mysql_wire::proofs::Tails::tails), unfolding(mysql_wire::specs::Form::bytes))]
 fn read_nullable<'s, 'de>(buf: &mut ParseBuf<'de>) -> Result<Option<&'de [u8]>, FaultOf<'s>>
@@ -89,7 +94,7 @@ impl<'de> MyDeserialize<'de> for FieldListColumn<'de> {
 
     type Size = AnyWidth;
 
-    /// What both sides can do of MariaDB's own.
+    /// The MariaDB capabilities of both sides.
     type Ctx = MariadbCapabilities;
 
     ghost form = { spec.field_list_column.form };

@@ -13,7 +13,7 @@ use std::alloc::{AllocError, Global};
 use std::fmt;
 
 /// An error that a server sends in place of the greeting, as 'Too many connections' (`Protocol::ERR_Packet`): no flags are
-/// agreed yet, and MySQL sends an SQL state, MariaDB none.
+/// agreed yet, and MySQL sends an SQL state (`net_send_error` in `sql/protocol_classic.cc`), MariaDB none.
 ///
 /// | Bytes | Field |
 /// |---|---|
@@ -24,6 +24,11 @@ use std::fmt;
 ///
 /// Fewer than three bytes are `UnexpectedEof`, another first byte is `InvalidData`. A message without a state that begins with
 /// `#` and has five bytes more is read as one with a state.
+///
+/// ```
+/// let packet: GreetingErrorRef<'_> = ParseBuf::new(alloc, payload).parse(())?;
+/// Ok(packet.server_error().message())
+/// ```
 #[derive(Clone, Debug, PartialEq, Drop)]
 pub struct GreetingError<'a> {
     error: ServerError<'a>,
@@ -54,7 +59,7 @@ impl<'a> GreetingError<'a> {
         self.error
     }
 
-    /// The same, on memory of its own. An empty message takes none.
+    /// Copies the message, so that the error borrows nothing. An empty message needs no allocation.
     pub fn into_owned(self, alloc: Global) -> Result<GreetingError<'static>, AllocError>
         ensures value { IfOk result (λ owned. owned ≡ self.entry) }
         ensures no_memory { message (spec.error_of_greeting self.entry) ≡ [] → IsOk result }

@@ -18,6 +18,11 @@ use std::marker::Model;
 /// An error in place of the greeting whose texts stay in the packet: a [`GreetingError`] for as long as the packet lives.
 ///
 /// It is read of the same bytes with the same faults, and in a clause it is that packet.
+///
+/// ```
+/// let packet: GreetingErrorRef<'_> = ParseBuf::new(alloc, payload).parse(())?;
+/// Ok(packet.server_error().message())
+/// ```
 #[derive(Drop)]
 pub struct GreetingErrorRef<'a>(ServerErrorRef<'a>);
 
@@ -36,7 +41,7 @@ impl<'a> GreetingErrorRef<'a> {
         &self.0
     }
 
-    /// The packet in its other form, which borrows the message still. It takes no memory.
+    /// Converts to a [`GreetingError`], which still borrows the message. It takes no memory.
     pub fn to_packet(&self) -> GreetingError<'a>
         ensures value { result ≡ self.now }
     {

@@ -43,22 +43,22 @@ pub mod values;
 use mysql_wire::MyDeserialize;
 use std::hash::Hash;
 
-/// What is written of a request for a local file is read again, where nothing follows.
+/// A request for a local file is read back if nothing follows.
 #[tactic(auto, using(mysql_wire::proofs::Packets::packets, crate::proofs::PlainFits::plain))]
 pub fn local_infile_round_trips()
     ensures spelled { (p : LocalInfilePacket) (rest : List ℕ) → local_infile.fits tt p rest → (local_infile.form tt).Spells p (local_infile.bytes p ++ rest) rest }
     ensures plain { (p : LocalInfilePacket) → (local_infile.form tt).Spells p (local_infile.bytes p) [] }
 {}
 
-/// What is written of a count of columns is read again, whatever follows: where a byte says whether definitions follow just
-/// where the flags ask for it.
+/// A count of columns is read back, whatever bytes follow: where a byte says whether definitions follow just where the flags
+/// ask for it.
 #[tactic(auto, using(mysql_wire::proofs::Packets::packets, crate::proofs::PlainFits::plain))]
 pub fn column_count_round_trips()
     ensures spelled { (capabilities : SessionCapabilities) (c : ColumnCount) (rest : List ℕ) → column_count.fits capabilities c rest → (column_count.form capabilities).Spells c (column_count.bytes c ++ rest) rest }
     ensures plain { (capabilities : SessionCapabilities) (c : ColumnCount) (rest : List ℕ) → ColumnCountFits capabilities c → (column_count.form capabilities).Spells c (column_count.bytes c ++ rest) rest }
 {}
 
-/// What is written of an SQL state is read again, whatever follows.
+/// An SQL state is read back, whatever bytes follow.
 #[tactic(auto, using(mysql_wire::proofs::Packets::packets, crate::proofs::PlainFits::plain))]
 pub fn sql_state_round_trips()
     ensures spelled { (s : SqlState) (rest : List ℕ) → sql_state.fits tt s rest → (sql_state.form tt).Spells s (sql_state.bytes s ++ rest) rest }
@@ -70,15 +70,14 @@ pub fn equal_sql_states_hash_equally()
     ensures hash { (x y : SqlState) → IsTrue (⟦<crate::sql_state::SqlState as PartialEq>⟧.eq x y) → ⟦<crate::sql_state::SqlState as Hash>⟧.hash_input x ≡ ⟦<crate::sql_state::SqlState as Hash>⟧.hash_input y }
 {}
 
-/// What is written of an error is read again, where nothing follows and the reader is passed the
-/// code, and whether there is a state.
+/// An error is read back if nothing follows and the reader is passed the code, and whether there is a state.
 #[tactic(auto, using(mysql_wire::proofs::Packets::packets, crate::proofs::PlainFits::plain))]
 pub fn server_error_round_trips()
     ensures spelled { (context : ℕ × Bool) (e : ServerError) (rest : List ℕ) → server_error.fits context e rest → (server_error.form context).Spells e (server_error.bytes e ++ rest) rest }
     ensures plain { (has_state : Bool) (e : ServerError) → StateFits has_state (sql_state_of e) → (server_error.form (error_code e, has_state)).Spells e (server_error.bytes e) [] }
 {}
 
-/// What is written of an error in place of the greeting is read again, where nothing follows.
+/// An error in place of the greeting is read back if nothing follows.
 #[tactic(auto, using(mysql_wire::proofs::Packets::packets, crate::proofs::GreetingErrors::greeting_errors))]
 pub fn greeting_error_round_trips()
     ensures spelled { (g : GreetingError) (rest : List ℕ) → greeting_error.fits tt g rest → (greeting_error.form tt).Spells g (greeting_error.bytes g ++ rest) rest }
@@ -91,38 +90,38 @@ pub fn equal_greeting_errors_are_the_same()
     ensures same { (x y : GreetingError) → IsTrue (⟦<crate::GreetingError<'static> as PartialEq>⟧.eq x y) ↔ (x ≡ y) }
 {}
 
-/// What is written of a progress report is read again, whatever follows.
+/// A progress report is read back, whatever bytes follow.
 #[tactic(auto, using(mysql_wire::proofs::Packets::packets, crate::proofs::PlainFits::plain))]
 pub fn progress_report_round_trips()
     ensures spelled { (r : ProgressReport) (rest : List ℕ) → progress_report.fits tt r rest → (progress_report.form tt).Spells r (progress_report.bytes r ++ rest) rest }
     ensures plain { (r : ProgressReport) (rest : List ℕ) → ProgressReportFits r → (progress_report.form tt).Spells r (progress_report.bytes r ++ rest) rest }
 {}
 
-/// What is written of an error or a progress report is read again.
+/// An error or a progress report is read back.
 pub fn err_packet_round_trips()
     ensures spelled { (capabilities : CapabilityFlags) (p : ErrPacket) (rest : List ℕ) → err_packet.fits capabilities p rest → (err_packet.form capabilities).Spells p (err_packet.bytes p ++ rest) rest }
 {}
 
-/// What makes an error or a progress report be read again, in plain words.
+/// The condition, in plain words, under which an error or a progress report is read back.
 #[tactic(auto, using(crate::proofs::ErrPacketFits::err_packets))]
 pub fn err_packet_fits()
     ensures fits { (capabilities : CapabilityFlags) (p : ErrPacket) (rest : List ℕ) → ErrPacketFits capabilities p rest → err_packet.fits capabilities p rest }
 {}
 
-/// What is written of an entry of a state string is read again, whatever follows.
+/// An entry of a state string is read back, whatever bytes follow.
 #[tactic(auto, using(mysql_wire::proofs::Packets::packets, crate::proofs::PlainFits::plain))]
 pub fn session_state_info_round_trips()
     ensures spelled { (i : SessionStateInfo) (rest : List ℕ) → session_state_info.fits tt i rest → (session_state_info.form tt).Spells i (session_state_info.bytes i ++ rest) rest }
     ensures plain { (i : SessionStateInfo) (rest : List ℕ) → length (data_bytes i) < 2 ^ 64 → (session_state_info.form tt).Spells i (session_state_info.bytes i ++ rest) rest }
 {}
 
-/// What a change is read as in the written layout, it is read as in the layouts that servers send, but for GTIDs.
+/// What a change is read as in the written layout, it is also read as in the layouts that servers send, except for GTIDs.
 #[tactic(auto, using(crate::proofs::AsSent::as_sent))]
 pub fn session_state_change_as_sent()
     ensures value { (i : SessionStateInfo) (change : SessionStateChange) → is_gtids (data_type i) ≡ false → decoded i ≡ Ok (change, []) → decoded_as_sent i ≡ Ok (change, []) }
 {}
 
-/// What is sent of an OK packet is read again as its kind, under the same flags, where nothing follows.
+/// An OK packet is read back as its kind, under the same flags, where nothing follows.
 pub fn ok_packet_round_trips()
     ensures common { (c : CapabilityFlags) (p : OkPacket) → OkPacketFits c p → (ok_packet {T = CommonOkPacket} 0 (common_ok_body c)).Spells (deserializer_of p) (common_bytes c p) [] }
     ensures terminator { (c : CapabilityFlags) (p : OkPacket) → TerminatorFits c p → (ok_packet {T = ResultSetTerminator} 0xfe (terminator_body c)).Spells (deserializer_of p) (terminator_bytes c p) [] }
@@ -130,19 +129,19 @@ pub fn ok_packet_round_trips()
     ensures stream_end { (c : CapabilityFlags) (p : OkPacket) → OldEofFits p → (ok_packet {T = NetworkStreamTerminator} 0xfe (old_eof_body c)).Spells (deserializer_of p) (eof_bytes p) [] }
 {}
 
-/// What is sent of a change is decoded again.
+/// A change that is sent is decoded again.
 #[tactic(auto, using(crate::proofs::SentChangeAgain::sent_changes))]
 pub fn sent_change_round_trips()
     ensures decoded { (c : SessionStateChange) → SentIsShort c → IfSome (sent_info c) (λ i. decoded_as_sent i ≡ Ok (c, [])) }
 {}
 
-/// A state string spells at most one list of entries.
+/// A state string has at most one list of entries.
 #[tactic(auto, using(mysql_wire::specs::Once::once))]
 pub fn state_string_once()
     ensures value { (xs ys : List SessionStateInfo) (bytes : List ℕ) → state_string.Spells xs bytes [] → state_string.Spells ys bytes [] → xs ≡ ys }
 {}
 
-/// What is written of a column is read again, whatever follows.
+/// A column is read back, whatever bytes follow.
 #[tactic(auto, using(mysql_wire::proofs::Packets::packets, crate::proofs::PlainFits::plain))]
 pub fn column_round_trips()
     ensures spelled { (c : Column) (rest : List ℕ) → column.fits tt c rest → (column.form tt).Spells c (column.bytes c ++ rest) rest }

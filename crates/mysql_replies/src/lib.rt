@@ -1,5 +1,4 @@
-//! What a server answers: that a statement is done, errors, progress reports, requests for a local
-//! file, and the columns of a result.
+//! A server's answers: OK, errors, progress reports, requests for a local file, and the columns of a result.
 #![tactic(auto)]
 
 mod column;

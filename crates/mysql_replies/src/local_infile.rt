@@ -21,6 +21,11 @@ pub type LocalInfileHeader = ConstU8<InvalidLocalInfileHeader, 0xfb>;
 /// `fb`, and the file's name to the end of the packet.
 ///
 /// A packet that begins with another byte is `InvalidData`, an empty one `UnexpectedEof`.
+///
+/// ```
+/// let asked: LocalInfilePacket<'_> = ParseBuf::new(alloc, payload).parse(())?;
+/// Ok(asked.file_name_ref() == name.as_bytes())
+/// ```
 #[derive(Clone, Debug, PartialEq, Eq, Drop)]
 pub struct LocalInfilePacket<'a> {
     header: LocalInfileHeader,
@@ -47,14 +52,14 @@ impl<'a> LocalInfilePacket<'a> {
         self.file_name.as_bytes()
     }
 
-    /// The file's name as text, with U+FFFD for what is not UTF-8. UTF-8 is borrowed.
+    /// The file's name as text, with U+FFFD for invalid UTF-8. Valid UTF-8 is borrowed.
     pub fn file_name_str(&self, alloc: Global) -> Result<CowStr<'_>, AllocError>
         ensures text { GivesText (infile.file_name self.now) result }
     {
         self.file_name.as_str(alloc)
     }
 
-    /// The same request, on memory of its own. An empty name takes none.
+    /// Copies the file name, so that the request borrows nothing. An empty name needs no allocation.
     pub fn into_owned(self, alloc: Global) -> Result<LocalInfilePacket<'static>, AllocError>
         ensures value { IfOk result (λ owned. owned ≡ self.entry) }
         ensures no_memory { infile.file_name self.entry ≡ [] → IsOk result }

@@ -1,4 +1,4 @@
-//! The request for a file of the client's, where it lies.
+//! Borrowed requests for a local file.
 #![tactic(auto, using(mysql_wire::proofs::Packets::packets), unfolding(crate::specs::LocalInfile::local_infile))]
 
 ghost use Rattle.std.specs.Prelude.{◌≡◌, None, refl};
@@ -15,6 +15,11 @@ use std::marker::Model;
 /// packet lives.
 ///
 /// It is read of the same bytes with the same faults, and in a clause it is that request.
+///
+/// ```
+/// let asked: LocalInfilePacket<'_> = ParseBuf::new(alloc, payload).parse(())?;
+/// Ok(asked.file_name_ref() == name.as_bytes())
+/// ```
 #[derive(Drop)]
 pub struct LocalInfilePacketRef<'a> {
     file_name: &'a [u8],
@@ -35,7 +40,7 @@ impl<'a> LocalInfilePacketRef<'a> {
         self.file_name
     }
 
-    /// The request in its other form, which borrows the name still. It takes no memory.
+    /// Converts to a [`LocalInfilePacket`], which still borrows the name. It takes no memory.
     #[inline]
     pub fn to_packet(&self) -> LocalInfilePacket<'a>
         ensures value { result ≡ self.now }

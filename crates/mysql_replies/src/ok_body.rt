@@ -1,4 +1,4 @@
-//! The bodies of OK packets where the texts stay in the packet, and how they end.
+//! The bodies of OK packets where the texts borrow from the packet, and how they end.
 
 ghost use Rattle.std.specs.Prelude.{false, ◌≡◌, [], OnErr};
 ghost use Rattle.mysql_wire.specs.Reading.{Answers};
@@ -37,7 +37,7 @@ impl<'a> Model for OkPacketBodyRef<'a> {
 }
 
 impl<'a> OkPacketBodyRef<'a> {
-    /// The body in its other form, which borrows the texts still. It takes no memory.
+    /// Converts to an [`OkPacketBody`], which still borrows the texts. It takes no memory.
     #[inline(always)]
     pub fn to_body(&self) -> OkPacketBody<'a>
         ensures value { result ≡ self.now }
@@ -56,6 +56,9 @@ impl<'a> OkPacketBodyRef<'a> {
 
 /// The end of an OK packet: an info and the session's changes, each empty where it is not sent. In a clause it is an
 /// `OkTail`.
+///
+/// Servers send the info length-encoded with and without CLIENT_SESSION_TRACK (`net_send_ok` in MySQL's
+/// `sql/protocol_classic.cc`), where the page has `string<EOF>`.
 #[derive(Drop)]
 struct OkTailRef<'a> {
     info: ParseBuf<'a>,

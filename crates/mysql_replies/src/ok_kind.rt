@@ -11,18 +11,18 @@ use mysql_wire::{
     CapabilityFlags, Const, FaultOf, LeU16, LenEnc, ParseBuf, RawBytes, RawInt, StatusFlags,
 };
 
-/// The body of an OK packet: what stands after its header, as its kind reads it.
+/// The body of an OK packet: what follows the header, in the layout of its kind.
 ///
-/// The kinds' `parse_body` make it, and [`OkPacket`](crate::OkPacket) is made of it.
+/// `parse_body` of each kind returns it, and an [`OkPacket`](crate::OkPacket) is created from it.
 #[derive(Clone, Debug, PartialEq, Eq, Drop)]
 pub struct OkPacketBody<'a> {
-    /// How many rows the statement changed.
+    /// The number of rows that the statement changed.
     pub(crate) affected_rows: u64,
     /// The number that the last inserted row got, or 0.
     pub(crate) last_insert_id: u64,
     /// The state of the server.
     pub(crate) status_flags: StatusFlags,
-    /// How many warnings there are.
+    /// The number of warnings.
     pub(crate) warnings: u16,
     /// A text for people, or nothing.
     pub(crate) info: RawBytes<'a, LenEnc>,
@@ -30,7 +30,7 @@ pub struct OkPacketBody<'a> {
     pub(crate) session_state_info: RawBytes<'a, LenEnc>,
 }
 
-/// A kind of OK packet: its header, and how its body is spelled.
+/// A kind of OK packet: its header, and the layout of its body.
 ///
 /// It is open: a kind of your own has a header of its own, and builds on the body of one of the
 /// four kinds here.
@@ -45,7 +45,7 @@ pub trait OkPacketKind {
     /// The first byte of the packet.
     const HEADER: u8;
 
-    /// How the body is spelled, for what both sides can do.
+    /// The grammar of the body, under the capabilities of both sides.
     ghost body: { flags.CapabilityFlags → Form declared.OkPacketBody };
 
     /// Reads the body after the header. It takes no memory.
@@ -57,7 +57,7 @@ pub trait OkPacketKind {
         ensures tail { OnErr result (IsTail buf.new buf.old) };
 }
 
-/// A kind of OK packet whose body is read where it lies. It is open, as [`OkPacketKind`] is.
+/// A kind of OK packet whose body can be borrowed. Users may implement it, like [`OkPacketKind`].
 pub trait OkPacketRefKind: OkPacketKind {
     ghost use Rattle.std.specs.Prelude.{false, OnErr};
     ghost use Rattle.mysql_wire.specs.Reading.{Answers, IsTail};
@@ -71,7 +71,7 @@ pub trait OkPacketRefKind: OkPacketKind {
         ensures tail { OnErr result (IsTail buf.new buf.old) };
 }
 
-/// One of the protocol's kinds, whose bodies are read where they lie alone.
+/// One of the protocol's kinds: their bodies are always borrowed.
 pub trait ProtocolKind {
     ghost use Rattle.std.specs.Prelude.{ℕ, false, OnErr};
     ghost use Rattle.mysql_wire.specs.Flags as flags;
@@ -84,7 +84,7 @@ pub trait ProtocolKind {
     /// The first byte of the packet.
     const FIRST: u8;
 
-    /// How the body is spelled, for what both sides can do.
+    /// The grammar of the body, under the capabilities of both sides.
     ghost layout: { flags.CapabilityFlags → Form declared.OkPacketBody };
 
     /// Reads the body after the header. It takes no memory.
@@ -125,6 +125,12 @@ impl<T: ProtocolKind> OkPacketRefKind for T {
 /// The OK packet that ends no result set (`Protocol::OK_Packet`): header `00`, the affected rows
 /// and the insert id, each a length-encoded number, two bytes of status flags and two of warnings,
 /// the low ones first, and the tail.
+///
+/// ```
+/// let mut buf = ParseBuf::new(alloc, payload);
+/// let ok: OkPacketRefDeserializer<'_, CommonOkPacket> = buf.parse(capabilities)?;
+/// Ok(ok.into_inner().affected_rows())
+/// ```
 #[derive(Clone, Copy, Debug, PartialEq, Eq, Hash)]
 pub struct CommonOkPacket;
 
@@ -149,8 +155,16 @@ impl ProtocolKind for CommonOkPacket {
     }
 }
 
-/// The OK packet that ends a result set, where the old end packet is deprecated: header `fe`. Its
-/// rows and insert id are read, and answered as 0.
+/// The OK packet that ends a result set if the old end packet is deprecated: header `fe`. Its rows and insert id are read, and
+/// returned as 0.
+///
+/// ```
+/// let end: OkPacketRefDeserializer<'_, ResultSetTerminator> = ParseBuf::new(alloc, payload).parse(
+///     agreed,
+/// )?;
+/// let status = end.into_inner().status_flags();
+/// Ok(status.contains(StatusFlags::SERVER_MORE_RESULTS_EXISTS))
+/// ```
 #[derive(Clone, Copy, Debug, PartialEq, Eq, Hash)]
 pub struct ResultSetTerminator;
 
@@ -176,6 +190,13 @@ impl ProtocolKind for ResultSetTerminator {
 
 /// The old end of a result (`Protocol::EOF_Packet`): header `fe`, then two bytes of warnings and
 /// two of status flags, the low ones first.
+///
+/// ```
+/// let end: OkPacketRefDeserializer<'_, OldEofPacket> = ParseBuf::new(alloc, payload).parse(
+///     agreed,
+/// )?;
+/// Ok(end.into_inner().warnings())
+/// ```
 #[derive(Clone, Copy, Debug, PartialEq, Eq, Hash)]
 pub struct OldEofPacket;
 

@@ -22,6 +22,14 @@ use std::borrow::{CowSlice, CowStr};
 use std::marker::PhantomData;
 
 /// An OK packet of any kind. An insert id of 0, an empty info and an empty state are absent.
+///
+/// ```
+/// let mut buf = ParseBuf::new(alloc, payload);
+/// let flags = CapabilityFlags::CLIENT_SESSION_TRACK;
+/// let ok: OkPacketDeserializer<'_, CommonOkPacket> = buf.parse(flags)?;
+/// let ok: OkPacket<'_> = ok.into_inner();
+/// let changes = ok.session_state_info(alloc)?; // every change of the session, or the first fault
+/// ```
 #[derive(Clone, Debug, PartialEq, Eq)]
 pub struct OkPacket<'a> {
     affected_rows: u64,
@@ -96,7 +104,7 @@ impl<'a> OkPacket<'a> {
         }
     }
 
-    /// The same packet with this info, a text for people. An empty one is absent.
+    /// Sets the info, a text for people. An empty one is absent.
     pub fn with_info(self, info: CowSlice<'a, u8>) -> Self
         ensures value { result ≡ record self.entry { info = spec.unless_empty (cow_slice_items info.entry) } }
     {
@@ -105,7 +113,7 @@ impl<'a> OkPacket<'a> {
         packet
     }
 
-    /// The same packet with this state string: entries ([`SessionStateInfo`]), written one after another. An empty one is
+    /// Sets the state string: entries ([`SessionStateInfo`]), written one after another. An empty one is
     /// absent.
     ///
     /// It is sent where changes are tracked (`CLIENT_SESSION_TRACK`), and the status has `SERVER_SESSION_STATE_CHANGED`.
@@ -136,7 +144,7 @@ impl<'a> OkPacket<'a> {
         }
     }
 
-    /// How many rows the statement changed.
+    /// The number of rows that the statement changed.
     #[inline]
     pub fn affected_rows(&self) -> u64
         ensures value { result ≡ spec.affected_rows self.now }
@@ -160,7 +168,7 @@ impl<'a> OkPacket<'a> {
         self.status_flags
     }
 
-    /// How many warnings there are.
+    /// The number of warnings.
     #[inline]
     pub fn warnings(&self) -> u16
         ensures value { result ≡ spec.warnings self.now }
@@ -168,7 +176,7 @@ impl<'a> OkPacket<'a> {
         self.warnings
     }
 
-    /// The bytes of the info, where there is one.
+    /// The bytes of the info, if it isn't empty.
     pub fn info_ref(&self) -> Option<&[u8]>
         ensures value { option_map (λ bytes. bytes.now) result ≡ spec.info self.now }
     {
@@ -178,7 +186,7 @@ impl<'a> OkPacket<'a> {
         }
     }
 
-    /// The info as text, with U+FFFD for what is not UTF-8. UTF-8 is borrowed.
+    /// The info as text, with U+FFFD for invalid UTF-8. Valid UTF-8 is borrowed.
     pub fn info_str(&self, alloc: Global) -> Result<Option<CowStr<'_>>, AllocError>
         ensures text { IfOk result (λ text. option_map cow_str_bytes text ≡ option_map lossy_text (spec.info self.now)) }
         ensures utf8 { OptionBorrowsUtf8 (spec.info self.now) result }
@@ -189,7 +197,7 @@ impl<'a> OkPacket<'a> {
         }
     }
 
-    /// The bytes of the state string, where there is one.
+    /// The bytes of the state string, if it isn't empty.
     pub fn session_state_info_ref(&self) -> Option<&[u8]>
         ensures value { option_map (λ bytes. bytes.now) result ≡ spec.session_state self.now }
     {
@@ -199,9 +207,9 @@ impl<'a> OkPacket<'a> {
         }
     }
 
-    /// The entries that the whole state string spells, none where there is no state.
+    /// Returns the entries of the state string, or an empty list if there is none.
     ///
-    /// The fault is the first one of an entry. Without a state, or before a first entry is read, no memory is taken.
+    /// The fault is that of the first faulty entry. Without a state, or before the first entry is read, no memory is taken.
     #[tactic(auto, using(crate::proofs::StateString::no_entries))]
     pub fn session_state_info(&self, alloc: Global) -> Result<Vec<SessionStateInfo<'_>>, Fault>
         ensures value { Answers (begins_with_entry (spec.state_bytes self.now)) (items_of result) [] (state_string.reads (spec.state_bytes self.now)) }
@@ -217,11 +225,10 @@ impl<'a> OkPacket<'a> {
         }
     }
 
-    /// The changes that the state string spells, one after another, in the layouts that servers send; none where there is
-    /// no state.
+    /// Iterates over the changes in the state string, in the layouts that servers send.
     ///
-    /// No list is made: each change borrows from the packet, or is its own fault, after which the next ones are given.
-    /// Memory is taken for a list of system variables alone.
+    /// Each item borrows from the packet, or is that change's fault, after which the next changes follow. Only a list of system
+    /// variables takes memory.
     pub fn session_state_changes(&self, alloc: Global) -> SessionStateChanges<'_>
         ensures value { result ≡ spec.state_bytes self.now }
     {
@@ -232,7 +239,7 @@ impl<'a> OkPacket<'a> {
         SessionStateChanges::new(ParseBuf::new(alloc, bytes))
     }
 
-    /// The same packet, on memory of its own. Without info and state it takes none.
+    /// Copies info and state, so that the packet borrows nothing. Without both it needs no allocation.
     pub fn into_owned(self, alloc: Global) -> Result<OkPacket<'static>, AllocError>
         ensures value { IfOk result (λ owned. owned ≡ self.entry) }
         ensures no_memory { spec.info_bytes self.entry ≡ [] → spec.state_bytes self.entry ≡ [] → IsOk result }
@@ -261,7 +268,7 @@ impl<'a> TryFrom<OkPacketBody<'a>> for OkPacket<'a> {
 
     ghost try_from_gives = { λ body r. r ≡ Ok (spec.packet_of body) };
 
-    /// The packet with this body. It is never refused.
+    /// Creates the packet from its body. It can't fail.
     fn try_from(body: OkPacketBody<'a>) -> Result<OkPacket<'a>, Fault> {
         Ok(OkPacket::from_body(body))
     }
@@ -282,7 +289,7 @@ pub(crate) fn read_header<'s, T: OkPacketKind>(buf: &mut ParseBuf<'_>) -> Result
 
 /// An OK packet of the kind `T`: the header of `T`, and its body.
 ///
-/// No byte is `UnexpectedEof`, another header is `InvalidData`; else the fault is that of the body.
+/// An empty payload is `UnexpectedEof`, another header is `InvalidData`; otherwise the fault is that of the body.
 ///
 /// ```
 /// let ok: OkPacketDeserializer<'_, CommonOkPacket> = buf.parse(flags)?;
@@ -316,7 +323,7 @@ impl<'de, T: OkPacketKind> MyDeserialize<'de> for OkPacketDeserializer<'de, T> {
 
     type Size = AnyWidth;
 
-    /// What both sides can do.
+    /// The capabilities of both sides.
     type Ctx = CapabilityFlags;
 
     ghost form = { λ capabilities. spec.ok_packet T.HEADER (T.body capabilities) };

@@ -16,6 +16,12 @@ use std::marker::{Model, PhantomData};
 /// An OK packet of any kind whose texts stay in the packet: an [`OkPacket`] for as long as the packet lives.
 ///
 /// An insert id of 0, an empty info and an empty state are absent. In a clause it is that packet.
+///
+/// ```
+/// let mut buf = ParseBuf::new(alloc, payload);
+/// let ok: OkPacketRefDeserializer<'_, CommonOkPacket> = buf.parse(capabilities)?;
+/// Ok(ok.into_inner().affected_rows())
+/// ```
 #[derive(Drop)]
 pub struct OkPacketRef<'a> {
     body: OkPacketBodyRef<'a>,
@@ -38,7 +44,7 @@ fn unless_empty<'a>(content: &ParseBuf<'a>) -> Option<&'a [u8]>
 }
 
 impl<'a> OkPacketRef<'a> {
-    /// How many rows the statement changed.
+    /// The number of rows that the statement changed.
     #[inline]
     pub fn affected_rows(&self) -> u64
         ensures value { result ≡ spec.affected_rows self.now }
@@ -66,7 +72,7 @@ impl<'a> OkPacketRef<'a> {
         self.body.status_flags
     }
 
-    /// How many warnings there are.
+    /// The number of warnings.
     #[inline]
     pub fn warnings(&self) -> u16
         ensures value { result ≡ spec.warnings self.now }
@@ -74,7 +80,7 @@ impl<'a> OkPacketRef<'a> {
         self.body.warnings
     }
 
-    /// The bytes of the info, where there is one.
+    /// The bytes of the info, if it isn't empty.
     #[inline]
     pub fn info(&self) -> Option<&'a [u8]>
         ensures value { option_map (λ bytes. bytes.now) result ≡ spec.info self.now }
@@ -82,7 +88,7 @@ impl<'a> OkPacketRef<'a> {
         unless_empty(&self.body.info)
     }
 
-    /// The bytes of the state string, where there is one.
+    /// The bytes of the state string, if it isn't empty.
     #[inline]
     pub fn session_state_info(&self) -> Option<&'a [u8]>
         ensures value { option_map (λ bytes. bytes.now) result ≡ spec.session_state self.now }
@@ -90,8 +96,8 @@ impl<'a> OkPacketRef<'a> {
         unless_empty(&self.body.session_state_info)
     }
 
-    /// The changes that the state string spells, one after another, in the layouts that servers send; none where there is
-    /// no state. Each borrows for as long as the packet lives, and none takes memory.
+    /// Iterates over the changes in the state string, in the layouts that servers send. Each borrows from the packet, and none
+    /// takes memory.
     #[inline]
     pub fn session_state_changes(&self) -> SessionStateChangesRef<'a>
         ensures value { result ≡ spec.state_bytes self.now }
@@ -99,7 +105,7 @@ impl<'a> OkPacketRef<'a> {
         SessionStateChangesRef::new(self.body.session_state_info.rest())
     }
 
-    /// The packet in its other form, which borrows the texts still. It takes no memory.
+    /// Converts to an [`OkPacket`], which still borrows the texts. It takes no memory.
     #[inline]
     pub fn to_ok_packet(&self) -> OkPacket<'a>
         ensures value { result ≡ self.now }
@@ -110,8 +116,14 @@ impl<'a> OkPacketRef<'a> {
 
 /// An OK packet of the kind `T` whose texts stay in the packet: the header of `T`, and its body.
 ///
-/// It is read of the same bytes as an [`OkPacketDeserializer`](crate::OkPacketDeserializer), with the same faults, and in a
-/// clause it is that one.
+/// It is read from the same bytes as an [`OkPacketDeserializer`](crate::OkPacketDeserializer), with the same faults, and in a
+/// clause it is that packet.
+///
+/// ```
+/// let mut buf = ParseBuf::new(alloc, payload);
+/// let ok: OkPacketRefDeserializer<'_, CommonOkPacket> = buf.parse(capabilities)?;
+/// Ok(ok.into_inner().affected_rows())
+/// ```
 #[derive(Drop)]
 pub struct OkPacketRefDeserializer<'de, T> {
     packet: OkPacketRef<'de>,
@@ -139,7 +151,7 @@ impl<'de, T: OkPacketRefKind> MyDeserialize<'de> for OkPacketRefDeserializer<'de
 
     type Size = AnyWidth;
 
-    /// What both sides can do.
+    /// The capabilities of both sides.
     type Ctx = CapabilityFlags;
 
     ghost form = { λ capabilities. spec.ok_packet T.HEADER (T.body capabilities) };

@@ -19,7 +19,7 @@ use std::marker::{Model, PhantomData};
 /// written by `put` of the kind whose body it has.
 ///
 /// ```
-/// impl OkPacketLayout for Mine {
+/// impl OkPacketLayout for Seventh {
 ///     ghost bytes = { common_bytes_with };
 ///
 ///     fn put<S: Sink>(header: u8, flags: CapabilityFlags, packet: &OkPacket<'_>, sink: &mut S) {
@@ -44,7 +44,7 @@ pub trait OkPacketLayout: OkPacketKind {
 /// An OK packet that is written as a packet of the kind `T`, for what both sides can do: the other direction of
 /// [`OkPacketDeserializer`](crate::OkPacketDeserializer).
 ///
-/// | Bytes | Field, but for the old end |
+/// | Bytes | Field, except for the old end |
 /// |---|---|
 /// | 1 | the header of the kind: `00`, or `fe` at the end of a result set |
 /// | length-encoded | affected rows; 0 at the end of a result set |
@@ -54,8 +54,8 @@ pub trait OkPacketLayout: OkPacketKind {
 /// | length-encoded | the info: where there is one, or the state follows |
 /// | length-encoded | the state: where `CLIENT_SESSION_TRACK` is agreed and the status has `SERVER_SESSION_STATE_CHANGED` |
 ///
-/// The old end (`Protocol::EOF_Packet`) is `fe`, the warnings and the status. What a kind or the flags leave no place for is
-/// not written. Each flag word and each packet is written.
+/// The old end (`Protocol::EOF_Packet`) is `fe`, the warnings and the status. Fields that the kind or the flags don't have
+/// aren't written. Any flag word and any packet can be written.
 ///
 /// ```
 /// let sent = OkPacketSerializer::<CommonOkPacket>::new(&packet, capabilities);
@@ -121,7 +121,7 @@ fn id_or_zero(id: Option<u64>) -> u64
     }
 }
 
-/// A header, these rows and this insert id, and all else of the packet.
+/// Writes a header, this row count and insert id, and the other fields of the packet.
 #[inline(always)]
 fn put_all<S: Sink>(
     header: u8,

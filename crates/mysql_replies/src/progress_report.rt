@@ -17,9 +17,17 @@ use std::fmt;
 
 /// How far a MariaDB server is with a long statement, sent in an error packet.
 ///
-/// Six bytes: a count of strings (ignored, written as 1), the stage, the last stage, and the
-/// progress in thousandths of a percent (three bytes, little-endian). Then the stage's text,
-/// length-encoded.
+/// Six bytes: a count of strings (ignored by clients: `cli_report_progress` in libmariadb; written as 1), the stage, the last
+/// stage, and the progress in thousandths of a percent (three bytes, little-endian). Then the stage's text, length-encoded.
+///
+/// ```
+/// let packet: ErrPacketRef<'_> = ParseBuf::new(alloc, payload).parse(agreed)?;
+/// if packet.is_error() {
+///     return Ok(None);
+/// }
+/// let report = packet.progress_report();
+/// Ok(Some((report.stage(), report.progress())))
+/// ```
 #[derive(Clone, Debug, PartialEq, Eq, Drop)]
 pub struct ProgressReport<'a> {
     stage: RawInt<u8>,
@@ -74,14 +82,14 @@ impl<'a> ProgressReport<'a> {
         self.stage_info.as_bytes()
     }
 
-    /// The stage's text as text, with U+FFFD for what is not UTF-8. UTF-8 is borrowed.
+    /// The stage's text as text, with U+FFFD for invalid UTF-8. Valid UTF-8 is borrowed.
     pub fn stage_info_str(&self, alloc: Global) -> Result<CowStr<'_>, AllocError>
         ensures text { GivesText (spec.stage_info self.now) result }
     {
         self.stage_info.as_str(alloc)
     }
 
-    /// The same report, on memory of its own. An empty text takes none.
+    /// Copies the text, so that the report borrows nothing. An empty text needs no allocation.
     pub fn into_owned(self, alloc: Global) -> Result<ProgressReport<'static>, AllocError>
         ensures value { IfOk result (λ owned. owned ≡ self.entry) }
         ensures no_memory { spec.stage_info self.entry ≡ [] → IsOk result }

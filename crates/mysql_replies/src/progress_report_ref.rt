@@ -14,6 +14,15 @@ use std::marker::Model;
 /// A progress report whose text stays in the packet: a [`ProgressReport`] for as long as the packet lives.
 ///
 /// It is read of the same bytes with the same faults, and in a clause it is that report.
+///
+/// ```
+/// let packet: ErrPacketRef<'_> = ParseBuf::new(alloc, payload).parse(agreed)?;
+/// if packet.is_error() {
+///     return Ok(None);
+/// }
+/// let report = packet.progress_report();
+/// Ok(Some((report.stage(), report.progress())))
+/// ```
 #[derive(Drop)]
 pub struct ProgressReportRef<'a> {
     stage: u8,
@@ -29,7 +38,7 @@ impl<'a> Model for ProgressReportRef<'a> {
 }
 
 impl<'a> ProgressReportRef<'a> {
-    /// As [`ProgressReport::stage`].
+    /// Like [`ProgressReport::stage`].
     #[inline]
     pub fn stage(&self) -> u8
         ensures value { result ≡ spec.stage self.now }
@@ -37,7 +46,7 @@ impl<'a> ProgressReportRef<'a> {
         self.stage
     }
 
-    /// As [`ProgressReport::max_stage`].
+    /// Like [`ProgressReport::max_stage`].
     #[inline]
     pub fn max_stage(&self) -> u8
         ensures value { result ≡ spec.max_stage self.now }
@@ -45,7 +54,7 @@ impl<'a> ProgressReportRef<'a> {
         self.max_stage
     }
 
-    /// As [`ProgressReport::progress`].
+    /// Like [`ProgressReport::progress`].
     #[inline]
     pub fn progress(&self) -> u32
         ensures value { result ≡ spec.progress self.now }
@@ -61,7 +70,7 @@ impl<'a> ProgressReportRef<'a> {
         self.stage_info
     }
 
-    /// The report in its other form, which borrows the text still. It takes no memory.
+    /// Converts to a [`ProgressReport`], which still borrows the text. It takes no memory.
     pub fn to_report(&self) -> ProgressReport<'a>
         ensures value { result ≡ self.now }
     {

@@ -1,4 +1,4 @@
-//! Entries of a state string that are put together of changes, as a server sends them.
+//! Entries of a state string, created from changes in the layouts that servers send.
 #![tactic(auto, unfolding(mysql_session::specs::SessionStateChange::session_state_change_bytes, crate::specs::SentGtids::sent_gtids, mysql_session::specs::SystemVariables::system_variables))]
 
 ghost use Rattle.std.specs.Prelude.{◌≡◌, IfOk, IsOk, IsSome};
@@ -62,7 +62,8 @@ impl SessionStateInfo<'static> {
     /// type.
     ///
     /// Whether changes are tracked is sent as one byte, `1` or `0`, and GTIDs as the byte `00` and their text, length-encoded,
-    /// as servers do: [`decode_as_sent`](Self::decode_as_sent) reads them. The one byte, and an empty list of system
+    /// as servers do (`Session_state_change_tracker::store` and `Session_gtids_ctx_encoder_string` in MySQL's
+    /// `sql/session_tracker.cc`): [`decode_wire`](Self::decode_wire) reads them. The one byte, and an empty list of system
     /// variables, take no memory.
     pub fn from_change(
         alloc: Global,

@@ -17,7 +17,8 @@ use std::marker::Model;
 /// The encoding of a set of GTIDs: `00`, its text.
 pub type GtidsEncoding = ConstU8<InvalidGtidsEncoding, 0x00>;
 
-/// A set of GTIDs as servers send it: the byte `00`, and the text, length-encoded.
+/// A set of GTIDs as servers send it: the byte `00`, the number of the encoding, and the text, length-encoded
+/// (`Session_gtids_ctx_encoder_string` in MySQL's `sql/session_tracker.cc`).
 #[derive(Drop)]
 pub(crate) struct SentGtids<'a> {
     encoding: GtidsEncoding,
@@ -45,7 +46,7 @@ impl Parts for SentGtids<'_> {
     }
 }
 
-/// The same, where it lies.
+/// GTIDs as servers send them, borrowed from the packet.
 #[derive(Drop)]
 pub(crate) struct SentGtidsRef<'a> {
     text: &'a [u8],

@@ -18,8 +18,14 @@ use std::fmt;
 
 /// An error that a server reports: its code, its SQL state where one was sent, its message.
 ///
-/// The code stands in the packet that the error is a part of: reading is passed it, and writing
-/// leaves it out.
+/// The code is in the packet that the error is part of: it is passed to the reader, and isn't written.
+///
+/// ```
+/// match packet.to_packet() {
+///     ErrPacket::Error(error) => Ok(error.into_owned(alloc)?),
+///     ErrPacket::Progress(_) => Err(Error::Unknown("a report in place of an error")),
+/// }
+/// ```
 #[derive(Clone, Debug, PartialEq, Drop)]
 pub struct ServerError<'a> {
     code: u16,
@@ -64,14 +70,14 @@ impl<'a> ServerError<'a> {
         self.message.as_bytes()
     }
 
-    /// The message as text, with U+FFFD for what is not UTF-8. UTF-8 is borrowed.
+    /// The message as text, with U+FFFD for invalid UTF-8. Valid UTF-8 is borrowed.
     pub fn message_str(&self, alloc: Global) -> Result<CowStr<'_>, AllocError>
         ensures text { GivesText (spec.message self.now) result }
     {
         self.message.as_str(alloc)
     }
 
-    /// The same error, on memory of its own. An empty message takes none.
+    /// Copies the message, so that the error borrows nothing. An empty message needs no allocation.
     pub fn into_owned(self, alloc: Global) -> Result<ServerError<'static>, AllocError>
         ensures value { IfOk result (λ owned. owned ≡ self.entry) }
         ensures no_memory { spec.message self.entry ≡ [] → IsOk result }
@@ -89,7 +95,7 @@ impl<'de> MyDeserialize<'de> for ServerError<'de> {
 
     type Size = AnyWidth;
 
-    /// The code, and whether an SQL state stands in front of the message.
+    /// The code, and whether an SQL state precedes the message.
     type Ctx = (u16, bool);
 
     ghost form = { spec.server_error.form };

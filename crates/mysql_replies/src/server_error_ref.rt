@@ -19,6 +19,14 @@ use std::marker::Model;
 /// An error whose SQL state and message stay in the packet: a [`ServerError`] for as long as the packet lives.
 ///
 /// It is read of the same bytes with the same faults, and in a clause it is that error.
+///
+/// ```
+/// let packet: ErrPacketRef<'_> = ParseBuf::new(alloc, payload).parse(agreed)?;
+/// if packet.is_progress_report() {
+///     return Ok(None);
+/// }
+/// Ok(Some(packet.server_error().error_code()))
+/// ```
 #[derive(Drop)]
 pub struct ServerErrorRef<'a> {
     code: u16,
@@ -60,7 +68,7 @@ impl<'a> ServerErrorRef<'a> {
         self.message
     }
 
-    /// The error in its other form, which borrows the message still. It takes no memory.
+    /// Converts to a [`ServerError`], which still borrows the message. It takes no memory.
     pub fn to_error(&self) -> ServerError<'a>
         ensures value { result ≡ self.now }
     {
@@ -110,7 +118,7 @@ impl<'de> MyDeserialize<'de> for ServerErrorRef<'de> {
 
     type Size = AnyWidth;
 
-    /// The code, and whether an SQL state stands in front of the message.
+    /// The code, and whether an SQL state precedes the message.
     type Ctx = (u16, bool);
 
     ghost form = { spec.server_error.form };

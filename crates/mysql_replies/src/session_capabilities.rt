@@ -1,11 +1,16 @@
-//! What both sides of a session can do.
+//! The capabilities of a session.
 
 use mysql_wire::{CapabilityFlags, MariadbCapabilities};
 
-/// What both sides of a session can do: the flags that they have agreed to.
+/// The capabilities that both sides of a session have agreed on.
 ///
-/// MySQL's flags and MariaDB's own are two words, which stand apart in the handshake and in the response. A session with
-/// MySQL has none of MariaDB's own.
+/// MySQL's flags and MariaDB's extended ones are two words, in different places of the handshake and the response. A session
+/// with MySQL has no extended ones.
+///
+/// ```
+/// let packet: ColumnCount = ParseBuf::new(alloc, payload).parse(agreed)?;
+/// Ok((packet.count(), packet.metadata_follows()))
+/// ```
 #[derive(Clone, Copy, Debug, Default, PartialEq, Eq)]
 pub struct SessionCapabilities {
     /// MySQL's flags, which MariaDB has too.

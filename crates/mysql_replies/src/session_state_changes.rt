@@ -11,8 +11,7 @@ use mysql_session::SessionStateChange;
 use mysql_wire::{BytesRepr, Fault, LenEnc, ParseBuf};
 use std::marker::Model;
 
-/// Drops the entry that the bytes begin with, whatever its type: one byte, and a length-encoded string. Where that is cut,
-/// all bytes go.
+/// Drops the first entry, whatever its type: one byte and a length-encoded string. If it is incomplete, all bytes are dropped.
 #[tactic(auto, using(crate::proofs::AsSent::string_shorter))]
 fn skip_entry(buf: &mut ParseBuf<'_>)
     ensures value { buf.new ≡ spec.after_entry buf.old }
@@ -48,7 +47,7 @@ pub(crate) fn next_entry<'a>(
     }
 }
 
-/// The changes of a state string: each is the change as [`SessionStateInfo::decode_as_sent`](crate::SessionStateInfo::decode_as_sent)
+/// The changes of a state string: each is the change as [`SessionStateInfo::decode_wire`](crate::SessionStateInfo::decode_wire)
 /// reads it, or its own fault. The next ones are given after a fault too, unless the state string is cut.
 ///
 /// In a clause it is the list of the bytes that are left.

@@ -1,4 +1,4 @@
-//! The session's changes that an OK packet carries, one after another, where they lie.
+//! Borrowed session changes of an OK packet.
 #![tactic(auto, using(mysql_wire::proofs::Packets::packets), unfolding(crate::specs::SessionStateInfo::session_state_info))]
 
 ghost use Rattle.std.specs.Prelude.{◌≡◌, ℕ, List, length, ⊤};
@@ -10,9 +10,9 @@ use mysql_session::SessionStateChangeRef;
 use mysql_wire::{Fault, ParseBuf};
 use std::marker::Model;
 
-/// The changes of a state string, where they lie: each is the change as
-/// [`SessionStateInfoRef::decode_as_sent`](crate::SessionStateInfoRef::decode_as_sent) reads it, or its own fault. The next
-/// ones are given after a fault too, unless the state string is cut. They take no memory.
+/// An iterator over the changes of a state string, without memory: each item is the change as
+/// [`SessionStateInfoRef::decode_wire`](crate::SessionStateInfoRef::decode_wire) reads it, or its fault. After a fault the next
+/// changes follow, unless the state string is incomplete.
 ///
 /// In a clause it is the list of the bytes that are left.
 #[derive(Drop)]
@@ -47,7 +47,7 @@ impl<'a> Iterator for SessionStateChangesRef<'a> {
     #[tactic(auto, using(crate::proofs::AsSent::next_changes))]
     fn next(&mut self) -> Option<Result<SessionStateChangeRef<'a>, Fault>> {
         match next_entry(&mut self.entries)? {
-            Ok(entry) => Some(entry.decode_as_sent()),
+            Ok(entry) => Some(entry.decode_wire()),
             Err(fault) => Some(Err(fault)),
         }
     }

@@ -23,6 +23,11 @@ use std::borrow::CowSlice;
 /// length-encoded.
 ///
 /// A byte that is no [`SessionStateType`] is `InvalidData`.
+///
+/// ```
+/// let change = info.decode_wire(alloc)?;
+/// Ok(change.into_owned(alloc)?)
+/// ```
 #[derive(Clone, Debug, PartialEq, Eq, Drop)]
 pub struct SessionStateInfo<'a> {
     pub(crate) data_type: Const<SessionStateType, u8>,
@@ -40,7 +45,7 @@ impl<'a> SessionStateInfo<'a> {
         }
     }
 
-    /// What has changed.
+    /// The type of the change.
     #[inline]
     pub fn data_type(&self) -> SessionStateType
         ensures value { result ≡ spec.data_type self.now }
@@ -58,8 +63,8 @@ impl<'a> SessionStateInfo<'a> {
 
     /// The change that the data begins with; bytes after it are dropped.
     ///
-    /// The fault is that of reading the data as a change of this type. Memory is taken for a list of system variables
-    /// alone. Servers send state changes and GTIDs in other layouts: [`decode_as_sent`](Self::decode_as_sent) reads them.
+    /// The fault is that of reading the data as a change of this type. Only a list of system variables takes memory. Servers
+    /// send state changes and GTIDs in other layouts: [`decode_wire`](Self::decode_wire) reads them.
     pub fn decode(&self, alloc: Global) -> Result<SessionStateChange<'_>, Fault>
         ensures value { Answers (lists_variables (spec.data_type self.now) (spec.data_bytes self.now)) result [] (spec.decoded self.now) }
         ensures spelled { IfOk result (λ change. (rest : List ℕ) × (session_state_change (spec.data_type self.now)).Spells change (spec.data_bytes self.now) rest) }
@@ -70,11 +75,11 @@ impl<'a> SessionStateInfo<'a> {
 
     /// The change, in the layouts that servers send.
     ///
-    /// A state change (`SESSION_TRACK_STATE_CHANGE`) is one byte, the truth value itself, `1` where changes are tracked, or what
-    /// [`decode`](Self::decode) reads. GTIDs (`SESSION_TRACK_GTIDS`) are the byte `00`, their encoding, and the text,
-    /// length-encoded: bytes after it are dropped, another encoding is `InvalidData`, and data that are cut `UnexpectedEof`.
-    /// All else is as `decode` reads it, with the same faults.
-    pub fn decode_as_sent(&self, alloc: Global) -> Result<SessionStateChange<'_>, Fault>
+    /// A state change (`SESSION_TRACK_STATE_CHANGE`) is one byte, `1` for true, or the layout of [`decode`](Self::decode).
+    /// GTIDs (`SESSION_TRACK_GTIDS`) are the byte `00`, their encoding, and the text, length-encoded: bytes after it are
+    /// dropped, another encoding is `InvalidData`, and incomplete data are `UnexpectedEof`. Other types are read like `decode`,
+    /// with the same faults.
+    pub fn decode_wire(&self, alloc: Global) -> Result<SessionStateChange<'_>, Fault>
         ensures value { Answers (lists_variables (spec.data_type self.now) (spec.data_bytes self.now)) result [] (changes.decoded_as_sent self.now) }
     {
         read_as_sent(
@@ -83,7 +88,7 @@ impl<'a> SessionStateInfo<'a> {
         )
     }
 
-    /// The same, on memory of its own. Empty data take none.
+    /// Copies the data, so that the entry borrows nothing. Empty data needs no allocation.
     pub fn into_owned(self, alloc: Global) -> Result<SessionStateInfo<'static>, AllocError>
         ensures value { IfOk result (λ owned. owned ≡ self.entry) }
         ensures no_memory { spec.data_bytes self.entry ≡ [] → IsOk result }
@@ -109,7 +114,7 @@ pub(crate) fn is_gtids(data_type: SessionStateType) -> bool
     matches!(data_type, SessionStateType::SESSION_TRACK_GTIDS)
 }
 
-/// The change that data of this type spells, in the layouts that servers send.
+/// Reads data of this type as a change, in the layouts that servers send.
 pub(crate) fn read_as_sent<'a>(
     data_type: SessionStateType,
     data_bytes: ParseBuf<'a>,

@@ -1,4 +1,4 @@
-//! An entry of the state string of an OK packet, where it lies.
+//! Borrowed entries of an OK packet's state string.
 #![tactic(auto, using(mysql_wire::proofs::Packets::packets), unfolding(crate::specs::SessionStateInfo::session_state_info))]
 
 ghost use Rattle.std.specs.Prelude.{false, ◌≡◌, [], List, ℕ, None, refl, IfOk};
@@ -18,8 +18,7 @@ use mysql_wire::{
 use std::borrow::CowSlice;
 use std::marker::Model;
 
-/// One change of a session's state, as an OK packet carries it, where it lies: a [`SessionStateInfo`] for as long as the
-/// packet lives, without memory.
+/// A change of the session's state in an OK packet: a [`SessionStateInfo`] that borrows from the packet, and takes no memory.
 ///
 /// It is read of the same bytes with the same faults, and in a clause it is that entry.
 #[derive(Drop)]
@@ -35,7 +34,7 @@ impl<'a> Model for SessionStateInfoRef<'a> {
 }
 
 impl<'a> SessionStateInfoRef<'a> {
-    /// What has changed.
+    /// The type of the change.
     #[inline]
     pub fn data_type(&self) -> SessionStateType
         ensures value { result ≡ spec.data_type self.now }
@@ -55,7 +54,7 @@ impl<'a> SessionStateInfoRef<'a> {
     /// The change that the data begins with; bytes after it are dropped. It takes no memory.
     ///
     /// The fault is that of reading the data as a change of this type. Servers send state changes and GTIDs in other layouts:
-    /// [`decode_as_sent`](Self::decode_as_sent) reads them.
+    /// [`decode_wire`](Self::decode_wire) reads them.
     pub fn decode(&self) -> Result<SessionStateChangeRef<'a>, Fault>
         ensures value { Answers false result [] (spec.decoded self.now) }
         ensures spelled { IfOk result (λ change. (rest : List ℕ) × (session_state_change (spec.data_type self.now)).Spells change (spec.data_bytes self.now) rest) }
@@ -64,14 +63,14 @@ impl<'a> SessionStateInfoRef<'a> {
         bytes.parse(self.data_type.0)
     }
 
-    /// The change, in the layouts that servers send, as [`SessionStateInfo::decode_as_sent`] reads it. It takes no memory.
-    pub fn decode_as_sent(&self) -> Result<SessionStateChangeRef<'a>, Fault>
+    /// The change, in the layouts that servers send, as [`SessionStateInfo::decode_wire`] reads it. It takes no memory.
+    pub fn decode_wire(&self) -> Result<SessionStateChangeRef<'a>, Fault>
         ensures value { Answers false result [] (changes.decoded_as_sent self.now) }
     {
         read_as_sent_ref(self.data_type.0, self.content.rest())
     }
 
-    /// The entry in its other form, which borrows the data still. It takes no memory.
+    /// Converts to a [`SessionStateInfo`], which still borrows the data. It takes no memory.
     pub fn to_info(&self) -> SessionStateInfo<'a>
         ensures value { result ≡ self.now }
     {
@@ -82,7 +81,7 @@ impl<'a> SessionStateInfoRef<'a> {
     }
 }
 
-/// The change that data of this type spells, in the layouts that servers send.
+/// Reads data of this type as a change, in the layouts that servers send.
 pub(crate) fn read_as_sent_ref<'a>(
     data_type: SessionStateType,
     data_bytes: ParseBuf<'a>,

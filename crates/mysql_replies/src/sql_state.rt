@@ -16,7 +16,7 @@ use std::borrow::CowStr;
 /// The byte in front of an SQL state: `#`.
 pub type SqlStateMarker = ConstU8<InvalidSqlStateMarker, 35>;
 
-/// The SQL state of an error: the byte `#`, and five bytes, mostly ASCII such as `HY000`.
+/// The SQL state of an error: the byte `#` and five bytes, usually ASCII such as `HY000`.
 ///
 /// Fewer than six bytes are `UnexpectedEof`, another first byte is `InvalidData`.
 #[derive(Clone, Copy, Debug, PartialEq, Eq, Hash)]
@@ -45,7 +45,7 @@ impl SqlState {
         self.state
     }
 
-    /// The five bytes as text, with U+FFFD for what is not UTF-8. UTF-8 is borrowed.
+    /// The five bytes as text, with U+FFFD for invalid UTF-8. Valid UTF-8 is borrowed.
     pub fn as_str(&self, alloc: Global) -> Result<CowStr<'_>, AllocError>
         ensures text { GivesText (spec.state_bytes self.now) result }
     {

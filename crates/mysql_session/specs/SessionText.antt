@@ -6,10 +6,10 @@ use Rattle.mysql_wire.specs.Codecs.{Codec, Fields, ◌>>=◌, give, field, packe
 use Rattle.mysql_wire.specs.Form as form
 use Rattle.mysql_session.specs.declared.session_text.SessionText.{SessionText}
 use Rattle.mysql_session.specs.declared.session_text.SchemaName.{SchemaName}
-use Rattle.mysql_session.specs.declared.session_text.GtidSet.{GtidSet}
-use Rattle.mysql_session.specs.declared.session_text.Characteristics.{Characteristics}
-use Rattle.mysql_session.specs.declared.session_text.StateCharacters.{StateCharacters}
-use Rattle.mysql_session.specs.declared.session_text.OtherChange.{OtherChange}
+use Rattle.mysql_session.specs.declared.session_text.GtidsText.{GtidsText}
+use Rattle.mysql_session.specs.declared.session_text.TransactionCharacteristicsText.{TransactionCharacteristicsText}
+use Rattle.mysql_session.specs.declared.session_text.TransactionStateText.{TransactionStateText}
+use Rattle.mysql_session.specs.declared.session_text.UnsupportedText.{UnsupportedText}
 
 -- the bytes of a text, and the text of some bytes
 abbrev pub text_bytes : {N R : Type 0} → SessionText N R → List ℕ
@@ -33,16 +33,16 @@ abbrev pub Schema : Type 0
 Schema = SessionText SchemaName LenEnc
 
 abbrev pub Gtids : Type 0
-Gtids = SessionText GtidSet EofBytes
+Gtids = SessionText GtidsText EofBytes
 
 abbrev pub TransactionCharacteristics : Type 0
-TransactionCharacteristics = SessionText Characteristics LenEnc
+TransactionCharacteristics = SessionText TransactionCharacteristicsText LenEnc
 
 abbrev pub TransactionState : Type 0
-TransactionState = SessionText StateCharacters LenEnc
+TransactionState = SessionText TransactionStateText LenEnc
 
 abbrev pub Unsupported : Type 0
-Unsupported = SessionText OtherChange LenEnc
+Unsupported = SessionText UnsupportedText LenEnc
 
 -- all but GTIDs: the length-encoded bytes
 unfoldable pub lenenc_text : {N : Type 0} → Codec (Unit {0}) (SessionText N LenEnc)

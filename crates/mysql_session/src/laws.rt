@@ -19,7 +19,7 @@ pub mod values;
 use mysql_wire::MyDeserialize;
 use std::hash::Hash;
 
-/// What is written of each part of a change is read again, whatever follows.
+/// Each part of a change is read back, whatever bytes follow.
 #[tactic(auto, using(mysql_wire::proofs::Packets::packets, crate::proofs::PlainFits::plain))]
 pub fn session_parts_round_trips()
     ensures schema { (x : Schema) (rest : List ℕ) → lenenc_text.fits tt x rest → (lenenc_text.form tt).Spells x (lenenc_text.bytes x ++ rest) rest }
@@ -34,7 +34,7 @@ pub fn session_parts_round_trips()
     ensures plain_variable { (x : SystemVariable) (rest : List ℕ) → SystemVariableFits x → (system_variable.form tt).Spells x (system_variable.bytes x ++ rest) rest }
 {}
 
-/// What is written of a part that runs to the end is read again, where nothing follows.
+/// A part that extends to the end of the data is read back if nothing follows.
 #[tactic(auto, using(mysql_wire::proofs::Packets::packets, crate::proofs::PlainFits::plain))]
 pub fn session_ends_round_trips()
     ensures gtids { (x : Gtids) (rest : List ℕ) → gtids.fits tt x rest → (gtids.form tt).Spells x (gtids.bytes x ++ rest) rest }
@@ -43,20 +43,20 @@ pub fn session_ends_round_trips()
     ensures plain_variables { (xs : List SystemVariable) → All SystemVariableFits xs → (system_variables.form tt).Spells xs (system_variables.bytes xs) [] }
 {}
 
-/// What makes system variables be read again, where nothing follows: lengths that eight bytes can tell.
+/// System variables are read back under this condition, if nothing follows: their lengths fit in eight bytes.
 #[tactic(auto, using(crate::proofs::SystemVariablesFit::variables_fit))]
 pub fn system_variables_fit()
     ensures fits { (vs : List SystemVariable) → All SystemVariableFits vs → system_variables.fits tt vs [] }
 {}
 
-/// What is written of a change is read again, where the reader is passed its type.
+/// A change is read back if the reader is passed its type.
 #[tactic(auto, using(crate::proofs::SessionStateChangeAgain::session_changes, crate::proofs::PlainFits::plain))]
 pub fn session_state_change_round_trips()
     ensures spelled { (kind : SessionStateType) (c : SessionStateChange) (rest : List ℕ) → ChangeFits kind c rest → (session_state_change kind).Spells c (session_state_change_bytes c ++ rest) rest }
     ensures plain { (kind : SessionStateType) (c : SessionStateChange) → IsOfKind kind c → ChangeIsShort c → (session_state_change kind).Spells c (session_state_change_bytes c) [] }
 {}
 
-/// What stays in its packet is read of the same bytes as what can leave it, and is that value.
+/// A borrowed form is read from the same bytes as the owned one, and has the same value.
 pub fn borrowed_changes_read_changes()
     ensures change { (kind : SessionStateType) (bytes : List ℕ) → (⟦<crate::session_state_change_ref::SessionStateChangeRef<'static> as MyDeserialize<'static>>⟧.form kind).reads bytes ≡ (session_state_change kind).reads bytes }
     ensures variable { (bytes : List ℕ) → (⟦<crate::system_variable_ref::SystemVariableRef<'static> as MyDeserialize<'static>>⟧.form tt).reads bytes ≡ (system_variable.form tt).reads bytes }
@@ -100,7 +100,7 @@ pub fn system_variables_have_no_constant_size() -> Option<usize>
     <crate::system_variables::SystemVariables as MyDeserialize>::SIZE
 }
 
-/// System variables are equal exactly where they are the same, and so are lists of them.
+/// System variables, and lists of them, compare equal exactly if they are the same.
 #[tactic(auto, using(crate::proofs::EqualChanges::equal_changes))]
 pub fn equal_system_variables_are_the_same()
     ensures one { (x y : SystemVariable) → IsTrue (⟦<crate::SystemVariable<'static> as PartialEq>⟧.eq x y) ↔ (x ≡ y) }

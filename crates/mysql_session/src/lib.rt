@@ -1,4 +1,4 @@
-//! What changes in a session, as a server reports it after an OK packet.
+//! Changes of the session's state, which a server reports in OK packets.
 #![tactic(auto)]
 
 pub mod laws;
@@ -13,8 +13,9 @@ mod system_variables_ref;
 pub use session_state_change::SessionStateChange;
 pub use session_state_change_ref::{ChangeRef, SessionStateChangeRef};
 pub use session_text::{
-    Characteristics, GtidSet, Gtids, OtherChange, Schema, SchemaName, SessionText, StateCharacters,
-    TransactionCharacteristics, TransactionState, Unsupported,
+    Gtids, GtidsText, Schema, SchemaName, SessionText, TransactionCharacteristics,
+    TransactionCharacteristicsText, TransactionState, TransactionStateText, Unsupported,
+    UnsupportedText,
 };
 pub use system_variable::SystemVariable;
 pub use system_variable_ref::SystemVariableRef;

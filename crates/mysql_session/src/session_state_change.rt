@@ -17,6 +17,14 @@ use std::alloc::{AllocError, Global};
 /// A change of a session's state, as the data of one entry after an OK packet gives it.
 ///
 /// Reading is passed the entry's [`SessionStateType`], and never gives `Unsupported`.
+///
+/// ```
+/// let mut buf = ParseBuf::new(alloc, payload);
+/// let flags = CapabilityFlags::CLIENT_SESSION_TRACK;
+/// let ok: OkPacketDeserializer<'_, CommonOkPacket> = buf.parse(flags)?;
+/// let ok: OkPacket<'_> = ok.into_inner();
+/// let changes = ok.session_state_info(alloc)?; // every change of the session, or the first fault
+/// ```
 #[derive(Clone, Debug, PartialEq, Eq, Drop)]
 pub enum SessionStateChange<'a> {
     /// Whether changes are tracked (`SESSION_TRACK_STATE_CHANGE`): a length-encoded string, true
@@ -28,7 +36,7 @@ pub enum SessionStateChange<'a> {
     SystemVariables(SystemVariables<'a>),
     /// GTIDs (`SESSION_TRACK_GTIDS`).
     Gtids(Gtids<'a>),
-    /// What would start the transaction again (`SESSION_TRACK_TRANSACTION_CHARACTERISTICS`).
+    /// Statements that would start the transaction again (`SESSION_TRACK_TRANSACTION_CHARACTERISTICS`).
     TransactionCharacteristics(TransactionCharacteristics<'a>),
     /// The state of the transaction (`SESSION_TRACK_TRANSACTION_STATE`).
     TransactionState(TransactionState<'a>),
@@ -37,7 +45,7 @@ pub enum SessionStateChange<'a> {
 }
 
 impl<'a> SessionStateChange<'a> {
-    /// The same change, on memory of its own. A change without text and without variables takes none.
+    /// Copies all texts, so that the change borrows nothing. A change without text and variables needs no allocation.
     pub fn into_owned(self, alloc: Global) -> Result<SessionStateChange<'static>, AllocError>
         ensures value { IfOk result (λ owned. owned ≡ self.entry) }
         ensures no_memory { spec.OwnsNothing self.entry → IsOk result }
@@ -69,7 +77,7 @@ impl<'de> MyDeserialize<'de> for SessionStateChange<'de> {
 
     ghost takes_memory = { spec.lists_variables };
 
-    /// What of the session's state has changed.
+    /// The type of the change.
     type Ctx = Kind;
 
     ghost form = { spec.session_state_change };

@@ -1,4 +1,4 @@
-//! A change of a session's state, where it lies.
+//! Borrowed changes of the session's state.
 #![tactic(auto, using(mysql_wire::proofs::Packets::packets), unfolding(crate::specs::SessionStateChange::session_state_change, crate::specs::SessionText::lenenc_text, crate::specs::SessionText::gtids))]
 
 ghost use Rattle.std.specs.Prelude.{false, ◌≡◌, IfOk, OnErr};
@@ -18,7 +18,7 @@ use std::alloc::{AllocError, Global};
 use std::borrow::CowSlice;
 use std::marker::Model;
 
-/// What a [`SessionStateChangeRef`] tells, where it lies in the packet.
+/// The content of a [`SessionStateChangeRef`], which borrows from the packet.
 #[derive(Drop)]
 pub enum ChangeRef<'a> {
     /// Whether changes are tracked (`SESSION_TRACK_STATE_CHANGE`).
@@ -38,7 +38,7 @@ pub enum ChangeRef<'a> {
 /// A change of a session's state that stays in its packet: a [`SessionStateChange`] for as long as the packet lives,
 /// without memory.
 ///
-/// It is read of the same bytes with the same faults but for `Memory`, and in a clause it is that change. Reading is passed
+/// It is read of the same bytes with the same faults except for `Memory`, and in a clause it is that change. Reading is passed
 /// the entry's [`SessionStateType`](mysql_wire::SessionStateType).
 #[derive(Drop)]
 pub struct SessionStateChangeRef<'a>(ChangeRef<'a>);
@@ -58,7 +58,7 @@ impl<'a> SessionStateChangeRef<'a> {
         SessionStateChangeRef(change)
     }
 
-    /// What it tells.
+    /// Returns the content.
     #[inline]
     pub fn change(&self) -> &ChangeRef<'a>
         ensures value { change_of result.now ≡ self.now }
@@ -66,7 +66,7 @@ impl<'a> SessionStateChangeRef<'a> {
         &self.0
     }
 
-    /// What it tells.
+    /// Converts to the content.
     #[inline]
     pub fn into_change(self) -> ChangeRef<'a>
         ensures value { change_of result ≡ self.entry }
@@ -74,8 +74,8 @@ impl<'a> SessionStateChangeRef<'a> {
         self.0
     }
 
-    /// The change in its other form, which borrows the texts still. Memory is taken for a list of system variables alone,
-    /// where it has any.
+    /// Converts to a [`SessionStateChange`], whose texts still borrow from the packet. Only a nonempty list of system variables
+    /// takes memory.
     pub fn to_session_state_change(
         &self,
         alloc: Global,
@@ -117,13 +117,13 @@ fn text<'s, 'de>(buf: &mut ParseBuf<'de>) -> Result<ParseBuf<'de>, FaultOf<'s>>
     <LenEnc as BytesRepr>::deserialize((), buf)
 }
 
-/// As a [`SessionStateChange`], but for `Memory`: none is taken.
+/// Read like a [`SessionStateChange`], but never `Memory`.
 impl<'de> MyDeserialize<'de> for SessionStateChangeRef<'de> {
     const SIZE: Option<usize> = None;
 
     type Size = AnyWidth;
 
-    /// What of the session's state has changed.
+    /// The type of the change.
     type Ctx = Kind;
 
     ghost form = { spec.session_state_change };

@@ -27,33 +27,32 @@ pub struct SchemaName;
 pub type Schema<'a> = SessionText<'a, SchemaName, LenEnc>;
 
 /// Names [`Gtids`].
-pub struct GtidSet;
+pub struct GtidsText;
 
-/// The set of GTIDs that the transaction got (`SESSION_TRACK_GTIDS`), in the server's text form:
-/// all that is left of the data.
-pub type Gtids<'a> = SessionText<'a, GtidSet, EofBytes>;
+/// The GTIDs of the transaction (`SESSION_TRACK_GTIDS`), in the server's text form: the rest of the data.
+pub type Gtids<'a> = SessionText<'a, GtidsText, EofBytes>;
 
 /// Names [`TransactionCharacteristics`].
-pub struct Characteristics;
+pub struct TransactionCharacteristicsText;
 
 /// The statements that would start the transaction again
 /// (`SESSION_TRACK_TRANSACTION_CHARACTERISTICS`): a length-encoded string.
-pub type TransactionCharacteristics<'a> = SessionText<'a, Characteristics, LenEnc>;
+pub type TransactionCharacteristics<'a> = SessionText<'a, TransactionCharacteristicsText, LenEnc>;
 
 /// Names [`TransactionState`].
-pub struct StateCharacters;
+pub struct TransactionStateText;
 
 /// The state of the transaction (`SESSION_TRACK_TRANSACTION_STATE`), a character for each thing
 /// that it tells: a length-encoded string.
-pub type TransactionState<'a> = SessionText<'a, StateCharacters, LenEnc>;
+pub type TransactionState<'a> = SessionText<'a, TransactionStateText, LenEnc>;
 
 /// Names [`Unsupported`].
-pub struct OtherChange;
+pub struct UnsupportedText;
 
 /// A change of a kind that has no type of its own: a length-encoded string.
 ///
 /// No reader of [`SessionStateChange`](crate::SessionStateChange) makes it.
-pub type Unsupported<'a> = SessionText<'a, OtherChange, LenEnc>;
+pub type Unsupported<'a> = SessionText<'a, UnsupportedText, LenEnc>;
 
 impl<'a, N, R> SessionText<'a, N, R> {
     /// The text of these bytes.
@@ -64,7 +63,7 @@ impl<'a, N, R> SessionText<'a, N, R> {
         SessionText(RawBytes::new(bytes), PhantomData)
     }
 
-    /// The bytes.
+    /// Returns the bytes of the text.
     #[inline]
     pub fn as_bytes(&self) -> &[u8]
         ensures value { result.now ≡ text_bytes self.now }
@@ -72,14 +71,14 @@ impl<'a, N, R> SessionText<'a, N, R> {
         self.0.as_bytes()
     }
 
-    /// The text, with U+FFFD for what is not UTF-8. UTF-8 is borrowed, and takes no memory.
+    /// The text, with U+FFFD for invalid UTF-8. Valid UTF-8 is borrowed, and takes no memory.
     pub fn as_str(&self, alloc: Global) -> Result<CowStr<'_>, AllocError>
         ensures text { GivesText (text_bytes self.now) result }
     {
         self.0.as_str(alloc)
     }
 
-    /// The same, on memory of its own. An empty text takes none.
+    /// Copies the text, so that it borrows nothing. An empty text needs no allocation.
     pub fn into_owned(self, alloc: Global) -> Result<SessionText<'static, N, R>, AllocError>
         ensures value { IfOk result (λ owned. owned ≡ self.entry) }
         ensures no_memory { text_bytes self.entry ≡ [] → IsOk result }

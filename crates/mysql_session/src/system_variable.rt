@@ -15,6 +15,11 @@ use std::borrow::{CowSlice, CowStr};
 
 /// A system variable that was assigned a value: its name and the value, each a length-encoded
 /// string.
+///
+/// ```
+/// let name = variable.name_str(rt.alloc())?;
+/// let value = variable.value_str(rt.alloc())?;
+/// ```
 #[derive(Clone, Debug, PartialEq, Eq, Hash)]
 pub struct SystemVariable<'a> {
     name: RawBytes<'a, LenEnc>,
@@ -48,7 +53,7 @@ impl<'a> SystemVariable<'a> {
         self.name.as_bytes()
     }
 
-    /// The name as text, with U+FFFD for what is not UTF-8. UTF-8 is borrowed.
+    /// The name as text, with U+FFFD for invalid UTF-8. Valid UTF-8 is borrowed.
     pub fn name_str(&self, alloc: Global) -> Result<CowStr<'_>, AllocError>
         ensures text { GivesText (spec.variable_name self.now) result }
     {
@@ -63,14 +68,14 @@ impl<'a> SystemVariable<'a> {
         self.value.as_bytes()
     }
 
-    /// The value as text, with U+FFFD for what is not UTF-8. UTF-8 is borrowed.
+    /// The value as text, with U+FFFD for invalid UTF-8. Valid UTF-8 is borrowed.
     pub fn value_str(&self, alloc: Global) -> Result<CowStr<'_>, AllocError>
         ensures text { GivesText (spec.variable_value self.now) result }
     {
         self.value.as_str(alloc)
     }
 
-    /// The same, on memory of its own. Without name and value it takes none.
+    /// Copies name and value, so that the variable borrows nothing. If both are empty, it needs no allocation.
     pub fn into_owned(self, alloc: Global) -> Result<SystemVariable<'static>, AllocError>
         ensures value { IfOk result (λ owned. owned ≡ self.entry) }
         ensures no_memory { spec.variable_name self.entry ≡ [] → spec.variable_value self.entry ≡ [] → IsOk result }

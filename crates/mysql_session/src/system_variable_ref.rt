@@ -1,4 +1,4 @@
-//! A system variable and its value, where they lie.
+//! Borrowed system variables.
 #![tactic(auto, using(mysql_wire::proofs::Packets::packets), unfolding(crate::specs::SystemVariable::system_variable))]
 
 ghost use Rattle.std.specs.Prelude.{◌≡◌, None, refl};
@@ -43,7 +43,7 @@ impl<'a> SystemVariableRef<'a> {
         self.value
     }
 
-    /// The variable in its other form, which borrows the texts still. It takes no memory.
+    /// Converts to a [`SystemVariable`], whose texts still borrow from the packet. It takes no memory.
     #[inline]
     pub fn to_variable(&self) -> SystemVariable<'a>
         ensures value { result ≡ self.now }

@@ -53,7 +53,7 @@ impl<'a> SystemVariables<'a> {
         self.0
     }
 
-    /// The same, on memory of its own. For no variable it takes none.
+    /// Copies the variables, so that the list borrows nothing. An empty list needs no allocation.
     pub fn into_owned(self, alloc: Global) -> Result<SystemVariables<'static>, AllocError>
         ensures value { IfOk result (λ owned. owned ≡ self.entry) }
         ensures no_memory { self.entry ≡ [] → IsOk result }

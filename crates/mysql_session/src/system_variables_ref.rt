@@ -1,4 +1,4 @@
-//! System variables and their values, where they lie.
+//! Borrowed lists of system variables.
 
 ghost use Rattle.std.specs.Prelude.{◌≡◌, ◌≢◌, [], List, false, refl, IfOk, IfErr, OnOk, OnErr, Ok, length, ⊤};
 ghost use Rattle.mysql_wire.specs.Many.{size-many};
@@ -14,11 +14,11 @@ use mysql_wire::{AnyWidth, Fault, FaultOf, MyDeserialize, ParseBuf};
 use std::alloc::{AllocError, Global};
 use std::marker::Model;
 
-/// The system variables that were assigned values (`SESSION_TRACK_SYSTEM_VARIABLES`), where they lie: a
-/// [`SystemVariables`] for as long as the packet lives, without memory.
+/// The system variables that were assigned (`SESSION_TRACK_SYSTEM_VARIABLES`): a [`SystemVariables`] that borrows from the
+/// packet, and takes no memory.
 ///
-/// It gives one variable after another. All of them were read before the first one is given, so none is refused. In a
-/// clause it is the list of the variables that are left.
+/// An iterator over the variables. All of them are read when it is created, so none of them fails later. In a clause it is the
+/// list of the remaining variables.
 #[derive(Drop)]
 pub struct SystemVariablesRef<'a> {
     variables: ParseBuf<'a>,
@@ -64,7 +64,7 @@ fn next_variable<'a>(variables: &mut ParseBuf<'a>) -> Option<SystemVariableRef<'
 }
 
 impl<'a> SystemVariablesRef<'a> {
-    /// The same variables once more.
+    /// Iterates over the variables from the first one on.
     #[inline]
     pub fn iter(&self) -> SystemVariablesRef<'a>
         ensures value { result ≡ self.now }
@@ -74,7 +74,7 @@ impl<'a> SystemVariablesRef<'a> {
         }
     }
 
-    /// The variables in their other form, which borrow their texts still. For no variable no memory is taken.
+    /// Converts to a [`SystemVariables`], whose texts still borrow from the packet. An empty list takes no memory.
     pub fn to_system_variables(&self, alloc: Global) -> Result<SystemVariables<'a>, AllocError>
         ensures value { IfOk result (λ variables. variables ≡ self.now) }
         ensures memory { OnErr result (self.now ≢ []) }
@@ -101,7 +101,7 @@ impl<'a> Iterator for SystemVariablesRef<'a> {
     }
 }
 
-/// As [`SystemVariables`], but for `Memory`: none is taken.
+/// Read like [`SystemVariables`], but never `Memory`.
 impl<'de> MyDeserialize<'de> for SystemVariablesRef<'de> {
     const SIZE: Option<usize> = None;
 

@@ -8,8 +8,8 @@ use Rattle.mysql_prepared.specs.ExecuteRead.{given_types}
 use Rattle.mysql_prepared.specs.SentTypes.{NamedType, under_types}
 use Rattle.mysql_prepared.specs.declared.execute_view.BoundParam.{BoundParam}
 use Rattle.mysql_conversation.specs.Agreements.{Agreed}
-use Rattle.mysql_conversation.specs.declared.kind.Kind.{Kind}
-use Rattle.mysql_conversation.specs.declared.kind.Kind.TheVariants as kind
+use Rattle.mysql_conversation.specs.declared.packet_kind.PacketKind.{PacketKind}
+use Rattle.mysql_conversation.specs.declared.packet_kind.PacketKind.TheVariants as kind
 use Rattle.mysql_statements.specs.Kept.{Kept}
 use Rattle.mysql_statements.specs.Statement.{types, at, without_data, with_param, with_column, with_result, with_data, with_no_data, with_type, sent_ahead as marked, param_type_of, undefined}
 use Rattle.mysql_statements.specs.Binding.{bound_by, with_execution, front_of}
@@ -264,7 +264,7 @@ within_asked a code p t h =
     )
     )
 
-pub within_after : (memory : Bool) (a : Agreed) (k : Kind) (p : List ℕ) (t : Table) → IsWithin t → IsWithin (after memory a k p t)
+pub within_after : (memory : Bool) (a : Agreed) (k : PacketKind) (p : List ℕ) (t : Table) → IsWithin t → IsWithin (after memory a k p t)
 within_after memory a (kind.Command code) p t h = within_asked a code p t h
 within_after memory a (kind.PrepareOk columns params follow) p t h = within_prepared_by memory (prepared_at p) columns params follow t h
 within_after memory a kind.Column p t h = within_defined memory (column_at a p) t h
@@ -273,7 +273,7 @@ within_after memory a kind.Error p t h = within_failed t.task t h
 within_after memory a _ p t h = h
 
 -- whether memory was there or not
-pub within_taken : {E : Type 0} (r : Result (Unit {0}) E) (a : Agreed) (k : Kind) (p : List ℕ) (old new : Table)
+pub within_taken : {E : Type 0} (r : Result (Unit {0}) E) (a : Agreed) (k : PacketKind) (p : List ℕ) (old new : Table)
     → OnOk r (new ≡ after true a k p old) → OnErr r (new ≡ after false a k p old) → IsWithin old → IsWithin new
 within_taken (Ok x) a k p old new ok err h = subst IsWithin (sym ok) (within_after true a k p old h)
 within_taken (Err e) a k p old new ok err h = subst IsWithin (sym err) (within_after false a k p old h)

@@ -3,4 +3,5 @@ pub mod Params
 pub mod Refused
 pub mod Bounds
 pub mod Runs
+pub mod Results
 pub mod Fronts

@@ -9,7 +9,7 @@ use Rattle.mysql_statements.specs.Table.{place_of, find, change, without, held}
 
 -- ---- one after another
 
--- a place so many further
+-- a place this many further
 abbrev pub further : ℕ → Option ℕ → Option ℕ
 further i None = None
 further i (Some k) = Some (k + i)

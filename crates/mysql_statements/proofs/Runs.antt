@@ -3,8 +3,8 @@ use Rattle.std.proofs.Common.{◌≡◌, ◌∙◌, ℕ, suc, ◌+◌, ◌-◌, 
 use Rattle.std.proofs.lemmas.List.{length-append, length-replicate, append-nil}
 use Rattle.mysql_prepared.specs.declared.execute_view.BoundParam.{BoundParam}
 use Rattle.mysql_conversation.specs.Agreements.{Agreed}
-use Rattle.mysql_conversation.specs.declared.kind.Kind.{Kind}
-use Rattle.mysql_conversation.specs.declared.kind.Kind.TheVariants as kind
+use Rattle.mysql_conversation.specs.declared.packet_kind.PacketKind.{PacketKind}
+use Rattle.mysql_conversation.specs.declared.packet_kind.PacketKind.TheVariants as kind
 use Rattle.mysql_statements.specs.Kept.{Kept}
 use Rattle.mysql_statements.specs.Statement.{at, untyped, undefined, with_type, with_param, with_column, with_result, param_type_of, columns}
 use Rattle.mysql_statements.specs.Packets.{column_at, prepared_at}
@@ -65,10 +65,10 @@ found_last id (s ∷ ss) x e h = last_when (s.id == id) s x (find id ss) (find i
 
 -- ---- a definition, and what is none
 
-after_definition : (a : Agreed) (k : Kind) (p : List ℕ) (c : RowColumn) (t : Table) → k ≡ kind.Column → column_at a p ≡ Some c → after true a k p t ≡ defined_at t.task true c t
+after_definition : (a : Agreed) (k : PacketKind) (p : List ℕ) (c : RowColumn) (t : Table) → k ≡ kind.Column → column_at a p ≡ Some c → after true a k p t ≡ defined_at t.task true c t
 after_definition a k p c t e h = ap (λ x. after true a x p t) e ∙ ap (λ o. defined true o t) h
 
-after_eof : (a : Agreed) (k : Kind) (p : List ℕ) (t : Table) → k ≡ kind.Eof → after true a k p t ≡ t
+after_eof : (a : Agreed) (k : PacketKind) (p : List ℕ) (t : Table) → k ≡ kind.Eof → after true a k p t ≡ t
 after_eof a k p t e = ap (λ x. after true a x p t) e
 
 -- the statement of that number is this one

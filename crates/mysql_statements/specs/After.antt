@@ -1,8 +1,8 @@
 -- The table after a packet.
 use Rattle.std.specs.Prelude.{ℕ, ◌==◌, ◌||◌, List, Bool, Option, Some, None, if◌then◌else◌}
 use Rattle.mysql_conversation.specs.Agreements.{Agreed}
-use Rattle.mysql_conversation.specs.declared.kind.Kind.{Kind}
-use Rattle.mysql_conversation.specs.declared.kind.Kind.TheVariants as kind
+use Rattle.mysql_conversation.specs.declared.packet_kind.PacketKind.{PacketKind}
+use Rattle.mysql_conversation.specs.declared.packet_kind.PacketKind.TheVariants as kind
 use Rattle.mysql_statements.specs.declared.layout.Layout.TheVariants.{Single, Bulk}
 use Rattle.mysql_statements.specs.Packets.{number_at, prepared_at, column_at, data_at}
 use Rattle.mysql_statements.specs.Table.{Table, otherwise, preparing, prepared, failed, defined, executed, fetched, counted, sent_ahead, reset, closed, cleared}
@@ -39,7 +39,7 @@ prepared_by memory None columns params follow t = otherwise t
 prepared_by memory (Some id) columns params follow t = prepared memory id params columns follow t
 
 -- the table after a packet of this kind, where there is memory or not
-abbrev pub after : Bool → Agreed → Kind → List ℕ → Table → Table
+abbrev pub after : Bool → Agreed → PacketKind → List ℕ → Table → Table
 after memory a (kind.Command code) p t = asked a code p t
 after memory a (kind.PrepareOk columns params follow) p t = prepared_by memory (prepared_at p) columns params follow t
 after memory a kind.Column p t = defined memory (column_at a p) t

@@ -18,7 +18,7 @@ use Rattle.mysql_statements.specs.declared.layout.Layout.TheVariants.{Single, Bu
 
 -- ---- what stands before the values: the types, where they are sent
 
--- COM_STMT_EXECUTE of so many parameters: the head, and what stands before the values
+-- COM_STMT_EXECUTE of a given number of parameters: the head, and what stands before the values
 abbrev pub single_front : CapabilityFlags → ℕ → Form BindFront
 single_front capabilities count = execute_head.form tt >>= (λ head. execution_front capabilities (cursor_flags head) count)
 

@@ -1,8 +1,8 @@
 -- How much a table keeps, and which packets have it take memory.
 use Rattle.std.specs.Prelude.{◌≡◌, ℕ, zero, suc, ◌+◌, ◌≤◌, nat_lt, Bool, true, false, not, ◌&&◌, ◌||◌, List, length, Option, Some, None, is_some, Result, OnOk, OnErr, IsTrue}
 use Rattle.mysql_conversation.specs.Agreements.{Agreed}
-use Rattle.mysql_conversation.specs.declared.kind.Kind.{Kind}
-use Rattle.mysql_conversation.specs.declared.kind.Kind.TheVariants as kind
+use Rattle.mysql_conversation.specs.declared.packet_kind.PacketKind.{PacketKind}
+use Rattle.mysql_conversation.specs.declared.packet_kind.PacketKind.TheVariants as kind
 use Rattle.mysql_statements.specs.After.{after}
 use Rattle.mysql_statements.specs.Packets.{prepared_at, column_at}
 use Rattle.mysql_statements.specs.Kept.{Kept}
@@ -39,12 +39,12 @@ keeps_statement None params columns t = false
 keeps_statement (Some id) params columns t = has_place t.limits (without id t.statements) (params + columns) && (nat_lt 0 params || not (is_known id t.statements))
 
 -- the packet has the table keep a statement, or the definition of a column
-abbrev pub takes_memory : Agreed → Kind → List ℕ → Table → Bool
+abbrev pub takes_memory : Agreed → PacketKind → List ℕ → Table → Bool
 takes_memory a (kind.PrepareOk columns params follow) p t = keeps_statement (prepared_at p) params columns t
 takes_memory a kind.Column p t = is_some (column_at a p) && keeps_column t.task t.statements
 takes_memory a _ p t = false
 
 -- the table now is the one after the packet, where there was memory or not, which is asked for alone where something is to be kept
-abbrev pub IsTaken : {A E : Type 0} → Agreed → Kind → List ℕ → Table → Result A E → Table → Type 0
+abbrev pub IsTaken : {A E : Type 0} → Agreed → PacketKind → List ℕ → Table → Result A E → Table → Type 0
 IsTaken a k p t result now =
     (OnOk result (now ≡ after true a k p t)) × (OnErr result (now ≡ after false a k p t)) × (OnErr result (IsTrue (takes_memory a k p t)))

@@ -6,4 +6,5 @@ pub mod Packets
 pub mod After
 pub mod Bounds
 pub mod Run
-pub mod Early
+pub mod ResultColumns
+pub mod PipelinedCommands

@@ -2,8 +2,8 @@
 use Rattle.std.specs.Prelude.{◌≡◌, ◌⊎◌, ℕ, List, [], ◌∷◌, length, map, true, false, Some}
 use Rattle.mysql_prepared.specs.declared.execute_view.BoundParam.{BoundParam}
 use Rattle.mysql_conversation.specs.Agreements.{Agreed}
-use Rattle.mysql_conversation.specs.declared.kind.Kind.{Kind}
-use Rattle.mysql_conversation.specs.declared.kind.Kind.TheVariants as kind
+use Rattle.mysql_conversation.specs.declared.packet_kind.PacketKind.{PacketKind}
+use Rattle.mysql_conversation.specs.declared.packet_kind.PacketKind.TheVariants as kind
 use Rattle.mysql_statements.specs.Kept.{Kept}
 use Rattle.mysql_statements.specs.Statement.{param_type_of}
 use Rattle.mysql_statements.specs.Packets.{column_at}
@@ -13,7 +13,7 @@ use Rattle.mysql_statements.specs.declared.row_column.RowColumn.{RowColumn}
 
 -- a packet, of a kind
 pub record Item : Type 0 where
-  pub kind : Kind
+  pub kind : PacketKind
   pub payload : List ℕ
 
 -- the table after packets, for which there is memory

@@ -56,11 +56,11 @@ at (suc k) f (p ∷ ps) = p ∷ at k f ps
 
 -- ---- what packets change
 
--- it is prepared with so many parameters and columns
+-- it is prepared with a given number of parameters and columns
 abbrev pub undefined : ℕ → (params columns : ℕ) → Kept
 undefined id params columns = record { id = id; params = replicate params untyped; is_bound = false; width = columns; columns = [] }
 
--- the definition of a parameter, of which so many come
+-- the definition of a parameter, of which this many come
 abbrev pub with_param : ℕ → RowColumn → Kept → Kept
 with_param left c s = record s { params = at (length s.params - left) (with_type (param_type_of c)) s.params }
 
@@ -68,7 +68,7 @@ with_param left c s = record s { params = at (length s.params - left) (with_type
 abbrev pub with_column : RowColumn → Kept → Kept
 with_column c s = record s { columns = s.columns ++ c ∷ [] }
 
--- a result of so many columns, whose definitions come or not
+-- a result of a given number of columns, whose definitions come or not
 abbrev pub with_result : ℕ → Bool → Kept → Kept
 with_result width true s = record s { width = width; columns = [] }
 with_result width false s = record s { width = width }

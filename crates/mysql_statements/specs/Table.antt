@@ -59,11 +59,11 @@ abbrev pub held : List Kept → ℕ
 held [] = 0
 held (s ∷ ss) = types s + held ss
 
--- so many types more may be kept
+-- a given number of types more may be kept
 abbrev pub has_capacity : ℕ → List Kept → ℕ → Bool
 has_capacity limit ss wanted = nat_le (held ss + wanted) limit
 
--- a statement more may be kept, with so many types
+-- a statement more may be kept, with a given number of types
 abbrev pub has_place : StatementLimits → List Kept → ℕ → Bool
 has_place limits ss wanted = nat_lt (length ss) limits.statements && has_capacity limits.types ss wanted
 
@@ -82,7 +82,7 @@ abbrev pub following : Bool → ℕ → (params columns : ℕ) → Task
 following true id params columns = Definitions id params columns
 following false id params columns = Other
 
--- A statement of that number is prepared, with so many parameters and columns. It is kept where it has a place, and memory.
+-- A statement of that number is prepared, with a given number of parameters and columns. It is kept where it has a place, and memory.
 abbrev pub prepared : Bool → ℕ → (params columns : ℕ) → (follow : Bool) → Table → Table
 prepared memory id params columns follow t =
     if has_place t.limits (without id t.statements) (params + columns) && memory
@@ -99,7 +99,7 @@ failed_at (Execution id columns) t = otherwise t
 abbrev pub failed : Table → Table
 failed t = failed_at t.task t
 
--- the definition of a column of a statement, of which so many come
+-- the definition of a column of a statement, of which this many come
 abbrev pub defined_column : Bool → ℕ → ℕ → RowColumn → (ℕ → Task) → Table → Table
 defined_column memory id zero c task t = t
 defined_column memory id (suc left) c task t =
@@ -130,7 +130,7 @@ executed layout p id t = with t (change_of (named t.last id) (with_execution lay
 abbrev pub fetched : ℕ → Table → Table
 fetched id t = with t t.statements t.last (executing (named t.last id))
 
--- a result of an execution, of so many columns, whose definitions follow or not
+-- a result of an execution, of a given number of columns, whose definitions follow or not
 abbrev pub counted_at : Task → ℕ → Bool → Table → Table
 counted_at (Execution id left) width follow t =
     let ss = change id (with_result width follow) t.statements

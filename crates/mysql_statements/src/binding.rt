@@ -8,7 +8,7 @@ use crate::layout::Layout;
 use mysql_prepared::{BoundParam, ComStmtExecuteHead, ExecuteParamsBytes, SentParamTypes};
 use mysql_wire::{CapabilityFlags, FaultOf, LeU16, LeU32, ParseBuf, RawInt};
 
-/// Gives the parameters the types that a `COM_STMT_EXECUTE` sends, and answers whether it sends any.
+/// Sets the parameters' types that a `COM_STMT_EXECUTE` sends, and returns whether it sends any.
 fn bind_single(
     capabilities: CapabilityFlags,
     params: &mut [BoundParam],
@@ -31,7 +31,7 @@ fn bind_single(
     }
 }
 
-/// The types that a bulk execution of so many parameters sends, if it sends any.
+/// The types that a bulk execution of `count` parameters sends, if it sends any.
 fn read_bulk<'s, 'a>(
     count: usize,
     buf: &mut ParseBuf<'a>,
@@ -48,7 +48,7 @@ fn read_bulk<'s, 'a>(
     Ok(Some(SentParamTypes::read(false, count, buf)?))
 }
 
-/// Gives the parameters the types that a bulk execution sends, and answers whether it sends any.
+/// Sets the parameters' types that a bulk execution sends, and returns whether it sends any.
 fn bind_bulk(params: &mut [BoundParam], payload: ParseBuf<'_>) -> bool
     ensures is_bound { result ≡ (spec.bound_by params.old ((spec.bulk_front (length params.old)).reads payload.entry)).is_bound }
     ensures params { params.new ≡ (spec.bound_by params.old ((spec.bulk_front (length params.old)).reads payload.entry)).params }
@@ -64,8 +64,8 @@ fn bind_bulk(params: &mut [BoundParam], payload: ParseBuf<'_>) -> bool
     }
 }
 
-/// Gives the parameters the types that an execution sends, and answers whether it sends any. An execution that is malformed before its
-/// values gives none.
+/// Sets the parameters' types that an execution sends, and returns whether it sends any. An execution that is malformed before
+/// its values sets none.
 pub(crate) fn bind(layout: Layout, params: &mut [BoundParam], payload: ParseBuf<'_>) -> bool
     ensures is_bound { result ≡ (spec.bound_by params.old ((spec.front_of layout (length params.old)).reads payload.entry)).is_bound }
     ensures params { params.new ≡ (spec.bound_by params.old ((spec.front_of layout (length params.old)).reads payload.entry)).params }

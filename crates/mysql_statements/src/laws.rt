@@ -1,8 +1,8 @@
 //! Laws: what holds of every table.
 
-ghost use Rattle.std.specs.Prelude.{◌≡◌, ◌+◌, ◌++◌, List, ℕ, Bool, true, false, Some, Ok, length, map, ◌||◌};
+ghost use Rattle.std.specs.Prelude.{◌≡◌, ◌≤◌, ◌+◌, ◌++◌, List, ℕ, Bool, true, false, Some, Ok, length, map, ◌||◌};
 ghost use Rattle.mysql_conversation.specs.Agreements as agreement;
-ghost use Rattle.mysql_conversation.specs.declared.kind.Kind as declared;
+ghost use Rattle.mysql_conversation.specs.declared.packet_kind.PacketKind as declared;
 ghost use Rattle.mysql_prepared.specs.Attributes.{Attribute};
 ghost use Rattle.mysql_prepared.specs.BindFront.{BindFront};
 ghost use Rattle.mysql_prepared.specs.ExecuteHead.{cursor_flags, execute_head};
@@ -12,9 +12,10 @@ ghost use Rattle.mysql_prepared.specs.declared.execute_head.ComStmtExecuteHead a
 ghost use Rattle.mysql_statements.specs.After.{after};
 ghost use Rattle.mysql_statements.specs.Binding.{with_execution};
 ghost use Rattle.mysql_statements.specs.Bounds.{IsWithin};
-ghost use Rattle.mysql_conversation.specs.declared.kind.Kind.TheVariants as kind;
+ghost use Rattle.mysql_conversation.specs.declared.packet_kind.PacketKind.TheVariants as kind;
 ghost use Rattle.mysql_statements.specs.Kept as kept;
 ghost use Rattle.mysql_statements.specs.Packets.{prepared_at};
+ghost use Rattle.mysql_statements.specs.ResultColumns as results;
 ghost use Rattle.mysql_statements.specs.Run as runs;
 ghost use Rattle.mysql_statements.specs.Statement.{with_result, without_data};
 ghost use Rattle.mysql_statements.specs.Table as tables;
@@ -24,7 +25,7 @@ ghost use Rattle.mysql_statements.specs.declared.task.Task.TheVariants as task;
 
 /// A table that is within its bounds is so after any packet.
 pub fn a_table_stays_within_its_bounds()
-    ensures { (memory : Bool) (a : agreement.Agreed) (k : declared.Kind) (p : List ℕ) (t : tables.Table) → IsWithin t → IsWithin (after memory a k p t) }
+    ensures { (memory : Bool) (a : agreement.Agreed) (k : declared.PacketKind) (p : List ℕ) (t : tables.Table) → IsWithin t → IsWithin (after memory a k p t) }
 {}
 
 /// A statement that is prepared, has a place, and whose definitions all came, is known with the types that they say.
@@ -34,7 +35,7 @@ pub fn a_prepared_statement_is_as_its_definitions_say()
         → tables.statement_of id (runs.after_all a items (after true a (kind.PrepareOk (length columns) (length params) true) p t)) ≡ Some (runs.defined_as id params columns) }
 {}
 
-/// The rows of a result have the columns that its definitions say, where there is capacity for them.
+/// The rows of a result have the columns of its definitions, if there is capacity for them.
 pub fn rows_have_the_columns_of_their_result()
     ensures { (a : agreement.Agreed) (t : tables.Table) (p : List ℕ) (id left : ℕ) (s : kept.Kept) (items : List runs.Item) (columns : List column.RowColumn) → t.task ≡ task.Execution id left
         → tables.find id t.statements ≡ Some s → tables.has_capacity t.limits.types (tables.change id (with_result (length columns) true) t.statements) (length columns) ≡ true
@@ -42,7 +43,7 @@ pub fn rows_have_the_columns_of_their_result()
         → tables.columns_of_rows (runs.after_all a items (after true a (kind.ColumnCount (length columns) true) p t)) ≡ Some columns }
 {}
 
-/// Where the definitions of a result are left out, its rows have the columns of the statement's last result.
+/// If the definitions of a result are omitted, its rows have the columns of the statement's last result.
 pub fn rows_without_definitions_have_the_columns_of_their_statement()
     ensures { (a : agreement.Agreed) (t : tables.Table) (p : List ℕ) (id left : ℕ) (s : kept.Kept) → t.task ≡ task.Execution id left → tables.find id t.statements ≡ Some s
         → tables.columns_of_rows (after true a (kind.ColumnCount (length s.columns) false) p t) ≡ Some s.columns }
@@ -57,4 +58,10 @@ pub fn an_execution_binds_what_its_parameters_are_read_under()
     ensures read { (capabilities : CapabilityFlags) (s : kept.Kept) (p body rest : List ℕ) (h : head.ComStmtExecuteHead) (params : List TypedParam) (attributes : List Attribute) → (execute_head.form tt).reads p ≡ Ok (h, body)
         → (execution capabilities (cursor_flags h) s.params).reads body ≡ Ok ((params, attributes), rest)
         → map (λ q. q.param_type) (with_execution (layout.Single capabilities) p s).params ≡ map (λ x. x.named_type.param_type) params }
+{}
+
+/// The columns of a result are those that its definitions say, in order, if no more than may be kept.
+pub fn a_result_has_the_columns_of_its_definitions()
+    ensures { (a : agreement.Agreed) (r : results.ResultColumns) (p : List ℕ) (items : List runs.Item) (columns : List column.RowColumn) → length columns ≤ r.limit → runs.AreDefinitions a items columns
+        → results.known (results.after_all a items (results.after true a (kind.ColumnCount (length columns) true) p r)) ≡ Some columns }
 {}

@@ -1,8 +1,8 @@
-//! How an execution lies in the bytes.
+//! The layout of an execution.
 
 use mysql_wire::CapabilityFlags;
 
-/// How an execution lies in the bytes, as far as its types are concerned.
+/// The layout of an execution, as far as its types are concerned.
 #[derive(Clone, Copy, Debug, PartialEq, Eq)]
 pub(crate) enum Layout {
     /// `COM_STMT_EXECUTE`, where both sides have these flags.

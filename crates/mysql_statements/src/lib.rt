@@ -2,22 +2,24 @@
 #![tactic(auto)]
 
 mod binding;
-mod early;
-mod early_command;
 pub mod laws;
 mod layout;
 mod limits;
 mod packets;
+mod pipelined_command;
+mod pipelined_commands;
 mod places;
+mod result_columns;
 mod row_column;
 mod statement;
 mod table;
 mod take;
 mod task;
 
-pub use early::EarlyCommands;
-pub use early_command::EarlyCommand;
-pub use limits::{EarlyLimits, StatementLimits};
+pub use limits::{PipelinedLimits, StatementLimits};
+pub use pipelined_command::PipelinedCommand;
+pub use pipelined_commands::PipelinedCommands;
+pub use result_columns::ResultColumns;
 pub use row_column::RowColumn;
 pub use statement::Statement;
 pub use table::Statements;

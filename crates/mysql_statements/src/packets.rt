@@ -1,4 +1,4 @@
-//! What the packets say of statements.
+//! Reads what packets say about statements.
 
 ghost use Rattle.std.specs.Prelude.{◌≡◌};
 ghost use Rattle.std.specs.Prelude.{false};
@@ -46,7 +46,7 @@ pub(crate) fn prepared_at(alloc: Global, payload: &[u8]) -> Option<u32>
     }
 }
 
-/// What is kept of a column.
+/// The properties of a column that are kept.
 fn row_column(column: &ColumnRef<'_>) -> RowColumn
     ensures { result ≡ spec.row_column column.now }
 {

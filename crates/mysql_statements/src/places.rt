@@ -11,7 +11,7 @@ use crate::row_column::RowColumn;
 use crate::statement::Statement;
 use std::alloc::{AllocError, Global};
 
-/// Where the statement of that number stands. It looks at each one before it.
+/// The position of the statement with that number, by a linear search.
 #[tactic(auto, using(crate::proofs::Numbers::steps))]
 pub(crate) fn place_of(statements: &[Statement], id: u32) -> Option<usize>
     ensures value { result ≡ spec.place_of id statements.now }
@@ -35,7 +35,7 @@ pub(crate) fn find(statements: &[Statement], id: u32) -> Option<&Statement>
     Some(&statements[place])
 }
 
-/// Removes the statement with that number. It looks at each one. If there was one, the list has memory for another.
+/// Removes the statement with that number, by a linear search. If there was one, the list has capacity for another.
 #[tactic(auto, using(crate::proofs::Numbers::gone))]
 pub(crate) fn forget(statements: &mut Vec<Statement>, id: u32)
     ensures gone { statements.new.items ≡ spec.without id statements.old.items }
@@ -46,7 +46,7 @@ pub(crate) fn forget(statements: &mut Vec<Statement>, id: u32)
     }
 }
 
-/// The definition of a parameter, of which so many come.
+/// Takes the definition of a parameter, of which `left` follow.
 #[tactic(auto, using(crate::proofs::Numbers::places))]
 pub(crate) fn define_param(statements: &mut [Statement], id: u32, left: usize, column: RowColumn)
     ensures { statements.new ≡ spec.change id (statement.with_param left column) statements.old }
@@ -73,7 +73,7 @@ pub(crate) fn define_column(
     Ok(())
 }
 
-/// A result of so many columns, whose definitions follow or not.
+/// A result of a given number of columns, whose definitions follow or not.
 #[tactic(auto, using(crate::proofs::Numbers::places))]
 pub(crate) fn begin_result(statements: &mut [Statement], id: u32, width: u64, follow: bool)
     ensures { statements.new ≡ spec.change id (statement.with_result width follow) statements.old }
@@ -119,7 +119,7 @@ pub(crate) fn drop_data(statements: &mut [Statement], id: u32)
     }
 }
 
-/// How many types may be kept besides those that are.
+/// The number of types that may still be kept.
 #[tactic(auto, using(crate::proofs::Numbers::counts))]
 fn left_of(limit: usize, statements: &[Statement]) -> Option<usize>
     ensures some { IfSome result (λ left. left + spec.held statements.now ≡ limit) }
@@ -132,7 +132,7 @@ fn left_of(limit: usize, statements: &[Statement]) -> Option<usize>
     Some(left)
 }
 
-/// Whether so many types more may be kept. It looks at each statement.
+/// Whether this many more types may be kept. It visits each statement.
 pub(crate) fn has_capacity(limit: usize, statements: &[Statement], wanted: u64) -> bool
     ensures { result ≡ spec.has_capacity limit statements.now wanted }
 {

@@ -1,4 +1,4 @@
-//! What is kept of a column.
+//! The kept properties of a column.
 
 ghost use Rattle.std.specs.Prelude.{◌≡◌};
 ghost use Rattle.mysql_statements.specs.Statement as spec;
@@ -7,7 +7,11 @@ use mysql_prepared::TypedColumn;
 use mysql_values::ParamType;
 use mysql_wire::{ColumnType, Flags, StmtExecuteParamFlags};
 
-/// What is kept of a column: its type, and whether its numbers have no sign, by which binary rows are read.
+/// The kept properties of a column, by which binary rows are read: its type, and whether its integers are unsigned.
+///
+/// ```
+/// statements.columns_of_rows().unwrap_or(&[])
+/// ```
 #[derive(Clone, Copy, Debug, PartialEq, Eq)]
 pub struct RowColumn {
     /// The type.
@@ -17,7 +21,7 @@ pub struct RowColumn {
 }
 
 impl RowColumn {
-    /// The same as the type of a parameter.
+    /// Converts to the type of a parameter.
     pub(crate) fn param_type(&self) -> ParamType
         ensures { result ≡ spec.param_type_of self.now }
     {

@@ -1,4 +1,4 @@
-//! What is kept of a prepared statement.
+//! A prepared statement.
 
 ghost use Rattle.std.specs.Prelude.{◌≡◌, ◌<◌, ◌+◌, ◌-◌, length, replicate, IfOk, IfSome, IfNone, IsOk, OnOk, OnErr, map};
 ghost use Rattle.mysql_statements.specs.Binding as binding;
@@ -37,7 +37,7 @@ fn untyped_params(alloc: Global, count: u16) -> Result<Vec<BoundParam>, AllocErr
     vec![in alloc; untyped(); usize::from(count)]
 }
 
-/// The type of a parameter, where so many are left.
+/// The type of a parameter, where `left` are left.
 #[tactic(auto, using(crate::proofs::Params::params))]
 fn set_type(params: &mut [BoundParam], left: usize, param_type: ParamType)
     ensures { params.new ≡ spec.at (length params.old - left) (spec.with_type param_type) params.old }
@@ -68,7 +68,7 @@ fn drop_data(params: &mut [BoundParam])
     }
 }
 
-/// What is kept of a prepared statement: its parameters and the columns of its last result.
+/// A prepared statement: its parameters and the columns of its last result.
 #[derive(Drop)]
 pub struct Statement {
     id: u32,
@@ -87,7 +87,7 @@ impl Model for Statement {
 }
 
 impl Statement {
-    /// One with so many parameters and columns, of which no definition came.
+    /// Creates a statement with these counts of parameters and columns, without definitions.
     pub(crate) fn new(alloc: Global, id: u32, params: u16, columns: u16) -> Result<Self, AllocError>
         ensures value { IfOk result (λ s. s ≡ spec.undefined id params columns) }
         ensures no_memory { params ≡ 0 → IsOk result }
@@ -124,7 +124,7 @@ impl Statement {
         self.is_bound
     }
 
-    /// How many columns its last result has, and before the first those that it was prepared with.
+    /// The number of columns of its last result; before the first result, that of its preparation.
     pub fn width(&self) -> u64
         ensures value { result ≡ spec.width self.now }
     {
@@ -143,7 +143,7 @@ impl Statement {
         }
     }
 
-    /// What is left of so many types without its own.
+    /// The rest of `types` types after its own.
     pub(crate) fn left_of(&self, types: usize) -> Option<usize>
         ensures some { IfSome result (λ left. left + spec.types self.now ≡ types) }
         ensures none { IfNone result (types < spec.types self.now) }
@@ -153,7 +153,7 @@ impl Statement {
             .checked_sub(self.columns.len())
     }
 
-    /// The definition of a parameter, of which so many come.
+    /// Takes the definition of a parameter, of which `left` follow.
     pub(crate) fn define_param(&mut self, left: usize, column: RowColumn)
         ensures { self.new ≡ spec.with_param left column self.old }
     {
@@ -169,7 +169,7 @@ impl Statement {
         Ok(())
     }
 
-    /// A result of so many columns, whose definitions come or not.
+    /// Begins a result of `width` columns, whose definitions follow or not.
     pub(crate) fn begin_result(&mut self, width: u64, follow: bool)
         ensures { self.new ≡ spec.with_result width follow self.old }
     {

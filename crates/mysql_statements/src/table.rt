@@ -19,16 +19,31 @@ use std::marker::Model;
 
 /// The prepared statements of a connection, as whoever watches it keeps them, so that each binary row and each execution can be read.
 ///
-/// It is passed each packet of the conversation, in its order ([`take`](Self::take)). An execution is read under the parameters of its
-/// [`statement`](Self::statement), which is asked for before that packet is taken, and a binary row under
-/// [`columns_of_rows`](Self::columns_of_rows). A command that comes before the answers to earlier ones is taken when the server comes to it:
-/// [`EarlyCommands`](crate::EarlyCommands).
+/// It is passed each packet of the conversation, in its order ([`take`](Self::take)). An execution is read under the parameters
+/// of its [`statement`](Self::statement), before that packet is taken, and a binary row under
+/// [`columns_of_rows`](Self::columns_of_rows). A pipelined command is taken when the server reaches it:
+/// [`PipelinedCommands`](crate::PipelinedCommands).
 ///
-/// No more is kept than its limits say, and no memory is taken before the first statement. A statement that is not kept is not known, and the
-/// others are. A statement is found by looking at those before it.
+/// At most as much is kept as the limits say, and no memory is taken before the first statement. A statement that isn't kept is
+/// unknown; the others are known. Lookup is linear.
 ///
-/// In a clause it is the limits, what is known of each statement, the number of the one that was prepared last, and what the exchange that runs
-/// does.
+/// In a clause it is the limits, the known statements, the number of the one that was prepared last, and the task of the
+/// current exchange.
+///
+/// ```
+/// let limits = StatementLimits {
+///     statements: 100,
+///     types: 10_000, // of parameters and columns, of all statements
+/// };
+/// let pipelined = PipelinedLimits {
+///     commands: 16,
+///     bytes: 1 << 16, // of one command
+/// };
+/// (
+///     Statements::new(alloc, limits),
+///     PipelinedCommands::new(alloc, pipelined),
+/// )
+/// ```
 #[derive(Drop)]
 pub struct Statements {
     alloc: Global,
@@ -61,12 +76,12 @@ impl Statements {
         }
     }
 
-    /// Where memory is taken.
+    /// The allocator.
     pub(crate) fn alloc(&self) -> Global {
         self.alloc
     }
 
-    /// The number of the statement that is named so: `ffffffff` names the one that was prepared last.
+    /// Resolves a statement's number: `ffffffff` is the one that was prepared last.
     fn named(&self, id: u32) -> Option<u32>
         ensures { result ≡ spec.named self.now.last id }
     {
@@ -77,7 +92,7 @@ impl Statements {
         }
     }
 
-    /// What is kept of the statement of that number. The number `ffffffff` is that of the one that was prepared last.
+    /// Returns the statement with that number; `ffffffff` is the one that was prepared last.
     pub fn statement(&self, id: u32) -> Option<&Statement>
         ensures some { IfSome result (λ s. spec.statement_of id self.now ≡ Some s.now) }
         ensures none { IfNone result (spec.statement_of id self.now ≡ None) }
@@ -85,7 +100,7 @@ impl Statements {
         find(&self.statements, self.named(id)?)
     }
 
-    /// The columns of the binary rows that come, where they are known.
+    /// The columns of the current binary rows, if they are known.
     pub fn columns_of_rows(&self) -> Option<&[RowColumn]>
         ensures some { IfSome result (λ columns. spec.columns_of_rows self.now ≡ Some columns.now) }
         ensures none { IfNone result (spec.columns_of_rows self.now ≡ None) }
@@ -96,7 +111,7 @@ impl Statements {
         }
     }
 
-    /// The exchange that runs does something else.
+    /// The current exchange has no task.
     pub(crate) fn turn_away(&mut self)
         ensures { self.new ≡ spec.otherwise self.old }
     {
@@ -120,7 +135,7 @@ impl Statements {
         self.task = Task::Other;
     }
 
-    /// Whether a statement more has a place, with so many types.
+    /// Whether a statement more has a place, with `wanted` types.
     fn has_place(&self, wanted: u64) -> bool
         ensures { result ≡ spec.has_place self.now.limits self.now.statements wanted }
     {
@@ -128,7 +143,7 @@ impl Statements {
             && has_capacity(self.limits.types, &self.statements, wanted)
     }
 
-    /// A statement of that number is prepared. Where it has no place, or there is no memory, it is not kept.
+    /// Adds a prepared statement with that number. If a limit is reached, or the allocation fails, it isn't kept.
     pub(crate) fn prepare(
         &mut self,
         id: u32,
@@ -154,7 +169,8 @@ impl Statements {
         Ok(())
     }
 
-    /// The definition of a parameter or a column, where the exchange has such. Without memory no more columns are kept.
+    /// Takes the definition of a parameter or a column, if the exchange has such. If an allocation fails, no more columns are
+    /// kept.
     pub(crate) fn define(&mut self, column: Option<RowColumn>) -> Result<(), AllocError>
         ensures ok { OnOk result (self.new ≡ spec.defined true column self.old) }
         ensures err { OnErr result (self.new ≡ spec.defined false column self.old) }
@@ -227,7 +243,7 @@ impl Statements {
         };
     }
 
-    /// A result of an execution, of so many columns, whose definitions follow or not.
+    /// A result of an execution, of `width` columns, whose definitions follow or not.
     pub(crate) fn count(&mut self, width: u64, follow: bool)
         ensures { self.new ≡ spec.counted width follow self.old }
     {

@@ -1,4 +1,4 @@
-//! What a packet changes.
+//! Updates the table by packets.
 
 ghost use Rattle.std.specs.Prelude.{◌≡◌, OnOk, OnErr, IsTrue, true, false};
 ghost use Rattle.mysql_statements.specs.After as spec;
@@ -8,12 +8,31 @@ ghost use Rattle.mysql_statements.specs.Packets as packets;
 use crate::layout::Layout;
 use crate::packets::{column_at, data_at, number_at, prepared_at};
 use crate::table::Statements;
-use mysql_conversation::Kind;
+use mysql_conversation::PacketKind;
 use mysql_replies::SessionCapabilities;
+use mysql_wire::ServerCommand;
 use std::alloc::AllocError;
 
+const COM_CHANGE_USER: u8 = ServerCommand::COM_CHANGE_USER as u8;
+
+const COM_STMT_PREPARE: u8 = ServerCommand::COM_STMT_PREPARE as u8;
+
+const COM_STMT_EXECUTE: u8 = ServerCommand::COM_STMT_EXECUTE as u8;
+
+const COM_STMT_SEND_LONG_DATA: u8 = ServerCommand::COM_STMT_SEND_LONG_DATA as u8;
+
+const COM_STMT_CLOSE: u8 = ServerCommand::COM_STMT_CLOSE as u8;
+
+const COM_STMT_RESET: u8 = ServerCommand::COM_STMT_RESET as u8;
+
+const COM_STMT_FETCH: u8 = ServerCommand::COM_STMT_FETCH as u8;
+
+const COM_RESET_CONNECTION: u8 = ServerCommand::COM_RESET_CONNECTION as u8;
+
+const COM_STMT_BULK_EXECUTE: u8 = ServerCommand::COM_STMT_BULK_EXECUTE as u8;
+
 impl Statements {
-    /// Takes the packet that comes next in a conversation, of the kind that it has there, and keeps what it says of statements.
+    /// Takes the next packet of a conversation, of the kind that it has there, and keeps what it says about statements.
     ///
     /// | Packet | What is kept |
     /// |---|---|
@@ -24,14 +43,14 @@ impl Statements {
     /// | `COM_STMT_CLOSE` | that statement no longer |
     /// | `COM_CHANGE_USER`, `COM_RESET_CONNECTION` | no statement |
     ///
-    /// Other packets change nothing that is known. In a statement's number `ffffffff` stands for the statement that was prepared last.
+    /// Other packets change nothing. In a statement's number `ffffffff` is the statement that was prepared last.
     ///
-    /// It is refused where there is no memory for a statement, or for a column of those that come. The packet is taken all the same, but that
-    /// statement, or the columns of that result, are not known then. The others are.
+    /// `AllocError` if a statement, or a column of the current result, can't be allocated. The packet is taken all the same,
+    /// but that statement, or the columns of that result, are unknown; the others are known.
     pub fn take(
         &mut self,
         agreed: SessionCapabilities,
-        kind: Kind,
+        kind: PacketKind,
         payload: &[u8],
     ) -> Result<(), AllocError>
         ensures taken { OnOk result (self.new ≡ spec.after true agreed kind payload.now self.old) }
@@ -48,17 +67,17 @@ impl Statements {
     fn change(
         &mut self,
         agreed: SessionCapabilities,
-        kind: Kind,
+        kind: PacketKind,
         payload: &[u8],
     ) -> Result<(), AllocError>
         ensures { bounds.IsTaken agreed kind payload.now self.old result self.new }
     {
         match kind {
-            Kind::Command(code) => {
+            PacketKind::Command(code) => {
                 self.ask(agreed, code, payload);
                 Ok(())
             }
-            Kind::PrepareOk(columns, params, follow) => {
+            PacketKind::PrepareOk(columns, params, follow) => {
                 match prepared_at(self.alloc(), payload) {
                     Some(id) => self.prepare(id, params, columns, follow),
                     None => {
@@ -67,12 +86,12 @@ impl Statements {
                     }
                 }
             }
-            Kind::Column => self.define(column_at(self.alloc(), agreed, payload)),
-            Kind::ColumnCount(count, follow) => {
+            PacketKind::Column => self.define(column_at(self.alloc(), agreed, payload)),
+            PacketKind::ColumnCount(count, follow) => {
                 self.count(count, follow);
                 Ok(())
             }
-            Kind::Error => {
+            PacketKind::Error => {
                 self.fail();
                 Ok(())
             }
@@ -85,13 +104,17 @@ impl Statements {
         ensures { self.new ≡ spec.asked agreed code payload.now self.old }
     {
         match code {
-            0x16 => self.begin_prepare(),
-            0x11 | 0x1f => self.clear(),
-            0x18 => match data_at(self.alloc(), payload) {
+            COM_STMT_PREPARE => self.begin_prepare(),
+            COM_CHANGE_USER | COM_RESET_CONNECTION => self.clear(),
+            COM_STMT_SEND_LONG_DATA => match data_at(self.alloc(), payload) {
                 Some((id, param)) => self.send_ahead(id, usize::from(param)),
                 None => self.turn_away(),
             },
-            0x17 | 0xfa | 0x1c | 0x19 | 0x1a => self.ask_one(agreed, code, payload),
+            COM_STMT_EXECUTE
+            | COM_STMT_BULK_EXECUTE
+            | COM_STMT_FETCH
+            | COM_STMT_CLOSE
+            | COM_STMT_RESET => self.ask_one(agreed, code, payload),
             _ => self.turn_away(),
         }
     }
@@ -105,10 +128,10 @@ impl Statements {
             return;
         };
         match code {
-            0x19 => self.close(id),
-            0x1a => self.reset(id),
-            0x1c => self.fetch(id),
-            0xfa => self.execute(id, Layout::Bulk, payload),
+            COM_STMT_CLOSE => self.close(id),
+            COM_STMT_RESET => self.reset(id),
+            COM_STMT_FETCH => self.fetch(id),
+            COM_STMT_BULK_EXECUTE => self.execute(id, Layout::Bulk, payload),
             _ => self.execute(id, Layout::Single(agreed.mysql), payload),
         }
     }

@@ -1,14 +1,14 @@
-//! What the exchange that runs does with statements.
+//! The task of the current exchange.
 
-/// What the exchange that runs does with statements.
+/// What the current exchange does with statements.
 #[derive(Clone, Copy, Debug, PartialEq, Eq)]
 pub(crate) enum Task {
-    /// Something else.
+    /// Nothing.
     Other,
     /// It is to prepare one.
     Prepare,
-    /// Definitions of the one of that number come: of so many parameters, and then of so many columns.
+    /// The definitions of the statement with that number follow: first of its parameters, and then of its columns.
     Definitions(u32, usize, u64),
-    /// It executes the one of that number, and so many definitions of columns are to be kept.
+    /// It executes the statement with that number, and this many definitions of columns are to be kept.
     Execution(u32, u64),
 }

@@ -4,7 +4,7 @@
 
 pub use mysql_bulk::{
     BulkColumnTypeError, BulkExecuteRequestBuilderError, BulkExecuteRequestError,
-    BulkParamsRequests, BulkRequestWriter, BulkRequests, BulkRowRefusal, BulkRun, BulkValue,
+    BulkParamsRequests, BulkRequestWriter, BulkRequests, BulkRowError, BulkRun, BulkValue,
     BulkValuesRun, ComStmtBulkExecuteHeader, ComStmtBulkExecuteRequest,
     ComStmtBulkExecuteRequestBuilder, InvalidComStmtBulkExecuteHeader, StmtBulkExecuteParamType,
     StmtBulkExecuteParamValue, StmtBulkExecuteParamValues, bulk_row_size, read_bulk_rows,

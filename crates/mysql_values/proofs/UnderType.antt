@@ -18,7 +18,7 @@ use Rattle.mysql_values.specs.ReadingBack.{IsInRange}
 use Rattle.mysql_values.specs.TypedValue.{content_bits, is_unsigned_type, number_bits, number_read, some_spelled, spelled, spells_wide, wide_value, ReadsUnder}
 use Rattle.mysql_values.specs.Value.{Content, NULL, Bytes, Int, UInt, Float, Double, Date, Time, bin}
 use Rattle.mysql_values.specs.ValueDeserializer.{bin_value, integer_of, short_integer}
-use Rattle.mysql_values.specs.ValueKind.{kind_of, suits}
+use Rattle.mysql_values.specs.ValueKind.{kind_of, matches_type}
 use Rattle.mysql_values.proofs.ValueAgain.{value-again, agrees-by_kind}
 
 -- ---- numbers of fewer than eight bytes
@@ -68,10 +68,6 @@ not_true true true e h = absurd cc
 not_true true false e h = refl
 not_true false b e h = absurd cc
 
-or_true : (a b : Bool) → (a || b) ≡ true → a ≡ false → b ≡ true
-or_true true b e h = absurd cc
-or_true false b e h = e
-
 longlong_int : (type : ColumnType) (u : Bool) (z : ℤ) → kind_of type ≡ kind.LongLong → not (u && is_negative z) ≡ true → FitsSigned w64 z → IsSpelling (bin_value type u) (number_read kind.LongLong u z) (bin (Int z))
 longlong_int type true (pos n) is h fits = λ rest. value-again type true (UInt n) rest (is, refl, omega (arith, fits.sfits))
 longlong_int type true (negsuc n) is h fits = absurd cc
@@ -103,18 +99,18 @@ uint-again type u _ n bytes is fits e = absurd cc
 
 -- ---- values that are no integers
 
-module _ (value : Content) (none : (half : ℕ) (u : Bool) → content_bits half u value ≡ None) (wide : (k : ValueKind) (u : Bool) → spells_wide k u value ≡ suits k value) where
+module _ (value : Content) (none : (half : ℕ) (u : Bool) → content_bits half u value ≡ None) (wide : (k : ValueKind) (u : Bool) → spells_wide k u value ≡ matches_type k value) where
   no_bytes : (width half : ℕ) (u : Bool) (bytes : List ℕ) → option_map (le_bytes width) (content_bits half u value) ≡ Some bytes → ⊥
   no_bytes width half u bytes e = let same : option_map (le_bytes width) None ≡ Some bytes = rw none at e in cc
 
-  kind_suits : (k : ValueKind) (u : Bool) (bytes : List ℕ) → some_spelled k u value ≡ Some bytes → (suits k value ≡ true) × (bin value ≡ bytes)
+  kind_suits : (k : ValueKind) (u : Bool) (bytes : List ℕ) → some_spelled k u value ≡ Some bytes → (matches_type k value ≡ true) × (bin value ≡ bytes)
   kind_suits kind.Tiny u bytes e = absurd (no_bytes 1 (2 ^ 7) u bytes e)
   kind_suits kind.Short u bytes e = absurd (no_bytes 2 (2 ^ 15) u bytes e)
   kind_suits kind.Long u bytes e = absurd (no_bytes 4 (2 ^ 31) u bytes e)
   kind_suits k u bytes e = let w = wide_is k u value bytes e in (sym (wide k u) ∙ w.0, w.1)
 
   -- a type that has the value's kind reads it
-  other-again : (t : ParamType) → (suits (kind_of t.column_type) value ≡ true → IsSpelling (bin_value t.column_type (is_unsigned_type t)) value (bin value))
+  other-again : (t : ParamType) → (matches_type (kind_of t.column_type) value ≡ true → IsSpelling (bin_value t.column_type (is_unsigned_type t)) value (bin value))
       → (bytes : List ℕ) → some_spelled (kind_of t.column_type) (is_unsigned_type t) value ≡ Some bytes → IsSpelling (bin_value t.column_type (is_unsigned_type t)) value bytes
   other-again t again bytes e =
       let h = kind_suits (kind_of t.column_type) (is_unsigned_type t) bytes e in

@@ -20,7 +20,7 @@ use Rattle.mysql_values.specs.declared.temporal.TimeSpan.{TimeSpan}
 use Rattle.mysql_values.specs.Temporal.{day, day_fields, day_bytes, clock, clock_fields, clock_bytes, date_time, date_time_bytes, time_span, time_span_bytes, is_midnight, is_zero_day, zero_day, midnight, sign_byte}
 use Rattle.mysql_values.specs.Value.{Content, NULL, Bytes, Int, UInt, Float, Double, Date, Time, bin}
 use Rattle.mysql_values.specs.ValueDeserializer.{bin_value, date_value, value_of_kind}
-use Rattle.mysql_values.specs.ValueKind.{kind_of, is_date, is_longlong, suits}
+use Rattle.mysql_values.specs.ValueKind.{kind_of, is_date, is_longlong, matches_type}
 use Rattle.mysql_values.specs.ReadingBack.{DateFits, TimeFits, ReadsBack, Agrees, IsInRange}
 use Rattle.mysql_values.specs.SentType.{sent_type, is_uint}
 
@@ -151,43 +151,43 @@ agrees-by_type type u (Time time) h = λ rest. value-again type u (Time time) re
 
 -- ---- values that suit the kind of a type
 
-string-suits : (k : ValueKind) (bytes : List ℕ) → suits k (Bytes bytes) ≡ true → k ≡ kind.String
-string-suits kind.String bytes h = refl
-string-suits _ bytes h = absurd cc
+string-matches_type : (k : ValueKind) (bytes : List ℕ) → matches_type k (Bytes bytes) ≡ true → k ≡ kind.String
+string-matches_type kind.String bytes h = refl
+string-matches_type _ bytes h = absurd cc
 
-float-suits : (k : ValueKind) (bits : ℕ) → suits k (Float bits) ≡ true → k ≡ kind.Float
-float-suits kind.Float bits h = refl
-float-suits _ bits h = absurd cc
+float-matches_type : (k : ValueKind) (bits : ℕ) → matches_type k (Float bits) ≡ true → k ≡ kind.Float
+float-matches_type kind.Float bits h = refl
+float-matches_type _ bits h = absurd cc
 
-double-suits : (k : ValueKind) (bits : ℕ) → suits k (Double bits) ≡ true → k ≡ kind.Double
-double-suits kind.Double bits h = refl
-double-suits _ bits h = absurd cc
+double-matches_type : (k : ValueKind) (bits : ℕ) → matches_type k (Double bits) ≡ true → k ≡ kind.Double
+double-matches_type kind.Double bits h = refl
+double-matches_type _ bits h = absurd cc
 
-date-suits : (k : ValueKind) (date : DateTime) → suits k (Date date) ≡ true → is_date k ≡ true
-date-suits kind.Date date h = refl
-date-suits kind.DateTime date h = refl
-date-suits _ date h = absurd cc
+date-matches_type : (k : ValueKind) (date : DateTime) → matches_type k (Date date) ≡ true → is_date k ≡ true
+date-matches_type kind.Date date h = refl
+date-matches_type kind.DateTime date h = refl
+date-matches_type _ date h = absurd cc
 
-time-suits : (k : ValueKind) (time : TimeSpan) → suits k (Time time) ≡ true → k ≡ kind.Time
-time-suits kind.Time time h = refl
-time-suits _ time h = absurd cc
+time-matches_type : (k : ValueKind) (time : TimeSpan) → matches_type k (Time time) ≡ true → k ≡ kind.Time
+time-matches_type kind.Time time h = refl
+time-matches_type _ time h = absurd cc
 
-integer-suits : (k : ValueKind) (x : ℤ) → suits k (Int x) ≡ true → ⊥
-integer-suits _ x h = absurd cc
+integer-matches_type : (k : ValueKind) (x : ℤ) → matches_type k (Int x) ≡ true → ⊥
+integer-matches_type _ x h = absurd cc
 
-unsigned-suits : (k : ValueKind) (n : ℕ) → suits k (UInt n) ≡ true → ⊥
-unsigned-suits _ n h = absurd cc
+unsigned-matches_type : (k : ValueKind) (n : ℕ) → matches_type k (UInt n) ≡ true → ⊥
+unsigned-matches_type _ n h = absurd cc
 
 -- such a value agrees with the type
-pub agrees-by_kind : (type : ColumnType) (u : Bool) (content : Content) → suits (kind_of type) content ≡ true → IsInRange content → Agrees type u content
+pub agrees-by_kind : (type : ColumnType) (u : Bool) (content : Content) → matches_type (kind_of type) content ≡ true → IsInRange content → Agrees type u content
 agrees-by_kind type u NULL h fits = tt
-agrees-by_kind type u (Bytes bytes) h fits = agrees-by_type type u (Bytes bytes) (string-suits (kind_of type) bytes h, fits)
-agrees-by_kind type u (Int x) h fits = absurd (integer-suits (kind_of type) x h)
-agrees-by_kind type u (UInt n) h fits = absurd (unsigned-suits (kind_of type) n h)
-agrees-by_kind type u (Float bits) h fits = agrees-by_type type u (Float bits) (float-suits (kind_of type) bits h, fits)
-agrees-by_kind type u (Double bits) h fits = agrees-by_type type u (Double bits) (double-suits (kind_of type) bits h, fits)
-agrees-by_kind type u (Date date) h fits = agrees-by_type type u (Date date) (date-suits (kind_of type) date h, fits)
-agrees-by_kind type u (Time time) h fits = agrees-by_type type u (Time time) (time-suits (kind_of type) time h, fits)
+agrees-by_kind type u (Bytes bytes) h fits = agrees-by_type type u (Bytes bytes) (string-matches_type (kind_of type) bytes h, fits)
+agrees-by_kind type u (Int x) h fits = absurd (integer-matches_type (kind_of type) x h)
+agrees-by_kind type u (UInt n) h fits = absurd (unsigned-matches_type (kind_of type) n h)
+agrees-by_kind type u (Float bits) h fits = agrees-by_type type u (Float bits) (float-matches_type (kind_of type) bits h, fits)
+agrees-by_kind type u (Double bits) h fits = agrees-by_type type u (Double bits) (double-matches_type (kind_of type) bits h, fits)
+agrees-by_kind type u (Date date) h fits = agrees-by_type type u (Date date) (date-matches_type (kind_of type) date h, fits)
+agrees-by_kind type u (Time time) h fits = agrees-by_type type u (Time time) (time-matches_type (kind_of type) time h, fits)
 
 pub longlong-kind : (k : ValueKind) → is_longlong k ≡ true → k ≡ kind.LongLong
 longlong-kind kind.LongLong h = refl

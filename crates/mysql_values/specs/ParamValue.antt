@@ -15,7 +15,7 @@ use Rattle.mysql_values.specs.declared.value_kind.ValueKind.TheVariants as kind
 use Rattle.mysql_values.specs.DateTimeWithOffset.{date_with_offset, DateWithOffsetFits}
 use Rattle.mysql_values.specs.ReadingBack.{IsInRange}
 use Rattle.mysql_values.specs.TypedValue.{is_unsigned_type, kind_read, kind_spelled, kind_typed}
-use Rattle.mysql_values.specs.Value.{Content, NULL, bin}
+use Rattle.mysql_values.specs.Value.{Content, NULL}
 use Rattle.mysql_values.specs.ValueDeserializer.{date_value, value_of_kind}
 use Rattle.mysql_values.specs.ValueRef.{ref_content}
 
@@ -74,11 +74,6 @@ abbrev pub param_value : ParamType → Form ParamContent
 param_value t = param_of_kind (kind_under t) (is_unsigned_type t)
 
 -- ---- the bytes
-
--- the binary form
-abbrev pub param_bin : ParamContent → List ℕ
-param_bin (Plain value) = bin value
-param_bin (WithOffset date) = date_with_offset.bytes date
 
 abbrev pub has_offset : ValueKind → Bool
 has_offset kind.DateTime = true

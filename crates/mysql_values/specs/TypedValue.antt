@@ -16,7 +16,7 @@ use Rattle.mysql_values.specs.declared.value_kind.ValueKind.TheVariants as kind
 use Rattle.mysql_values.specs.DateTimeWithOffset.{date_with_offset}
 use Rattle.mysql_values.specs.Value.{Content, NULL, Int, UInt, bin}
 use Rattle.mysql_values.specs.ValueDeserializer.{bin_value}
-use Rattle.mysql_values.specs.ValueKind.{kind_of, is_longlong, suits}
+use Rattle.mysql_values.specs.ValueKind.{kind_of, is_longlong, matches_type}
 use Rattle.mysql_values.specs.ValueRef.{ref_content}
 
 abbrev pub is_unsigned_type : ParamType → Bool
@@ -39,7 +39,7 @@ content_bits half u value = None
 abbrev pub spells_wide : ValueKind → (is_unsigned : Bool) → Content → Bool
 spells_wide k u (Int z) = is_longlong k && not (u && is_negative z)
 spells_wide k u (UInt n) = is_longlong k && (u || nat_lt n (2 ^ 63))
-spells_wide k u value = suits k value
+spells_wide k u value = matches_type k value
 
 abbrev pub wide_value : ValueKind → (is_unsigned : Bool) → Content → Option (List ℕ)
 wide_value k u value = if spells_wide k u value then Some (bin value) else None

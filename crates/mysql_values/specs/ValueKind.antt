@@ -61,12 +61,12 @@ abbrev pub is_string : ColumnType → Bool
 is_string type = is_string_kind (kind_of type)
 
 -- NULL, or a value of the kind, which is not one of integers; a date alone has no time of day
-abbrev pub suits : ValueKind → Content → Bool
-suits _ NULL = true
-suits kind.String (Bytes bytes) = true
-suits kind.Float (Float bits) = true
-suits kind.Double (Double bits) = true
-suits kind.Date (Date date) = date.micros == 0 && is_midnight date.clock
-suits kind.DateTime (Date date) = true
-suits kind.Time (Time time) = true
-suits _ value = false
+abbrev pub matches_type : ValueKind → Content → Bool
+matches_type _ NULL = true
+matches_type kind.String (Bytes bytes) = true
+matches_type kind.Float (Float bits) = true
+matches_type kind.Double (Double bits) = true
+matches_type kind.Date (Date date) = date.micros == 0 && is_midnight date.clock
+matches_type kind.DateTime (Date date) = true
+matches_type kind.Time (Time time) = true
+matches_type _ value = false

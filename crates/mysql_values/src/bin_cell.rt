@@ -36,8 +36,8 @@ fn read_other<'s>(
     read_kind(ValueKind::of(column_type), is_unsigned, buf)
 }
 
-/// A value in the form of the type. What most columns hold is put by an arm of its own, so that its parts are written where
-/// they are to stay: where all came together in one value first, each would be taken apart and put together for it.
+/// Reads a value of the given type. The most frequent types have an arm of their own, so that a value's parts are written
+/// directly to its cell instead of being assembled and taken apart again.
 // (the compiler makes one choice of the types, where it would make two of their kinds)
 #[inline(always)]
 #[tactic(auto, unfolding(mysql_wire::specs::Int::raw))]
@@ -83,9 +83,8 @@ fn put_value<'s>(
     }
 }
 
-/// Reads a value in the form of its column's type, as [`ValueDeserializer<BinValue>`](crate::ValueDeserializer) does, and
-/// puts it after the cells, where there is capacity for one more. After a refusal the cells and the buffer are
-/// as they were.
+/// Reads a value of its column's type, like [`ValueDeserializer<BinValue>`](crate::ValueDeserializer), and appends it to the
+/// cells, which have capacity for it. After an error the cells and the buffer are unchanged.
 #[inline(always)]
 pub fn read_bin_cell<'s>(
     column: (ColumnType, ColumnFlags),

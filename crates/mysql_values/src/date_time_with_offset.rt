@@ -32,7 +32,7 @@ impl ConstFault for InvalidOffsetDateLength {
 /// | 4 | the microseconds |
 /// | 2 | the offset in minutes, in two's complement |
 ///
-/// Fewer bytes are refused as `UnexpectedEof`, another length as `InvalidData`. Servers read it in `set_param_datetime`
+/// Fewer bytes are `UnexpectedEof`, another length is `InvalidData`. Servers read it in `set_param_datetime`
 /// (`sql/sql_prepare.cc`), and send none in rows.
 #[derive(Clone, Copy, Debug, PartialEq, Eq)]
 pub struct DateTimeWithOffset {

@@ -7,15 +7,23 @@ use std::str;
 use thiserror::Error;
 
 /// A value that does not convert to the type that was asked for: the value itself, unchanged.
+///
+/// ```
+/// u64::from_value_opt(value)
+/// ```
 #[derive(Clone, Debug, PartialEq, Drop, Error)]
 #[error("FromValueError")]
 pub struct FromValueError(pub Value);
 
-/// What a value converts to.
+/// A type that values convert to.
+///
+/// ```
+/// u64::from_value_opt(value)
+/// ```
 pub trait FromValue: Sized {
     ghost use Rattle.mysql_values.specs.declared.value.Value.{Value};
 
-    /// What the value is as this type.
+    /// Whether a value converts to this one.
     ghost Converts: { Value → Self → Type 0 };
 
     /// Converts a value, or hands it back where it is none of this type.
@@ -25,8 +33,7 @@ pub trait FromValue: Sized {
 
     ghost use Rattle.mysql_values.specs.ByContent.{GoesByContent};
 
-    /// Converting goes by what a value holds: of two values that hold the same, both convert or neither does. So a copy
-    /// converts where the value does.
+    /// Conversion depends only on a value's content, so a clone converts exactly if the value does.
     ghost by_content: { GoesByContent Converts };
 }
 

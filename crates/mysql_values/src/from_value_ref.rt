@@ -13,13 +13,19 @@ use thiserror::Error;
 #[error("FromValueError")]
 pub struct FromValueRefError<'a>(pub ValueRef<'a>);
 
-/// What a value converts to without memory. Bytes stay where they are.
+/// A type that values convert to without memory: bytes are borrowed.
 ///
-/// An owned value is made by [`ValueRef::to_value`], and converts as [`FromValue`](crate::FromValue) says.
+/// [`ValueRef::to_value`] makes an owned value, which converts by [`FromValue`](crate::FromValue).
+///
+/// ```
+/// let row = TextRowView::new(columns, ParseBuf::new(alloc, payload));
+/// let value = value_at(row, place)?;
+/// u64::from_value_ref_opt(value).ok()
+/// ```
 pub trait FromValueRef<'a>: Sized {
     ghost use Rattle.mysql_values.specs.Value.{Content};
 
-    /// What a value with this content is as this type.
+    /// Whether a value with this content converts to this one.
     ghost Converts: { Content → Self → Type 0 };
 
     /// Converts a value, or hands it back where it is none of this type.

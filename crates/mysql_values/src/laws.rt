@@ -28,14 +28,14 @@ pub use crate::param_type::param_type_size;
 pub use crate::temporal::{clock_size, day_size, no_date_or_time_has_a_constant_size};
 pub use crate::value_deserializer::no_value_has_a_constant_size;
 
-/// The binary form of a value has the length that `Value::bin_len` answers.
+/// The binary form of a value has the length that `Value::bin_len` returns.
 #[tactic(auto, using(crate::proofs::Sizes::sizes))]
 pub fn bin_has_its_size()
     ensures { (content : Content) → length (bin content) ≡ bin_size content }
 {}
 
-/// What is written of a value is read again, whatever follows, under the type that it has in a
-/// request, and under each other type with that form: it agrees with the type.
+/// A value is read back under the type that it has in a request, and under each other type with the same encoding, whatever
+/// bytes follow.
 pub fn value_round_trips()
     ensures agrees { (column_type : ColumnType) (is_unsigned : Bool) (content : Content) →
         ReadsBack column_type is_unsigned content → Agrees column_type is_unsigned content }
@@ -53,14 +53,14 @@ pub fn sent_value_agrees()
     ensures { (content : Content) → IsInRange content → Agrees (sent_type content) (is_uint content) content }
 {}
 
-/// A value that a type spells is read again under it, whatever follows: an integer as a signed one, but under an unsigned type
-/// of eight bytes.
+/// A value that fits a type is read back under it, whatever bytes follow: an integer as a signed one, except under an unsigned
+/// type of eight bytes.
 pub fn value_under_a_type_round_trips()
     ensures read { (t : ParamType) (content : Content) (bytes : List ℕ) → IsInRange content → spelled t content ≡ Some bytes → ReadsUnder t content bytes }
     ensures none { (t : ParamType) → spelled t NULL ≡ Some [] }
 {}
 
-/// A parameter or an attribute that a type spells is read again under it, whatever follows, a date with its offset too.
+/// A parameter or an attribute that fits a type is read back under it, whatever bytes follow, including a date with its offset.
 pub fn a_parameter_under_its_type_round_trips()
     ensures read { (t : ParamType) (value : ParamContent) (bytes : List ℕ) → ParamIsInRange value → param_spelled t value ≡ Some bytes → ParamReadsUnder t value bytes }
     ensures none { (t : ParamType) → param_spelled t (Plain NULL) ≡ Some [] }
@@ -102,7 +102,7 @@ pub fn strings_alone_take_memory()
     ensures text { (bytes : List ℕ) → IsTrue (reads_bytes (text_value.reads bytes)) → starts_null bytes ≡ false }
 {}
 
-/// What is written of a parameter type is read again, whatever follows.
+/// A parameter type is read back, whatever bytes follow.
 #[tactic(auto, using(mysql_wire::proofs::Packets::packets), unfolding(crate::specs::ParamType::param_type))]
 pub fn param_type_round_trips()
     ensures spelled { (t : ParamType) (rest : List ℕ) → (type_flags t).0 < 2 ^ 8 → (param_type.form tt).Spells t (param_type.bytes t ++ rest) rest }

@@ -13,6 +13,15 @@ use mysql_wire::{
 /// The type of a parameter, as executions and bulk requests send it: a column type, and whether it is `UNSIGNED`.
 ///
 /// In the bytes it is the code of the column type, and a byte of flags.
+///
+/// ```
+/// let code = digits.parse::<u8>().unwrap_or(253);
+/// let column_type = ColumnType::try_from(code);
+/// ParamType::new(
+///     column_type.unwrap_or(ColumnType::MYSQL_TYPE_VAR_STRING),
+///     flags,
+/// )
+/// ```
 #[derive(Clone, Copy, Debug, PartialEq, Eq)]
 pub struct ParamType {
     column_type: ColumnType,

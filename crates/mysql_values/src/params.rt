@@ -9,6 +9,10 @@ use std::alloc::{AllocError, AllocFailed, Global};
 use thiserror::Error;
 
 /// The parameters that a statement is executed with.
+///
+/// ```
+/// params.into_values(alloc, Some(names))
+/// ```
 #[derive(Clone, Debug, Drop)]
 pub enum Params {
     /// No parameters.
@@ -20,6 +24,10 @@ pub enum Params {
 }
 
 /// Why parameters give no values.
+///
+/// ```
+/// params.into_values(alloc, Some(names))
+/// ```
 #[derive(Clone, Debug, PartialEq, Drop, Error)]
 pub enum ParamsError {
     /// The first name without a value.
@@ -79,11 +87,11 @@ impl Params {
     ghost use Rattle.mysql_values.specs.Params.{values_of, Refuses};
     ghost use Rattle.mysql_values.specs.Value.{contents_of};
 
-    /// The values of the parameters, in the order of the statement, whose names of parameters
-    /// are handed in where it has any. Values whose names it does not have are dropped.
+    /// Returns the values in the order of the statement's parameters. The caller passes the parameters' names if the values are
+    /// named. Values with other names are dropped.
     ///
-    /// A name that stands twice gets its value twice. No parameters give an empty row. Where there is a name to look up, it
-    /// takes memory, and nowhere else.
+    /// A name that occurs twice gets its value twice. Without parameters the row is empty. Memory is only taken if a name has
+    /// to be looked up.
     pub fn into_values(
         self,
         alloc: Global,

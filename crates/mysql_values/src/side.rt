@@ -20,7 +20,7 @@ impl SerializationSide for ClientSide {
     const BIT_OFFSET: usize = 0;
 }
 
-/// A server, as in `ProtocolBinary::ResultsetRow`: two bits stand before the first value's.
+/// A server, as in `ProtocolBinary::ResultsetRow`: the bitmap has two bits before that of the first value.
 #[derive(Clone, Copy, Debug)]
 pub struct ServerSide;
 

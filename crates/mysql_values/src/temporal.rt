@@ -43,6 +43,7 @@ pub struct TimeSpan {
 impl Day {
     ghost use Rattle.mysql_values.specs.Temporal.{is_zero_day};
 
+    /// The day of a date.
     #[inline]
     pub fn new(year: u16, month: u8, day: u8) -> Self
         ensures { result ≡ record { year = year; month = month; day = day } }
@@ -60,6 +61,7 @@ impl Day {
 impl Clock {
     ghost use Rattle.mysql_values.specs.Temporal.{is_midnight};
 
+    /// The time of a day.
     #[inline]
     pub fn new(hour: u8, minute: u8, second: u8) -> Self
         ensures { result ≡ record { hour = hour; minute = minute; second = second } }
@@ -81,6 +83,7 @@ impl Clock {
 impl DateTime {
     ghost use Rattle.mysql_values.specs.Temporal.{date_time_size};
 
+    /// A date with its time and microseconds.
     #[inline]
     pub fn new(day: Day, clock: Clock, micros: u32) -> Self
         ensures { result ≡ record { day = day; clock = clock; micros = micros } }
@@ -88,7 +91,7 @@ impl DateTime {
         DateTime { day, clock, micros }
     }
 
-    /// How many bytes the date takes.
+    /// The length of the date in bytes.
     #[inline]
     pub fn len(&self) -> u8
         ensures { result ≡ date_time_size self.now }
@@ -108,6 +111,7 @@ impl DateTime {
 impl TimeSpan {
     ghost use Rattle.mysql_values.specs.Temporal.{time_span_size};
 
+    /// A time span: its sign, days, time and microseconds.
     #[inline]
     pub fn new(is_negative: bool, days: u32, clock: Clock, micros: u32) -> Self
         ensures { result ≡ record { is_negative = is_negative; days = days; clock = clock; micros = micros } }
@@ -120,7 +124,7 @@ impl TimeSpan {
         }
     }
 
-    /// How many bytes the span takes.
+    /// The length of the time span in bytes.
     #[inline]
     pub fn len(&self) -> u8
         ensures { result ≡ time_span_size self.now }

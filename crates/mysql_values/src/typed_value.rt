@@ -1,4 +1,4 @@
-//! A value as it is spelled under a type.
+//! Values as they are encoded under a type.
 
 ghost use Rattle.std.specs.Prelude.{◌≡◌, ◌*◌, ◌^◌, ◌≤◌, ◌<◌, length, IfSome, Some, Option, ℕ, None, pos};
 ghost use Rattle.std.specs.Option.{option_map};
@@ -13,7 +13,15 @@ use crate::value_kind::ValueKind;
 use crate::value_ref::ValueRef;
 use mysql_wire::{Buffer, Flags, IntRepr, LeU16, LeU32, MySerialize, StmtExecuteParamFlags};
 
-/// A value as it is spelled under the type of a parameter or of a column, of any width.
+/// A value as it is encoded under the type of a parameter or of a column, in the width of that type.
+///
+/// ```
+/// let small = ParamType::new(
+///     ColumnType::MYSQL_TYPE_SHORT,
+///     StmtExecuteParamFlags::from_bits_retain(0),
+/// );
+/// TypedValue::new(small, value).is_some()
+/// ```
 #[derive(Clone, Copy, Debug, PartialEq)]
 pub enum TypedValue<'a> {
     /// The bits of a number of one byte.
@@ -28,7 +36,7 @@ pub enum TypedValue<'a> {
     WithOffset(DateTimeWithOffset),
 }
 
-/// How many negative numbers a signed type of one, of two and of four bytes has.
+/// The number of negative values of a signed type of one, two or four bytes.
 const TINY: u32 = 1 << 7;
 
 const SHORT: u32 = 1 << 15;
@@ -73,9 +81,9 @@ fn bits_of(half: u32, is_unsigned: bool, value: &ValueRef<'_>) -> Option<u64>
 }
 
 impl<'a> TypedValue<'a> {
-    /// The value under the type, where the type spells it: a number that the type has, in as many bytes as the type says; a
-    /// float of four bytes under FLOAT, and one of eight under DOUBLE; a date, which has no time of day under DATE; a span of
-    /// time under TIME; bytes under each type of strings; NULL under any type.
+    /// Encodes the value under the type, if it fits: an integer in the range of the type, in its width; a float of four bytes
+    /// under FLOAT, and one of eight under DOUBLE; a date, without a time of day under DATE; a time span under TIME; bytes
+    /// under each string type; NULL under any type.
     pub fn new(param_type: ParamType, value: ValueRef<'a>) -> Option<Self>
         ensures variant { result ≡ typed_under param_type value.entry }
         ensures value { option_map typed_bytes result ≡ spelled param_type (ref_content value.entry) }
@@ -84,10 +92,10 @@ impl<'a> TypedValue<'a> {
         TypedValue::of_kind(ValueKind::of(param_type.column_type()), is_unsigned, value)
     }
 
-    /// The value of a parameter or an attribute under its type, where the type spells it.
+    /// Encodes the value of a parameter or an attribute under its type, if it fits.
     ///
-    /// It is [`new`](Self::new), but `INT24`, `YEAR` and the reserved types are strings
-    /// ([`read_param_value`](crate::read_param_value)), and `DATETIME` and `TIMESTAMP` spell a date with an offset.
+    /// Like [`new`](Self::new), but `INT24`, `YEAR` and the reserved types are strings
+    /// ([`read_param_value`](crate::read_param_value)), and a date with an offset fits `DATETIME` and `TIMESTAMP`.
     pub fn of_param(param_type: ParamType, value: ParamValue<'a>) -> Option<Self>
         ensures variant { result ≡ param_typed param_type value.entry }
         ensures value { option_map typed_bytes result ≡ param_spelled param_type (param_content value.entry) }
@@ -103,7 +111,7 @@ impl<'a> TypedValue<'a> {
         }
     }
 
-    /// The value under a kind, where the kind spells it.
+    /// Encodes the value under a kind, if it fits.
     fn of_kind(kind: ValueKind, is_unsigned: bool, value: ValueRef<'a>) -> Option<Self>
         ensures variant { result ≡ kind_typed kind is_unsigned value.entry }
         ensures value { option_map typed_bytes result ≡ kind_spelled kind is_unsigned (ref_content value.entry) }
@@ -128,7 +136,7 @@ impl<'a> TypedValue<'a> {
         }
     }
 
-    /// How many bytes it takes.
+    /// The encoded length in bytes.
     #[tactic(auto, using(crate::proofs::Sizes::sizes), unfolding(mysql_wire::specs::Writing::le_bytes))]
     #[inline(always)]
     pub fn bin_len(&self) -> u64
@@ -144,7 +152,7 @@ impl<'a> TypedValue<'a> {
     }
 }
 
-/// A value of eight bytes or of no constant width, where the kind spells it.
+/// Encodes a value of eight bytes or of variable width, if it fits the kind.
 fn wide(kind: ValueKind, is_unsigned: bool, value: ValueRef<'_>) -> Option<TypedValue<'_>>
     ensures variant { result ≡ wide_typed kind is_unsigned value.entry }
     ensures value { option_map typed_bytes result ≡ wide_value kind is_unsigned (ref_content value.entry) }
@@ -156,7 +164,7 @@ fn wide(kind: ValueKind, is_unsigned: bool, value: ValueRef<'_>) -> Option<Typed
         ValueRef::UInt(number) => {
             matches!(kind, ValueKind::LongLong) && (is_unsigned || number < 1 << 63)
         }
-        value => kind.suits(&value),
+        value => kind.matches_type(&value),
     };
     if spells {
         Some(TypedValue::Wide(value))

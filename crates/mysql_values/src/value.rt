@@ -11,7 +11,14 @@ use std::fmt::Debug;
 
 /// A value that a statement is executed with, or that a row holds.
 ///
-/// Equality of floats is that of their bits. The clone of a string of at least one byte allocates, and no other does.
+/// Floats are compared by their bits. Cloning a nonempty string allocates; cloning anything else doesn't.
+///
+/// ```
+/// let year = u16::try_from(number(word, 0)).unwrap_or(0);
+/// let (month, day) = (small(word, 1), small(word, 2));
+/// let (hour, minute, second) = (small(word, 3), small(word, 4), small(word, 5));
+/// Value::Date(year, month, day, hour, minute, second, number(word, 6))
+/// ```
 #[derive(PartialEq, Drop)]
 pub enum Value {
     /// No value.
@@ -35,7 +42,7 @@ pub enum Value {
 impl Value {
     ghost use Rattle.mysql_values.specs.Value.{size_of};
 
-    /// How many bytes its binary form takes.
+    /// The length of the binary form in bytes.
     #[tactic(auto, using(crate::proofs::Sizes::sizes))]
     pub fn bin_len(&self) -> u64
         ensures { result ≡ size_of self.now }

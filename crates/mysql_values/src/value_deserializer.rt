@@ -124,8 +124,7 @@ pub(crate) fn read_kind<'s>(
 
 /// A value in the form of its column's type: see `ProtocolBinary::ResultsetRow`.
 ///
-/// A type that no value has is refused as `InvalidData`, as is a date or time of another length
-/// than the protocol has.
+/// A type without values is `InvalidData`, as is a date or time of a length that the protocol doesn't have.
 impl<'de> MyDeserialize<'de> for ValueDeserializer<BinValue> {
     const SIZE: Option<usize> = None;
 

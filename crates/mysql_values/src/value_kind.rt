@@ -1,13 +1,13 @@
-//! What the values of a column are, by its type.
+//! The kinds of values that column types have.
 
 ghost use Rattle.std.specs.Prelude.{◌≡◌};
-ghost use Rattle.mysql_values.specs.ValueKind.{kind_of, suits};
+ghost use Rattle.mysql_values.specs.ValueKind.{kind_of, matches_type};
 ghost use Rattle.mysql_values.specs.ValueRef.{ref_content};
 
 use crate::value_ref::ValueRef;
 use mysql_wire::ColumnType;
 
-/// What the values of a column are.
+/// The kind of values of a column type.
 #[derive(Clone, Copy, Debug, PartialEq, Eq)]
 pub enum ValueKind {
     /// Strings of bytes.
@@ -59,7 +59,7 @@ macro_rules! string_type {
 }
 
 impl ValueKind {
-    /// What the values of a column of the type are.
+    /// Returns the kind of values of a column type.
     #[inline(always)]
     pub fn of(column_type: ColumnType) -> Self
         ensures value { result ≡ kind_of column_type }
@@ -89,8 +89,8 @@ impl ValueKind {
 
     /// Whether a value is NULL, or of this kind, which is not one of integers. A date alone has no time of day.
     #[inline(always)]
-    pub fn suits(self, value: &ValueRef<'_>) -> bool
-        ensures value { result ≡ suits self (ref_content value.now) }
+    pub fn matches_type(self, value: &ValueRef<'_>) -> bool
+        ensures value { result ≡ matches_type self (ref_content value.now) }
     {
         match value {
             ValueRef::NULL => true,

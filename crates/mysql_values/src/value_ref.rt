@@ -7,9 +7,13 @@ use crate::value::Value;
 use mysql_wire::{Buffer, BytesRepr, IntRepr, LeU32, LeU64, LenEnc, MySerialize};
 use std::alloc::{AllocError, Global};
 
-/// A value whose bytes stay where they lie, as in the packet of a row: what a [`Value`] holds, without memory of its own.
+/// A [`Value`] that borrows its bytes, for example from the packet of a row. It takes no memory.
 ///
-/// Equality of floats is that of their bits.
+/// Floats are compared by their bits.
+///
+/// ```
+/// value.to_value(alloc)
+/// ```
 #[derive(Clone, Copy, PartialEq, Debug)]
 pub enum ValueRef<'a> {
     /// No value.
@@ -34,7 +38,7 @@ impl ValueRef<'_> {
     ghost use Rattle.mysql_values.specs.Value.{bin_size};
     ghost use Rattle.mysql_values.specs.ValueRef.{ref_content};
 
-    /// How many bytes its binary form takes.
+    /// The length of the binary form in bytes.
     #[tactic(auto, using(crate::proofs::Sizes::sizes))]
     #[inline(always)]
     pub fn bin_len(&self) -> u64
@@ -63,7 +67,7 @@ impl ValueRef<'_> {
     ghost use Rattle.mysql_values.specs.Value.{content_of};
     ghost use Rattle.mysql_values.specs.ValueDeserializer.{has_bytes};
 
-    /// The value with bytes of its own. Bytes that are there take memory, and nothing else does.
+    /// Copies the value to an owned one. Only nonempty bytes take memory.
     pub fn to_value(&self, alloc: Global) -> Result<Value, AllocError>
         ensures value { IfOk result (λ value. content_of value ≡ ref_content self.now) }
         ensures memory { IfErr result (λ _. IsTrue (has_bytes (ref_content self.now))) }
@@ -88,7 +92,7 @@ impl ValueRef<'_> {
 ghost use Rattle.mysql_values.specs.Value.{Bytes};
 ghost use Rattle.mysql_values.specs.ValueDeserializer.{has_bytes};
 
-/// A copy of the bytes. Where there is none, it takes no memory.
+/// Copies the bytes. An empty slice takes no memory.
 #[inline(always)]
 pub(crate) fn copied(alloc: Global, bytes: &[u8]) -> Result<Vec<u8>, AllocError>
     ensures value { IfOk result (λ copy. copy.items ≡ bytes.now) }

@@ -1,4 +1,4 @@
-//! Values of rows and requests, read where they lie.
+//! Readers of values that borrow from rows and requests.
 
 ghost use Rattle.std.specs.Prelude.{false, ◌≡◌, IsFalse, IsTrue, OnErr};
 ghost use Rattle.mysql_wire.specs.Reading.{Answers};
@@ -24,6 +24,10 @@ fn string_ref<'s, 'de>(buf: &mut ParseBuf<'de>) -> Result<ValueRef<'de>, FaultOf
 }
 
 /// Reads a value of a text row, which takes no memory: fb, or a length-encoded string. On an error the buffer is unchanged.
+///
+/// ```
+/// read_text_ref(buf)
+/// ```
 #[inline(always)]
 #[tactic(auto, using(mysql_wire::proofs::Tails::tails), unfolding(crate::specs::ValueDeserializer::text_value, mysql_wire::specs::Form::bytes))]
 pub fn read_text_ref<'s, 'de>(buf: &mut ParseBuf<'de>) -> Result<ValueRef<'de>, FaultOf<'s>>
@@ -154,6 +158,10 @@ pub fn read_kind_ref<'s, 'de>(
 
 /// Reads a value in the form of its column's type, as [`ValueDeserializer<BinValue>`](crate::ValueDeserializer) does. It
 /// takes no memory, and on an error the buffer is unchanged.
+///
+/// ```
+/// read_bin_ref(ColumnType::MYSQL_TYPE_LONG, true, buf)
+/// ```
 #[inline(always)]
 pub fn read_bin_ref<'s, 'de>(
     column_type: ColumnType,

@@ -117,7 +117,7 @@ value-padded front k n len le value =
 
 -- ---- writing
 
--- the number above a zero and ones, where so many bytes hold it
+-- the number above a zero and ones, where a given number of bytes hold it
 pub word_fits : (n size : ℕ) → 0 < size → size ≤ 8 → n < 2 ^ (7 * size)
     → (n * 2 ^ size % 2 ^ 64 + (1 * 2 ^ (size - 1) % 2 ^ 64 - 1) ≡ n * 2 ^ size + (2 ^ (size - 1) - 1)) × (n * 2 ^ size + (2 ^ (size - 1) - 1) < 2 ^ 64) × (1 ≤ 1 * 2 ^ (size - 1) % 2 ^ 64)
 word_fits n zero some most lt = absurd (omega (arith, some))

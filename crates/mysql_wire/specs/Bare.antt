@@ -2,6 +2,6 @@
 use Rattle.std.specs.Prelude.{ℕ, List}
 use Rattle.mysql_wire.specs.Form.{Form, bytes, unsized}
 
--- so many bytes
+-- a given number of bytes
 abbrev pub bare : ℕ → Form (List ℕ)
 bare n = unsized (bytes n)

@@ -80,7 +80,7 @@ field get f = record {
   again = λ c p rest h. f.again c (get p) rest h;
 }
 
--- fields in a block of so many bytes
+-- fields in a block of a given number of bytes
 abbrev pub block : {C P A : Type 0} (n : ℕ) (f : Fields C P A) → ((p : P) → f.len p ≡ n) → Fields C P A
 block n f is_n = record {
   form = λ c. form.block n (f.form c);
@@ -159,7 +159,7 @@ either test part of_left l of_right r = record {
   again = λ c p rest h. law.choice-again of_left of_right l r (test c) c (part p) rest h;
 }
 
--- so many values
+-- a given number of values
 abbrev pub list_of : {C A : Type 0} → ℕ → Codec C A → Codec C (List A)
 list_of n f = record {
   form = λ c. counted n (f.form c);
@@ -195,7 +195,7 @@ leaf f bytes len Fits exact again = record {
   again = λ c a rest h. again a h rest;
 }
 
--- a number of so many bytes, little-endian
+-- a number of a given number of bytes, little-endian
 abbrev pub int : {C R : Type 0} → ℕ → Codec C (RawInt R ℕ)
 int {R} width = leaf (raw (form.number width)) (λ n. le_bytes width n.0) (λ n. width) (λ n. n.0 < 256 ^ width)
     (λ n h. length-le_bytes width n.0) (λ n h. raw-again R (form.number width) n.0 (le_bytes width n.0) (number-again width n.0 h))
@@ -215,7 +215,7 @@ u32 = int 4
 abbrev pub u64 : {C : Type 0} → Codec C (RawInt LeU64 ℕ)
 u64 = int 8
 
--- a flag word of so many bytes
+-- a flag word of a given number of bytes
 abbrev pub flags : {C N U : Type 0} → ℕ → Codec C (Const (FlagWord N ℕ) U)
 flags width = leaf (flag_word width) (λ v. le_bytes width v.0.0) (λ v. width) (λ v. v.0.0 < 256 ^ width)
     (λ v h. length-le_bytes width v.0.0) (λ v h. flag_word-again width v h)
@@ -230,7 +230,7 @@ abbrev pub skip : {C : Type 0} (n : ℕ) → Codec C (Skip n)
 skip n = leaf (skip_form.skip n) (λ v. replicate n 0) (λ v. n) (λ v. Unit {0})
     (λ v h. length-replicate n 0) (λ v h. skip-again n v)
 
--- so many bytes
+-- a given number of bytes
 abbrev pub byte_array : {C : Type 0} → ℕ → Codec C (List ℕ)
 byte_array n = leaf (form.bytes n) (λ content. content) (λ content. n) (λ content. length content ≡ n)
     (λ content h. h) (bytes-again n)
@@ -283,12 +283,12 @@ string_u8 = leaf u8_string u8_string_bytes (λ content. length (u8_string_bytes 
 abbrev pub string_u32 : {C : Type 0} → Codec C (List ℕ)
 string_u32 = leaf u32_string u32_string_bytes (λ content. length (u32_string_bytes content)) (λ content. length content < 2 ^ 32) (λ content h. refl) u32_string-again
 
--- so many bytes, a number read before, of which so many at most are written
+-- a given number of bytes, a number read before, of which this many at most are written
 abbrev pub string_bare : {C : Type 0} (most n : ℕ) → Codec C (List ℕ)
 string_bare most n = leaf (bare_form.bare n) (take most) (λ content. length (take most content)) (λ content. (length content ≡ n) × (n ≤ most))
     (λ content h. refl) (λ content h. law.bare_at-again most n content h)
 
--- a count of eight bytes, and so many values
+-- a count of eight bytes, and a given number of values
 abbrev pub u64_counted_list : {C A : Type 0} → Codec C A → Codec C (List A)
 u64_counted_list f = record {
   form = λ c. seq_form.seq (number_of le_u64) (f.form c);

@@ -8,7 +8,7 @@ use Rattle.mysql_wire.specs.declared.const_bytes.ConstBytes.{ConstBytes}
 abbrev pub const_value : {T : Type 0} (len : ℕ) → List ℕ → List ℕ → Option (ConstBytes T len)
 const_value len value content = if pointwise nat_eq content value then Some (record { 0 = record {} }) else None
 
--- so many bytes that have one value
+-- a given number of bytes that have one value
 unfoldable pub const_bytes : {T : Type 0} (len : ℕ) → List ℕ → Form (ConstBytes T len)
 const_bytes len value = decode (const_value len value) (bytes len)
 

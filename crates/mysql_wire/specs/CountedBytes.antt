@@ -15,7 +15,7 @@ pub size-counted_bytes : {R : Type 0} (count : Form (RawInt R ℕ)) → (counted
 unfolding counted_bytes
 size-counted_bytes count = refl
 
--- the first bytes of a content, so many at most, after their count
+-- the first bytes of a content, this many at most, after their count
 unfoldable pub counted_bytes_of : (width most : ℕ) → List ℕ → List ℕ
 counted_bytes_of width most content = le_bytes width (length (take most content)) ++ take most content
 

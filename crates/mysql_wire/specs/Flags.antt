@@ -21,7 +21,7 @@ use Rattle.mysql_wire.specs.Writing.{le_bytes}
 abbrev pub has : ℕ → ℕ → Bool
 has flags mask = bit_and flags mask == mask
 
--- the flags, with the bits of the mask set or else cleared, in a word of so many bits
+-- the flags, with the bits of the mask set or else cleared, in a word of a given number of bits
 abbrev pub switched : ℕ → Bool → ℕ → ℕ → ℕ
 switched size on mask flags = if on then bit_or flags mask else without size flags mask
 
@@ -29,7 +29,7 @@ switched size on mask flags = if on then bit_or flags mask else without size fla
 abbrev pub flags_of : {N B : Type 0} → B → Option (FlagWord N B)
 flags_of bits = Some (record { 0 = bits; 1 = record {} })
 
--- a flag word of so many bytes, little-endian: every bit is kept
+-- a flag word of a given number of bytes, little-endian: every bit is kept
 abbrev pub flag_word : {N U : Type 0} → ℕ → Form (Const (FlagWord N ℕ) U)
 flag_word width = coded flags_of (number width)
 

@@ -34,7 +34,7 @@ module _ {A B : Type 0} (f : Form A) (g : A → Form B) where
       let a = then_read-ok (f.reads bytes) (λ x mid. (g x).reads mid) (v, rest) e in
       IsTail-trans rest a.1 bytes ((g a.0).front v a.1 rest a.3) (f.front a.0 bytes a.1 a.2)
 
--- ---- so many bytes
+-- ---- a given number of bytes
 
 module _ (n : ℕ) where
   pub bytes-found : (c bytes rest : List ℕ) → bytes_reads n bytes ≡ Ok (c, rest) → bytes_Spells n c bytes rest

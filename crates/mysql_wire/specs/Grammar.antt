@@ -17,7 +17,7 @@ pub record Form (A : Type 0) : Type 1 where
   pub only : (v : A) (bytes rest : List ℕ) → Spells v bytes rest → reads bytes ≡ Ok (v, rest)
   -- a reading takes a front of the bytes, and leaves the rest
   pub front : (v : A) (bytes rest : List ℕ) → reads bytes ≡ Ok (v, rest) → IsTail rest bytes
-  -- a reading takes just so many bytes, where the size is a constant
+  -- a reading takes just a given number of bytes, where the size is a constant
   pub sized : HasSize size reads
 
 -- ---- one form, and then another, which may depend on the value of the first
@@ -30,7 +30,7 @@ module _ {A B : Type 0} (f : Form A) (g : A → Form B) where
   abbrev pub then_reads : List ℕ → Reading B
   then_reads bytes = then_read (f.reads bytes) (λ x mid. (g x).reads mid)
 
--- ---- so many bytes
+-- ---- a given number of bytes
 
 module _ (n : ℕ) where
   -- the content is that many bytes, and stands in front

@@ -15,7 +15,7 @@ pow_256-pos : (k : ℕ) → 0 < 256 ^ k
 pow_256-pos zero = omega arith
 pow_256-pos (suc k) = let p : 0 < 256 ^ k = pow_256-pos k in rw (pow-suc 256 k) (omega (arith, p))
 
--- so many bytes of a number, from one place on
+-- a given number of bytes of a number, from one place on
 value-bytes_from : (i k n : ℕ) → le_value (bytes_low_first i k n) ≡ n / 256 ^ i % 256 ^ k
 value-bytes_from i zero n = sym (mod-one (n / 256 ^ i))
 value-bytes_from i (suc k) n =

@@ -25,7 +25,7 @@ block-again n f v text len p rest = (text, (len, refl), p)
 
 -- ---- leaves
 
--- a number in so many bytes
+-- a number in a given number of bytes
 pub number-again : (width n : ℕ) → n < 256 ^ width → IsSpelling (number width) n (le_bytes width n)
 unfolding number bytes
 number-again width n lt rest = (le_bytes width n, value-le_bytes width n lt, (length-le_bytes width n, refl))

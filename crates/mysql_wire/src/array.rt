@@ -7,7 +7,7 @@ use crate::buffer::Buffer;
 use crate::fault::FaultOf;
 use crate::proto::{Fixed, MyDeserialize, MySerialize};
 
-/// So many bytes (`string<fix>`).
+/// A given number of bytes (`string<fix>`).
 impl<'de, const N: usize> MyDeserialize<'de> for [u8; N] {
     const SIZE: Option<usize> = Some(N);
 

@@ -1,4 +1,4 @@
-//! Byte strings whose count stands elsewhere.
+//! Byte strings whose length is given elsewhere.
 
 ghost use Rattle.std.specs.Prelude.{◌≡◌, take, ◌≤◌, length, refl};
 
@@ -8,7 +8,7 @@ use crate::bytes::BytesRepr;
 use crate::fault::FaultOf;
 use std::cmp::min;
 
-// The first bytes, so many at most.
+// The first bytes, this many at most.
 #[inline(always)]
 pub(crate) fn first_bytes(content: &[u8], most: usize) -> &[u8]
     ensures value { result.now ≡ take most content.now }
@@ -17,9 +17,9 @@ pub(crate) fn first_bytes(content: &[u8], most: usize) -> &[u8]
     &content[..min(content.len(), most)]
 }
 
-/// So many bytes, the count being handed in. Fewer bytes than the count: `UnexpectedEof`.
+/// A byte string whose length the caller passes. Fewer bytes are `UnexpectedEof`.
 ///
-/// The first `MAX` bytes of a content are written. Reading knows no such limit.
+/// At most the first `MAX` bytes are written. Reading has no such limit.
 #[derive(Clone, Copy, Debug)]
 pub struct BareBytes<const MAX: usize>;
 

@@ -1,4 +1,4 @@
-//! A block of so many bytes, whose fields are read from it alone.
+//! A block of a given number of bytes, whose fields are read from it alone.
 
 ghost use Rattle.std.specs.Prelude.{false, ◌≡◌, refl};
 ghost use Rattle.mysql_wire.specs.Form.{bytes};
@@ -9,7 +9,7 @@ use crate::proto::{AnyWidth, MyDeserialize};
 
 /// A block of `n` bytes, for the context `n`: a buffer over just these bytes.
 ///
-/// Fewer bytes are `UnexpectedEof`, before any field of the block is looked at.
+/// Fewer bytes are `UnexpectedEof`, before any field of the block is read.
 impl<'de> MyDeserialize<'de> for ParseBuf<'de> {
     const SIZE: Option<usize> = None;
 

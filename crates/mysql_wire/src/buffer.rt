@@ -1,10 +1,10 @@
-//! What values are written to the end of.
+//! Where values are written to.
 
 ghost use Rattle.std.specs.Prelude.{◌≡◌, ◌+◌, ◌++◌, ◌∷◌, [], ◌^◌, ◌<◌, ◌≤◌, length, drop, vec_capacity, List, ℕ};
 
 use std::mem;
 
-/// What values are written to the end of: a vector that has capacity, or a slice of which a front is written.
+/// A destination that values are appended to: a vector with reserved capacity, or a slice that is filled from the front.
 ///
 /// Nothing of it takes memory.
 pub trait Buffer: Sized + Drop {
@@ -13,13 +13,13 @@ pub trait Buffer: Sized + Drop {
     /// The bytes that it holds.
     ghost held: { Self → List ℕ };
 
-    /// What lies in the places after them.
+    /// The bytes after those that were written.
     ghost after: { Self → List ℕ };
 
-    /// How many bytes it can hold.
+    /// Its capacity in bytes.
     ghost capacity: { Self → ℕ };
 
-    /// What no write changes.
+    /// What writing leaves unchanged.
     ghost kept: { Self → Kept };
 
     /// Writes a byte.
@@ -38,11 +38,11 @@ pub trait Buffer: Sized + Drop {
         ensures capacity { capacity self.old ≤ capacity self.new }
         ensures kept { kept self.new ≡ kept self.old };
 
-    /// It can hold no more bytes than memory has. Nothing is done.
+    /// Whether the buffer can hold no more bytes than memory has; it has no effect.
     fn is_in_memory(&self)
         ensures { capacity self.now < 2 ^ 63 };
 
-    /// The buffer, which something else stands in for until it is put back.
+    /// Moves the buffer out, and leaves a placeholder until it is put back.
     ///
     /// While it is a variable of its own, the compiler keeps its length and its address in registers, and does not read
     /// them again after each byte.

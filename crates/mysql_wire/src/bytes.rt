@@ -19,15 +19,15 @@ use std::fmt::Debug;
 use std::hash::{Hash, Hasher};
 use std::marker::{Model, PhantomData};
 
-/// How a byte string lies in the bytes.
+/// The encoding of a byte string.
 pub trait BytesRepr {
-    /// What a reading is passed beside the bytes.
+    /// The context of a reading, such as a length.
     type Ctx: Drop;
 
-    /// How a content is spelled.
+    /// The grammar of a byte string.
     ghost form: { Self.Ctx → Form (List ℕ) };
 
-    /// Reads a content from the front. The answer is a buffer over the content alone.
+    /// Reads a byte string from the front, and returns a buffer over its content.
     fn deserialize<'s, 'de>(
         ctx: Self::Ctx,
         buf: &mut ParseBuf<'de>,
@@ -43,7 +43,7 @@ pub trait BytesRepr {
 
     ghost written: { List ℕ → List ℕ };
 
-    /// How many bytes a content is written as, or `usize::MAX` where that is less.
+    /// The encoded length of a content, or `usize::MAX` if it is greater.
     fn written_len(content: &[u8]) -> usize
         ensures { result ≡ saturated (length (written content.now)) };
 
@@ -64,6 +64,12 @@ pub trait BytesRepr {
 /// Its value is its content alone: a borrowed and an owned string with the same bytes are equal and
 /// hash equally. Reading borrows the content from the packet and takes no memory. Writing cuts the
 /// content to what the form can hold, `len()` bytes.
+///
+/// ```
+/// let number: RawInt<LeU32> = buf.parse(())?;
+/// let text: RawBytes<'a, NullBytes> = buf.parse(())?;
+/// Ok((number.0, text))
+/// ```
 pub struct RawBytes<'a, R>(CowSlice<'a, u8>, PhantomData<R>);
 
 impl<R> Drop for RawBytes<'_, R> {
@@ -91,7 +97,7 @@ impl<'a, R> RawBytes<'a, R> {
         RawBytes(content, PhantomData)
     }
 
-    /// The whole content, also what is past the form's limit.
+    /// The whole content, including any bytes past the encoding's limit.
     #[inline(always)]
     pub fn as_bytes(&self) -> &[u8]
         ensures value { result.now ≡ self.now }
@@ -99,7 +105,7 @@ impl<'a, R> RawBytes<'a, R> {
         self.0.as_slice()
     }
 
-    /// The content as text, with U+FFFD for what is not UTF-8. UTF-8 is borrowed.
+    /// The content as text, with U+FFFD for invalid UTF-8. Valid UTF-8 is borrowed.
     pub fn as_str(&self, alloc: Global) -> Result<CowStr<'_>, AllocError>
         ensures text { IfOk result (λ text. cow_str_bytes text ≡ lossy_text self.now) }
         ensures utf8 { BorrowsUtf8 self.now result }
@@ -116,10 +122,10 @@ impl<'a, R> RawBytes<'a, R> {
         content
     }
 
-    /// The same content, on memory of its own.
+    /// Copies the content, so that it borrows nothing.
     ///
-    /// An owned content is kept as it is, and takes no memory, nor does an empty one. Where memory is refused, the string is
-    /// given up.
+    /// Converts to an owned string. One that is already owned, or empty, takes no memory. If the allocation fails, the string
+    /// is dropped.
     pub fn into_owned(self, alloc: Global) -> Result<RawBytes<'static, R>, AllocError>
         ensures value { IfOk result (λ owned. owned ≡ self.entry) }
         ensures no_memory { self.entry ≡ [] → IsOk result }
@@ -146,7 +152,7 @@ fn owned_content(content: CowSlice<'_, u8>, alloc: Global) -> Result<Vec<u8>, Al
 }
 
 impl<R: BytesRepr> RawBytes<'_, R> {
-    /// How many bytes of the content are written: all that the form can hold.
+    /// The number of bytes of the content that are written: as many as the encoding can hold.
     #[inline(always)]
     pub fn len(&self) -> usize
         ensures value { result ≡ length (R.kept self.now) }

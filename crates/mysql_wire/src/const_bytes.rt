@@ -7,16 +7,17 @@ use crate::buffer::Buffer;
 use crate::constant::ConstFault;
 use crate::fault::FaultOf;
 use crate::proto::{Fixed, MyDeserialize, MySerialize};
+use std::fmt::{self, Debug};
 use std::marker::PhantomData;
 
-/// The value of a constant byte string, and what another value is refused with.
+/// The value of a constant byte string, and the error for any other value.
 pub trait ConstBytesValue<const LEN: usize> {
     ghost VALUE: { List ℕ };
 
-    /// The bytes.
+    /// The constant's bytes.
     const VALUE: [u8; LEN];
 
-    /// The marker whose text goes into the refusal of other bytes.
+    /// The marker whose text is the error for other bytes.
     type Error: ConstFault;
 
     /// The value has that length.
@@ -26,11 +27,18 @@ pub trait ConstBytesValue<const LEN: usize> {
 /// `LEN` bytes that have one value, that of `T`.
 ///
 /// Other bytes are `InvalidData` with the text of the marker `T::Error`.
-#[derive_where(Clone, Copy, PartialEq, Eq, Hash, Debug)]
+#[derive_where(Clone, Copy, PartialEq, Eq, Hash)]
 pub struct ConstBytes<T, const LEN: usize>(PhantomData<T>);
 
+/// The type's name, since all its values are the same.
+impl<T, const LEN: usize> Debug for ConstBytes<T, LEN> {
+    fn fmt<W: fmt::Write>(&self, f: &mut fmt::Formatter<W>) -> fmt::Result {
+        f.write_str("ConstBytes")
+    }
+}
+
 impl<T, const LEN: usize> ConstBytes<T, LEN> {
-    /// The bytes.
+    /// Creates the constant.
     #[inline(always)]
     pub fn new() -> Self {
         ConstBytes(PhantomData)

@@ -8,19 +8,27 @@ use crate::fault::FaultOf;
 use crate::int::RawInt;
 use crate::little_endian::LeU32;
 use crate::proto::{Fixed, MyDeserialize, MySerialize};
+use std::fmt::{self, Debug};
 use std::marker::PhantomData;
 
-/// The marker of a constant field: what a reading answers where another value stands there.
+/// The marker of a constant field, with the error for any other value.
 pub trait ConstFault {
     /// The text of the `InvalidData`.
     const MESSAGE: &'static str;
 }
 
-/// A byte that has one value, such as a packet's header.
+/// A constant byte, for example a packet's header.
 ///
 /// Another byte is `InvalidData` with the text of the marker `T`.
-#[derive_where(Clone, Copy, PartialEq, Eq, Hash, Debug)]
+#[derive_where(Clone, Copy, PartialEq, Eq, Hash)]
 pub struct ConstU8<T, const VALUE: u8>(PhantomData<T>);
+
+/// The value.
+impl<T, const VALUE: u8> Debug for ConstU8<T, VALUE> {
+    fn fmt<W: fmt::Write>(&self, f: &mut fmt::Formatter<W>) -> fmt::Result {
+        VALUE.fmt(f)
+    }
+}
 
 impl<T, const VALUE: u8> ConstU8<T, VALUE> {
     /// The byte.
@@ -78,8 +86,15 @@ impl<T, const VALUE: u8> MySerialize for ConstU8<T, VALUE> {
 /// A number of 32 bits that has one value, in four bytes, little-endian.
 ///
 /// Another number is `InvalidData` with the text of the marker `T`.
-#[derive_where(Clone, Copy, PartialEq, Eq, Hash, Debug)]
+#[derive_where(Clone, Copy, PartialEq, Eq, Hash)]
 pub struct ConstU32<T, const VALUE: u32>(PhantomData<T>);
+
+/// The value.
+impl<T, const VALUE: u32> Debug for ConstU32<T, VALUE> {
+    fn fmt<W: fmt::Write>(&self, f: &mut fmt::Formatter<W>) -> fmt::Result {
+        VALUE.fmt(f)
+    }
+}
 
 impl<T, const VALUE: u32> ConstU32<T, VALUE> {
     /// The number.

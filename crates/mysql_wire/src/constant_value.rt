@@ -7,38 +7,44 @@ use crate::buffer::Buffer;
 use crate::fault::FaultOf;
 use crate::int::{IntRepr, IntWidth};
 use crate::proto::{MyDeserialize, MySerialize};
+use std::fmt::{self, Debug};
 use std::marker::PhantomData;
 
-/// A value that an integer of the type `P` stands for: a flag word or a coded value.
+/// A value that is encoded as an integer of type `P`: a flag word or a code.
 pub trait ConstValue<P>: Sized {
-    /// The integer that stands for a value.
+    /// The integer of a value.
     ghost code: { Self → P };
 
-    /// The value that an integer stands for, where there is one.
+    /// The value of an integer, if there is one.
     ghost of_code: { P → Option Self };
 
-    /// The text of the `InvalidData` where an integer stands for no value.
+    /// The text of the `InvalidData` for an integer that has no value.
     const MESSAGE: &'static str;
 
-    /// The integer that stands for this value.
+    /// Returns the integer of this value.
     fn code(&self) -> P
         ensures { result ≡ code self.now };
 
-    /// The value that an integer stands for, where there is one.
+    /// Returns the value of an integer, if there is one.
     fn from_code(number: P) -> Option<Self>
         ensures { result ≡ of_code number };
 
-    /// A value's integer stands for that value.
+    /// The integer of a value gives that value back.
     ghost read_back: { (value : Self) → of_code (code value) ≡ Some value };
 }
 
-/// A flag word or a coded value, whose integer lies in the bytes as the marker `U` says:
-/// `Const<StatusFlags, LeU16>`, `Const<ColumnType, u8>`.
+/// A flag word or a code, encoded as the integer type `U`: `Const<StatusFlags, LeU16>`, `Const<ColumnType, u8>`.
 ///
-/// The value is field 0. An integer that stands for no value is `InvalidData` with the text of `T`;
-/// missing bytes are `UnexpectedEof`.
-#[derive_where(Clone, Copy, PartialEq, Eq, Hash, Debug, Default; T)]
+/// The value is field 0. An integer without a value is `InvalidData` with the text of `T`; missing bytes are `UnexpectedEof`.
+#[derive_where(Clone, Copy, PartialEq, Eq, Hash, Default; T)]
 pub struct Const<T, U>(pub T, PhantomData<U>);
+
+/// The value.
+impl<T: Debug, U> Debug for Const<T, U> {
+    fn fmt<W: fmt::Write>(&self, f: &mut fmt::Formatter<W>) -> fmt::Result {
+        self.0.fmt(f)
+    }
+}
 
 impl<T, U> Const<T, U> {
     /// The value, to be written in the form `U`.

@@ -3,7 +3,15 @@
 use crate::buffer::Buffer;
 use crate::proto::MySerialize;
 
-/// One of two values, written as that value alone. It is never read: the bytes do not tell which one they spell.
+/// One of two values, written without a tag. It can't be read, since the bytes don't say which one they hold.
+///
+/// ```
+/// let request = BinlogRequest::new(server_id).with_use_gtid(use_gtid);
+/// Ok(match request.as_cmd() {
+///     Either::Left(by_file) => by_file.serialize(out)?,
+///     Either::Right(by_gtids) => by_gtids.serialize(out)?,
+/// })
+/// ```
 #[derive(Clone, Copy, Debug, PartialEq, Eq, PartialOrd, Ord, Hash)]
 pub enum Either<L, R> {
     Left(L),

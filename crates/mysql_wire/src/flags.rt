@@ -1,14 +1,16 @@
 //! Flag words: sets of named bits.
 //!
-//! The operations of a set, as `contains`, `insert` and `from_bits_retain`, are those of the trait
-//! `Flags`. Every bit is kept, also one without a name.
+//! The set operations, such as `contains`, `insert` and `from_bits_retain`, are those of the trait `Flags`. Bits without a name
+//! are kept.
 
 ghost use Rattle.std.specs.Prelude.{⊤, ◌≡◌, ◌-◌, ◌^◌, ℕ, List, map, refl};
 ghost use Rattle.std.specs.Int.RustNames.{bit_and, bit_or, bit_xor};
 ghost use Rattle.bitflags.specs.Sets.{without, known_bits};
 
 use crate::constant_value::ConstValue;
+use bitflags::parser::WriteHex;
 use bitflags::{Bits, Flag, Flags};
+use std::fmt;
 use std::marker::PhantomData;
 use std::ops::{
     BitAnd, BitAndAssign, BitOr, BitOrAssign, BitXor, BitXorAssign, Not, Sub, SubAssign,
@@ -48,15 +50,28 @@ pub trait FlagNames<B: Bits>: Sized {
     /// The name and the bits of each flag.
     ghost table: { List (List ℕ × ℕ) };
 
+    /// The name of the flag word's type.
+    const NAME: &'static str;
+
     /// The named flags.
     fn flags<'a>() -> &'a [Flag<FlagWord<Self, B>>]
         ensures { map (λ f. (f.name.now, B.pattern f.value.0)) result.now ≡ table };
 }
 
-/// A set of bits, which are those of the integer `B`. The marker `N` names some of them.
+/// A set of bits, stored in the integer `B`. The marker `N` names some of them.
 ///
 /// The integer is field 0. The default is the empty set.
-#[derive_where(Clone, Copy, PartialEq, Eq, Hash, Debug, Default; B)]
+///
+/// `Debug` prints the names of the set bits, and in hexadecimal those without a name:
+/// `StatusFlags(SERVER_STATUS_IN_TRANS | SERVER_STATUS_AUTOCOMMIT | 0x4)`.
+///
+/// ```
+/// (
+///     status.contains(StatusFlags::SERVER_STATUS_IN_TRANS),
+///     status.contains(StatusFlags::SERVER_MORE_RESULTS_EXISTS),
+/// )
+/// ```
+#[derive_where(Clone, Copy, PartialEq, Eq, Hash, Default; B)]
 pub struct FlagWord<N, B>(pub B, PhantomData<N>);
 
 impl<N: FlagNames<B>, B: Bits> Flags for FlagWord<N, B> {
@@ -84,6 +99,15 @@ impl<N: FlagNames<B>, B: Bits> Flags for FlagWord<N, B> {
     }
 }
 
+impl<N: FlagNames<B>, B: Bits + WriteHex> fmt::Debug for FlagWord<N, B> {
+    fn fmt<W: fmt::Write>(&self, f: &mut fmt::Formatter<W>) -> fmt::Result {
+        f.write_str(N::NAME)?;
+        f.write_str("(")?;
+        bitflags::parser::to_writer(self, f)?;
+        f.write_str(")")
+    }
+}
+
 /// Every bit that either has.
 impl<N: FlagNames<B>, B: Bits> BitOr for FlagWord<N, B> {
     type Output = FlagWord<N, B>;
@@ -108,7 +132,7 @@ impl<N: FlagNames<B>, B: Bits> BitAnd for FlagWord<N, B> {
     }
 }
 
-/// Every bit that one alone has.
+/// The symmetric difference: bits that exactly one of the two has.
 impl<N: FlagNames<B>, B: Bits> BitXor for FlagWord<N, B> {
     type Output = FlagWord<N, B>;
 
@@ -184,7 +208,7 @@ impl<N: FlagNames<B>, B: Bits> SubAssign for FlagWord<N, B> {
     }
 }
 
-/// Every integer stands for a flag word, whose bits are all kept.
+/// Every integer is a flag word: all bits are kept.
 impl<N: FlagNames<B>, B: Bits> ConstValue<B> for FlagWord<N, B> {
     ghost use Rattle.mysql_wire.specs.Flags.{flags_of};
 

@@ -8,13 +8,13 @@ use crate::buf::ParseBuf;
 use crate::buffer::Buffer;
 use crate::fault::FaultOf;
 use crate::proto::{MyDeserialize, MySerialize, Width};
-use std::fmt::Debug;
+use std::fmt::{self, Debug};
 use std::hash::Hash;
 use std::marker::PhantomData;
 
-/// How an integer lies in the bytes: a marker for [`RawInt`].
+/// The encoding of an integer: a marker for [`RawInt`].
 pub trait IntRepr {
-    /// The number that is spelled.
+    /// The type of the number.
     type Primitive: Copy + Eq + Hash + Debug;
 
     /// The bytes that each number takes, where that is a constant.
@@ -22,10 +22,10 @@ pub trait IntRepr {
 
     ghost SIZE: { Option ℕ };
 
-    /// How a number is spelled.
+    /// The grammar of a number.
     ghost form: { Form Self.Primitive };
 
-    /// Reads a number from the front. Where the form has a constant size, so many bytes are there.
+    /// Reads a number from the front. If the encoding has a constant size, the caller ensures that this many bytes are left.
     fn deserialize<'s>(buf: &mut ParseBuf<'_>) -> Result<Self::Primitive, FaultOf<'s>>
         requires { HasBytes SIZE buf.old }
         ensures value { Answers false result buf.new (form.reads buf.old) }
@@ -34,7 +34,7 @@ pub trait IntRepr {
     /// The bytes that a number is written as.
     ghost written: { Self.Primitive → List ℕ };
 
-    /// How many bytes the number is written as.
+    /// The encoded length of the number.
     fn written_len(value: Self::Primitive) -> usize
         ensures { result ≡ length (written value) };
 
@@ -50,9 +50,9 @@ pub trait IntRepr {
     ghost size_is: { form.size ≡ SIZE };
 }
 
-/// An integer of a fixed width, which any bytes spell: where they are there, as in a block that is read, it can't be refused.
+/// An integer of a fixed width. All bytes are valid, so reading fails only if bytes are missing.
 pub trait FixedInt: IntRepr {
-    /// How many bytes each number takes.
+    /// The width in bytes.
     ghost width: { ℕ };
 
     /// Takes the number off the front.
@@ -65,9 +65,22 @@ pub trait FixedInt: IntRepr {
 /// An integer in its wire form, as the marker `R` says: `RawInt<LeU32>`, `RawInt<LenEnc>`.
 ///
 /// The number is field 0.
+///
+/// ```
+/// let number: RawInt<LeU32> = buf.parse(())?;
+/// let text: RawBytes<'a, NullBytes> = buf.parse(())?;
+/// Ok((number.0, text))
+/// ```
 #[derive(Drop)]
-#[derive_where(Clone, PartialEq, Eq, Hash, Debug)]
+#[derive_where(Clone, PartialEq, Eq, Hash)]
 pub struct RawInt<R: IntRepr>(pub R::Primitive, PhantomData<R>);
+
+/// The number.
+impl<R: IntRepr> Debug for RawInt<R> {
+    fn fmt<W: fmt::Write>(&self, f: &mut fmt::Formatter<W>) -> fmt::Result {
+        self.0.fmt(f)
+    }
+}
 
 impl<R: IntRepr> RawInt<R> {
     /// The number, to be written in the form `R`.

@@ -7,7 +7,7 @@ ghost use Rattle.mysql_wire.specs.Writing.{saturated};
 use crate::buffer::Buffer;
 use crate::proto::MySerialize;
 
-/// How many bytes the values are written as together, or `usize::MAX` where that is less.
+/// The encoded length of all the values, or `usize::MAX` if it is greater.
 #[tactic(auto, unfolding(crate::specs::Writing::saturated))]
 pub fn items_len<T: MySerialize>(values: &[T]) -> usize
     ensures value { result ≡ saturated (length (flat_map T.bytes values.now)) }

@@ -1,4 +1,4 @@
-//! Laws over the grammars of the wire forms, and over what is written of them.
+//! Laws of the grammars, and round trips.
 //!
 //! Each function here has an empty body: its contract is the law, proved for every value. A form
 //! `f` has `f.Spells value bytes rest`, which says that `bytes` are a spelling of `value` and then
@@ -45,7 +45,7 @@ pub fn at_most_one_value<'de, T: MyDeserialize<'de>>()
     ensures rest { (ctx : T.Ctx) (v w : T) (bytes rest more : List ℕ) → (T.form ctx).Spells v bytes rest → (T.form ctx).Spells w bytes more → rest ≡ more }
 {}
 
-/// A reading takes a front of the bytes, and leaves the rest as it was.
+/// Reading takes bytes from the front, and leaves the rest unchanged.
 pub fn reading_takes_a_front<'de, T: MyDeserialize<'de>>()
     ensures { (ctx : T.Ctx) (v : T) (bytes rest : List ℕ) → (T.form ctx).Spells v bytes rest → IsTail rest bytes }
 {}
@@ -55,13 +55,13 @@ pub fn constant_size_is_exact<'de, T: MyDeserialize<'de>>()
     ensures { (n : ℕ) → T.Size.SIZE ≡ Some n → (ctx : T.Ctx) (v : T) (bytes rest : List ℕ) → (T.form ctx).Spells v bytes rest → length bytes ≡ n + length rest }
 {}
 
-/// What is read is spelled so, and what is spelled so is read.
+/// `reads` and `Spells` agree: each value that is read is spelled by the bytes, and the other way round.
 pub fn reading_is_spelling<'de, T: MyDeserialize<'de>>()
     ensures read { (ctx : T.Ctx) (v : T) (bytes rest : List ℕ) → (T.form ctx).Spells v bytes rest → (T.form ctx).reads bytes ≡ Ok (v, rest) }
     ensures spelled { (ctx : T.Ctx) (v : T) (bytes rest : List ℕ) → (T.form ctx).reads bytes ≡ Ok (v, rest) → (T.form ctx).Spells v bytes rest }
 {}
 
-/// A number that fits its width is read again, whatever follows.
+/// A number that fits its width is read again, whatever bytes follow.
 #[tactic(auto, using(crate::specs::Spelling::numbers_again))]
 pub fn number_round_trips()
     ensures one_byte { (n : ℕ) → n < 2 ^ 8 → IsSpelling byte (raw_int n) (le_bytes 1 n) }
@@ -71,13 +71,13 @@ pub fn number_round_trips()
     ensures eight_bytes { (n : ℕ) → n < 2 ^ 64 → IsSpelling le_u64 (raw_int n) (le_bytes 8 n) }
 {}
 
-/// A length-encoded number of up to 64 bits is read again, whatever follows.
+/// A length-encoded number of up to 64 bits is read again, whatever bytes follow.
 #[tactic(auto, using(crate::specs::Again::lenenc_round_trips))]
 pub fn lenenc_round_trips()
     ensures { (n : ℕ) → n < 2 ^ 64 → IsSpelling lenenc n (lenenc_bytes n) }
 {}
 
-/// A length-encoded byte string is read again, whatever follows.
+/// A length-encoded byte string is read again, whatever bytes follow.
 #[tactic(auto, using(crate::specs::Again::lenenc_round_trips))]
 pub fn lenenc_string_round_trips()
     ensures { (content : List ℕ) → length content < 2 ^ 64 → IsSpelling lenenc_string content (lenenc_string_bytes content) }

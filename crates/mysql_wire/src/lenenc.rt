@@ -16,6 +16,11 @@ use crate::little_endian::{LeU16, LeU24, LeU64};
 /// `InvalidData`. The shortest spelling is written.
 ///
 /// A byte string is the length-encoded length of its content, and then the content.
+///
+/// ```
+/// let count: RawInt<LenEnc> = RawInt::new(count);
+/// Ok(count.serialize(out)?)
+/// ```
 #[derive(Clone, Copy, Debug)]
 pub struct LenEnc;
 

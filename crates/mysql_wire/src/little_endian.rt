@@ -60,6 +60,12 @@ impl FixedInt for LeU16 {
 }
 
 /// A number of 32 bits: four bytes, little-endian (`int<4>`).
+///
+/// ```
+/// let number: RawInt<LeU32> = buf.parse(())?;
+/// let text: RawBytes<'a, NullBytes> = buf.parse(())?;
+/// Ok((number.0, text))
+/// ```
 #[derive(Clone, Copy, Debug)]
 pub struct LeU32;
 

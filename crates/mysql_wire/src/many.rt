@@ -12,8 +12,8 @@ use std::alloc::AllocError;
 
 /// Reads values one after another until the buffer is empty.
 ///
-/// The fault is that of the first value that has one. A value that takes no bytes is `InvalidData`, since it would be
-/// read again without end. No memory is taken before a first value is read. After a refusal the buffer is as it was.
+/// The fault is that of the first value that has one. A value that takes no bytes is `InvalidData`, since reading would never
+/// end. No memory is taken before the first value is read. After an error the buffer is unchanged.
 pub fn read_all<'s, 'a, T: MyDeserialize<'a, Ctx = ()> + Drop>(
     buf: &mut ParseBuf<'a>,
 ) -> Result<Vec<T>, FaultOf<'s>>

@@ -12,6 +12,12 @@ use memchr::memchr;
 /// The bytes up to a zero (`string<NUL>`), which is eaten. Without a zero: `UnexpectedEof`.
 ///
 /// A content is written up to its first zero, and then a zero.
+///
+/// ```
+/// let number: RawInt<LeU32> = buf.parse(())?;
+/// let text: RawBytes<'a, NullBytes> = buf.parse(())?;
+/// Ok((number.0, text))
+/// ```
 #[derive(Clone, Copy, Debug)]
 pub struct NullBytes;
 
@@ -96,7 +102,7 @@ fn after_chunks<const N: usize>(bytes: &[u8]) -> Option<&[u8]>
     Some(rest)
 }
 
-/// Whether some byte of a chunk is a zero. Every byte is looked at, so the compiler compares all at once.
+/// Whether a byte of a chunk is zero. It tests every byte, so that the compiler compares all of them at once.
 #[inline(always)]
 fn chunk_has_zero<const N: usize>(chunk: &[u8; N]) -> bool
     requires few { N ≤ 16 }

@@ -21,7 +21,7 @@ use std::fmt::Debug;
 use std::hash::{Hash, Hasher};
 use std::marker::{Model, PhantomData};
 
-/// How many values to reserve capacity for: no more than the count, nor than the unread bytes can hold.
+/// The capacity to reserve for a list: at most the count, and at most what the unread bytes can hold.
 ///
 /// Values without a constant size, or without bytes, get none: their list grows as they are read.
 fn capacity_for(count: u64, size: Option<usize>, unread: usize) -> usize
@@ -34,7 +34,7 @@ fn capacity_for(count: u64, size: Option<usize>, unread: usize) -> usize
     }
 }
 
-/// Reads so many values, one after another. A fault of the first one comes before any memory.
+/// Reads `count` values. A fault of the first one is returned before any memory is taken.
 fn read_items<'s, 'a, T: MyDeserialize<'a, Ctx = ()> + Drop>(
     count: u64,
     buf: &mut ParseBuf<'a>,
@@ -51,12 +51,12 @@ fn read_items<'s, 'a, T: MyDeserialize<'a, Ctx = ()> + Drop>(
     Ok(items)
 }
 
-/// How the count of a list lies in the bytes: [`LeU64`] or [`Unknown`].
+/// The encoding of a list's count: [`LeU64`] or [`Unknown`].
 pub trait SeqRepr {
-    /// What a reading is passed beside the bytes.
+    /// The context of a reading, such as the count.
     type Ctx: Drop;
 
-    /// How the count is spelled.
+    /// The grammar of the count.
     ghost form: { Self.Ctx → Form ℕ };
 
     /// Reads the count.
@@ -67,7 +67,7 @@ pub trait SeqRepr {
     /// The bytes that a count is written as.
     ghost written: { ℕ → List ℕ };
 
-    /// How many bytes a count is written as.
+    /// The encoded length of a count.
     fn written_len(count: usize) -> usize
         ensures { result ≡ length (written count) };
 
@@ -108,7 +108,7 @@ impl SeqRepr for LeU64 {
     }
 }
 
-/// A count that is handed in, and is not among the bytes.
+/// A count that the caller passes, and that isn't in the bytes.
 #[derive(Clone, Copy, Debug, PartialEq, Eq, Hash)]
 pub struct Unknown;
 
@@ -174,7 +174,7 @@ impl<'a, T, L> Seq<'a, T, L> {
         self.0.as_slice()
     }
 
-    /// How many values there are.
+    /// The number of values.
     #[inline]
     pub fn len(&self) -> usize
         ensures value { result ≡ length self.now }
@@ -190,7 +190,7 @@ impl<'a, T, L> Seq<'a, T, L> {
         self.as_slice().is_empty()
     }
 
-    /// The values, in the slice or the `Vec` that they were handed in as.
+    /// Returns the values, as the slice or `Vec` that the list was created from.
     pub fn into_inner(self) -> CowSlice<'a, T>
         ensures value { cow_slice_items result ≡ self.entry }
     {
@@ -198,7 +198,7 @@ impl<'a, T, L> Seq<'a, T, L> {
         values
     }
 
-    /// A list of the same values, each cloned where this list owns them. For no value no memory is taken.
+    /// Clones the list: borrowed values stay borrowed, and owned ones are cloned. An empty list takes no memory.
     ///
     /// The caller knows that clones of the values equal them.
     pub fn clone(&self) -> Result<Seq<'a, T, L>, AllocError>
@@ -216,8 +216,7 @@ impl<'a, T, L> Seq<'a, T, L> {
 
     /// Puts a value at the end. Borrowed values are cloned first.
     ///
-    /// The caller knows that clones of the values equal them. Where an allocation fails, the list stays as it was and
-    /// the value is dropped.
+    /// Requires that a clone of a value equals it. If the allocation fails, the list is unchanged and the value is dropped.
     pub fn push(&mut self, alloc: Global, value: T) -> Result<(), AllocError>
     where
         T: Clone + Drop,

@@ -5,7 +5,7 @@ ghost use Rattle.std.specs.Prelude.{◌≡◌, ◌+◌, ◌++◌, ◌∷◌, [],
 use crate::buffer::Buffer;
 use std::mem;
 
-/// A slice of which a front is written.
+/// A slice that is filled from the front.
 #[derive(Drop)]
 pub(crate) struct SliceWriter<'a> {
     out: &'a mut [u8],

@@ -1,4 +1,4 @@
-//! Numbers of varying length, and byte strings after such a length.
+//! Numbers of variable length, and byte strings with such a length.
 
 ghost use Rattle.std.specs.Prelude.{false, ◌≡◌, ◌+◌, ◌-◌, ◌*◌, ◌^◌, ◌++◌, ◌<◌, ◌≤◌, length, None, OnOk, OnErr, IsOk, vec_len, vec_capacity};
 ghost use Rattle.mysql_wire.specs.Reading.{Answers};
@@ -13,8 +13,8 @@ use crate::little_endian::LeU64;
 use crate::proto::MySerialize;
 use std::alloc::AllocError;
 
-/// A number of varying length: the low ones of the first byte count the bytes that follow it, and stand below a zero
-/// and the number. The byte `ff` stands before the eight bytes of a number, little-endian.
+/// A number of variable length: the low one bits of the first byte count the bytes that follow, and the number's low bits are
+/// above them, after a zero bit. The byte `ff` is followed by a number of eight bytes, little-endian.
 ///
 /// A byte string is the length of its content in this form, and then the content.
 #[derive(Clone, Copy, Debug)]
@@ -94,7 +94,7 @@ impl BytesRepr for VarLen {
     ghost size_is = { λ _. size-varlen_string };
 }
 
-/// The number above a zero, which stands above the ones that count the bytes after the first of so many.
+/// The number in the first byte, above the zero bit and the one bits, which count the bytes that follow.
 #[inline]
 fn above_ones(value: u64, size: usize) -> u64
     requires some { 0 < size }
@@ -107,7 +107,7 @@ fn above_ones(value: u64, size: usize) -> u64
 
 /// Reads a number of varying length. A longer spelling than its shortest is read too.
 ///
-/// Missing bytes are `UnexpectedEof`, and then the buffer is as it was.
+/// Missing bytes are `UnexpectedEof`, and the buffer is then unchanged.
 #[tactic(auto, using(crate::proofs::Varlens::reading))]
 pub fn read_varlen_uint<'s>(buf: &mut ParseBuf<'_>) -> Result<u64, FaultOf<'s>>
     ensures value { Answers false result buf.new (varlen.reads buf.old) }
@@ -131,10 +131,10 @@ pub fn read_varlen_uint<'s>(buf: &mut ParseBuf<'_>) -> Result<u64, FaultOf<'s>>
     Ok(u64::from_le_bytes(bytes) >> size)
 }
 
-/// Writes a number in the fewest bytes that hold it at seven bits each, at most eight of them; or else as `ff` and
-/// eight bytes. The buffer grows once at the most.
+/// Writes a number in the fewest bytes with seven bits each, at most eight of them; a greater one as `ff` and eight bytes. It
+/// reserves at most once.
 ///
-/// Where that allocation fails, the buffer is as it was. It takes no memory where the buffer has capacity, and is not refused then.
+/// If that allocation fails, the buffer is unchanged. It takes no memory, and can't fail, if the buffer has enough capacity.
 pub fn write_varlen_uint(out: &mut Vec<u8>, value: u64) -> Result<(), AllocError>
     ensures ok { OnOk result (out.new.items ≡ out.old.items ++ varlen_bytes value) }
     ensures err { OnErr result (out.new.items ≡ out.old.items) }
@@ -143,7 +143,7 @@ pub fn write_varlen_uint(out: &mut Vec<u8>, value: u64) -> Result<(), AllocError
     RawInt::<VarLen>::new(value).serialize(out)
 }
 
-/// How many bytes a number is written in: from 1 to 9.
+/// The encoded length of a number: 1 to 9 bytes.
 #[tactic(auto, using(crate::proofs::Varlens::sizes), unfolding(crate::specs::Varlen::varlen_size))]
 pub fn varlen_uint_size(value: u64) -> usize
     ensures value { result ≡ varlen_size value }

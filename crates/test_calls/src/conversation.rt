@@ -4,12 +4,13 @@
 //! these capabilities; `conversation commands ..`: a connection that is taken up between two commands. A word is `>` or `<` with the bytes
 //! of a piece of the client's or the server's stream after it, frames with their headers; `tls`: what comes is deciphered.
 //! `packets LIMIT WORD ..`: as `session`, and what its packets hold (`packets.rt`).
-//! `expects` as the last word: the kinds that may come next. `payloads ..`: as `conversation`, but a word has a payload, without headers, and no command may come early.
+//! `may_receive` as the last word: the kinds that may come next. `payloads ..`: as `conversation`, but a word has a payload, without headers, and no command may come early.
 
 use crate::packets::Watched;
 use mysql_packets::constants::{CapabilityFlags, Flags, MariadbCapabilities};
 use mysql_packets::conversation::{
-    Conversation, Kind, KindName, Opening, Pipeline, Refusal, Session, Side, Unexpected, agreed_on,
+    Conversation, InitialPhase, PacketKind, PacketKindTag, Pipeline, Session, SessionError, Side,
+    UnexpectedPacket, agreed_on,
 };
 use mysql_packets::frames::{FrameError, FrameReader};
 use mysql_packets::packets::SessionCapabilities;
@@ -22,50 +23,65 @@ const LONGEST: usize = 1 << 26;
 
 /// What follows packets.
 pub trait Tracker {
-    fn next(&mut self, from: Side, payload: &[u8]) -> Result<(Kind, u64), Refusal>;
+    fn next(&mut self, from: Side, payload: &[u8]) -> Result<(PacketKind, u64), SessionError>;
 
-    fn expects(&self, from: Side, name: KindName) -> bool;
+    fn may_receive(&self, from: Side, name: PacketKindTag) -> bool;
 
-    fn decipher(&mut self) {}
+    fn tls_established(&mut self) {}
+
+    /// Goes on from what a packet of this kind leaves in plain numbers.
+    fn restart(&mut self, _alloc: Global, _kind: PacketKind) {}
 
     /// Adds what a packet of this kind holds.
-    fn see(&mut self, _out: &mut Out, _from: Side, _kind: Kind, _payload: &[u8]) {}
+    fn see(&mut self, _out: &mut Out, _from: Side, _kind: PacketKind, _payload: &[u8]) {}
 }
 
 impl Tracker for Session {
-    fn next(&mut self, from: Side, payload: &[u8]) -> Result<(Kind, u64), Refusal> {
+    fn next(&mut self, from: Side, payload: &[u8]) -> Result<(PacketKind, u64), SessionError> {
         Session::next(self, from, payload)
     }
 
-    fn expects(&self, from: Side, name: KindName) -> bool {
-        Session::expects(self, from, name)
+    fn may_receive(&self, from: Side, name: PacketKindTag) -> bool {
+        Session::may_receive(self, from, name)
     }
 
-    fn decipher(&mut self) {
-        Session::decipher(self)
+    fn tls_established(&mut self) {
+        Session::tls_established(self)
+    }
+
+    /// After a request for TLS the numbers are of what is decrypted, so it stays as it is.
+    fn restart(&mut self, alloc: Global, kind: PacketKind) {
+        if let PacketKind::SslRequest = kind {
+            return;
+        }
+        if let Ok(state) = self.login_state() {
+            if let Some(again) = Session::from_login_state(alloc, self.limit(), &state) {
+                *self = again;
+            }
+        }
     }
 }
 
 impl Tracker for Pipeline {
-    fn next(&mut self, from: Side, payload: &[u8]) -> Result<(Kind, u64), Refusal> {
+    fn next(&mut self, from: Side, payload: &[u8]) -> Result<(PacketKind, u64), SessionError> {
         Pipeline::next(self, from, payload)
     }
 
-    fn expects(&self, from: Side, name: KindName) -> bool {
-        Pipeline::expects(self, from, name)
+    fn may_receive(&self, from: Side, name: PacketKindTag) -> bool {
+        Pipeline::may_receive(self, from, name)
     }
 }
 
 impl Tracker for Conversation {
-    fn next(&mut self, from: Side, payload: &[u8]) -> Result<(Kind, u64), Refusal> {
+    fn next(&mut self, from: Side, payload: &[u8]) -> Result<(PacketKind, u64), SessionError> {
         match Conversation::next(self, from, payload) {
             Ok(kind) => Ok((kind, 0)),
-            Err(Unexpected) => Err(Refusal::Unexpected),
+            Err(UnexpectedPacket) => Err(SessionError::UnexpectedPacket),
         }
     }
 
-    fn expects(&self, from: Side, name: KindName) -> bool {
-        Conversation::expects(self, from, name)
+    fn may_receive(&self, from: Side, name: PacketKindTag) -> bool {
+        Conversation::may_receive(self, from, name)
     }
 }
 
@@ -78,18 +94,18 @@ fn sign_of(side: Side) -> &'static str {
 }
 
 /// Adds a packet's kind, whose name is found by its place, and what the kind tells.
-pub(crate) fn show_kind(out: &mut Out, side: Side, kind: Kind) {
+pub(crate) fn show_kind(out: &mut Out, side: Side, kind: PacketKind) {
     out.word(sign_of(side));
-    if let Some(name) = KindName::ALL.get(usize::from(kind.name().index())) {
+    if let Some(name) = PacketKindTag::ALL.get(usize::from(kind.name().index())) {
         out.push(name.as_str());
     }
     match kind {
-        Kind::Command(code) => show_number(out, u64::from(code)),
-        Kind::ColumnCount(count, follow) => {
+        PacketKind::Command(code) => show_number(out, u64::from(code)),
+        PacketKind::ColumnCount(count, follow) => {
             show_number(out, count);
             show_absent(out, follow);
         }
-        Kind::PrepareOk(columns, params, follow) => {
+        PacketKind::PrepareOk(columns, params, follow) => {
             show_number(out, u64::from(columns));
             show_number(out, u64::from(params));
             show_absent(out, follow);
@@ -120,18 +136,19 @@ fn take<T: Tracker>(out: &mut Out, tracker: &mut T, side: Side, payload: &[u8]) 
                 out.push("#");
                 out.display(&number);
                 tracker.see(out, side, kind, payload);
+                tracker.restart(out.alloc(), kind);
                 return true;
             }
-            Err(Refusal::Memory) => out.field("next", "Memory"),
+            Err(SessionError::Memory) => out.field("next", "Memory"),
             Err(why) => {
                 out.word(sign_of(side));
                 out.push("refused:");
                 out.push(match why {
-                    Refusal::Unexpected => "Unexpected",
-                    Refusal::Full => "Full",
-                    Refusal::Memory => "Memory",
-                    Refusal::Encrypted => "Encrypted",
-                    Refusal::Compressed => "Compressed",
+                    SessionError::UnexpectedPacket => "Unexpected",
+                    SessionError::Full => "Full",
+                    SessionError::Memory => "Memory",
+                    SessionError::Encrypted => "Encrypted",
+                    SessionError::Compressed => "Compressed",
                 });
                 return false;
             }
@@ -151,11 +168,11 @@ fn take_piece<T: Tracker>(
 ) -> bool {
     let mut input = piece;
     for _ in 0..=piece.len() {
-        reader.expect_as_sent(input);
+        reader.resync_sequence(input);
         match reader.read(&mut input) {
             Ok(Some(payload)) => {
                 let taken = take(out, tracker, side, payload.as_slice());
-                reader.give_back(payload);
+                reader.recycle(payload);
                 if !taken {
                     return false;
                 }
@@ -183,10 +200,10 @@ pub(crate) fn piece_of(alloc: Global, word: &str) -> Option<(Side, Vec<u8>)> {
 
 /// Adds the kinds that may come next, of both sides.
 fn show_expected<T: Tracker>(out: &mut Out, tracker: &T) {
-    out.word("expects");
+    out.word("may_receive");
     for side in [Side::Client, Side::Server] {
-        for name in KindName::ALL {
-            if tracker.expects(side, name) {
+        for name in PacketKindTag::ALL {
+            if tracker.may_receive(side, name) {
                 out.push(":");
                 out.push(sign_of(side));
                 out.push(name.as_str());
@@ -195,17 +212,17 @@ fn show_expected<T: Tracker>(out: &mut Out, tracker: &T) {
     }
 }
 
-/// Adds the packets of pieces, from a word on, until one doesn't come. `expects` at the end adds the kinds that may come then.
+/// Adds the packets of pieces, from a word on, until one doesn't come. `may_receive` at the end adds the kinds that may come then.
 fn take_all<T: Tracker>(out: &mut Out, request: &Request<'_>, tracker: &mut T, from: usize) {
     let mut client = FrameReader::new(request.alloc, LONGEST);
     let mut server = FrameReader::new(request.alloc, LONGEST);
     for word in request.line.split(' ').skip(from) {
         match word {
             "tls" => {
-                tracker.decipher();
+                tracker.tls_established();
                 continue;
             }
-            "expects" => break,
+            "may_receive" => break,
             _ => {}
         }
         let Some((side, piece)) = piece_of(request.alloc, word) else {
@@ -219,7 +236,7 @@ fn take_all<T: Tracker>(out: &mut Out, request: &Request<'_>, tracker: &mut T, f
             break;
         }
     }
-    if request.line.ends_with(" expects") {
+    if request.line.ends_with(" may_receive") {
         show_expected(out, tracker);
     }
 }
@@ -244,7 +261,7 @@ pub fn session(out: &mut Out, request: &Request<'_>) {
     let limit = request.number(1) as usize;
     let mut session = Session::new(request.alloc, limit);
     take_all(out, request, &mut session, 2);
-    out.show("at_rest", session.is_at_rest());
+    out.show("at_rest", session.is_idle());
     show_other_limit(out, limit, session.limit());
     show_agreed(out, session.agreed());
 }
@@ -264,10 +281,10 @@ pub(crate) fn agreed_by(request: &Request<'_>, place: usize) -> SessionCapabilit
 }
 
 /// Where it begins, by the first word.
-fn opening_by(request: &Request<'_>) -> Opening {
+fn opening_by(request: &Request<'_>) -> InitialPhase {
     match request.word(1) {
-        "login" => Opening::Login,
-        _ => Opening::Commands,
+        "login" => InitialPhase::Login,
+        _ => InitialPhase::Commands,
     }
 }
 
@@ -281,7 +298,7 @@ pub fn conversation(out: &mut Out, request: &Request<'_>) {
         limit,
     );
     take_all(out, request, &mut pipeline, 5);
-    out.show("at_rest", pipeline.is_at_rest());
+    out.show("at_rest", pipeline.is_idle());
     out.show("waiting", pipeline.waiting());
     show_other_limit(out, limit, pipeline.limit());
 }
@@ -291,15 +308,26 @@ pub fn payloads(out: &mut Out, request: &Request<'_>) {
     let agreed = agreed_by(request, 2);
     let mut conversation = Conversation::new(request.alloc, agreed, opening_by(request));
     for word in request.line.split(' ').skip(4) {
-        if word == "expects" {
+        if word == "may_receive" {
             break;
         }
         let Some((side, payload)) = piece_of(request.alloc, word) else {
             return out.word("bad");
         };
+        let state = conversation.state();
+        let row = match side {
+            Side::Client => None,
+            Side::Server => state.row(agreed, payload.as_slice()),
+        };
         match conversation.next(side, payload.as_slice()) {
-            Ok(kind) => show_kind(out, side, kind),
-            Err(Unexpected) => {
+            Ok(kind) => {
+                show_kind(out, side, kind);
+                // (a row leaves the state as it is)
+                if row.is_some_and(|row| row != kind || conversation.state() != state) {
+                    out.word("row");
+                }
+            }
+            Err(UnexpectedPacket) => {
                 out.word(sign_of(side));
                 out.push("refused:Unexpected");
             }
@@ -310,10 +338,10 @@ pub fn payloads(out: &mut Out, request: &Request<'_>) {
             None => return out.word("no_state"),
         }
     }
-    if request.line.ends_with(" expects") {
+    if request.line.ends_with(" may_receive") {
         show_expected(out, &conversation);
     }
-    out.show("at_rest", conversation.is_at_rest());
+    out.show("at_rest", conversation.is_idle());
 }
 
 /// The flags that both have, of those of a server and those of a client.

@@ -8,7 +8,7 @@ use std::io::{ErrorKind, Read, Write};
 use test_probe::out::Out;
 use test_probe::request::Request;
 
-/// Gives one byte of another reader a read, for so many reads. Each read after those fails so.
+/// Gives one byte of another reader a read, for this many reads. Each read after those fails so.
 #[derive(Drop)]
 struct SlowReader<R> {
     inner: R,
@@ -30,7 +30,7 @@ impl<R: Read> Read for SlowReader<R> {
 /// How a write that is not taken fails; or none, where it takes nothing.
 type Then = Option<ErrorKind>;
 
-/// Takes one byte a write, for so many writes, each of which is interrupted first where that is so. Writes after those are not
+/// Takes one byte a write, for this many writes, each of which is interrupted first where that is so. Writes after those are not
 /// taken. It fails at a byte that is not the next one of those that are wanted.
 #[derive(Drop)]
 struct SlowWriter<'a> {

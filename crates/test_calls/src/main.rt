@@ -5,7 +5,7 @@
 //! no words. The answer is `status N` and the lines that are written, with `; ` in front of each.
 //!
 //! After `fails` it is what becomes of such a call on readers and writers that fail, and after `endless` on an input without
-//! end. `tour` makes the calls of the README's tour, `kind` reads an OK packet of a kind that stands here, and `gtid_sets` reads the
+//! end. `tour` makes the calls of the README's tour, `kind` reads an OK packet of a kind that stands here, `flags` prints flag words, and `gtid_sets` reads the
 //! sets of GTIDs that an OK packet tells. `session`, `conversation`, `payloads` and `agreed` tell packets apart, `packets` reads
 //! them, `statements` reads the parameters of executions and the values of rows, and `observer` reads all of a connection.
 #![tactic(auto)]
@@ -13,6 +13,7 @@
 mod call;
 mod conversation;
 mod fails;
+mod flags;
 mod gtid_sets;
 mod kind;
 mod observer;
@@ -33,6 +34,7 @@ impl Answers for Program {
             Some(("fails", call)) => fails::fails(out, request, call).end(out),
             Some(("endless", call)) => fails::endless(out, request, call).end(out),
             Some(("kind", _)) => kind::kind(out, request),
+            Some(("flags", _)) => flags::flags(out, request),
             Some(("session", _)) => conversation::session(out, request),
             Some(("conversation", _)) => conversation::conversation(out, request),
             Some(("packets", _)) => conversation::packets(out, request),

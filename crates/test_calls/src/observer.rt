@@ -1,20 +1,23 @@
 //! A connection that is observed, from its greeting on.
 //!
-//! `observer WAITING STATEMENTS TYPES EARLY BYTES WORD ..`: so many commands may wait, so many statements are kept with so many types, and so many
-//! early commands of so many bytes. A word is `>` or `<` with the bytes of a payload of the client or the server, or `tls`: what comes is deciphered.
-//! Of an execution its parameters are read, of each row its values, and of an event its size.
+//! `observer WAITING STATEMENTS TYPES EARLY BYTES COLUMNS WORD ..`: a given number of commands may wait, a given number of statements are kept with a given number of types, and this many
+//! early commands of a given number of bytes, and the types of this many columns of a result. A word is `>` or `<` with the bytes of a payload of the client or the server, or `tls`: what comes is deciphered.
+//! Of an execution its parameters are read, of each row its values, and of an event its size. After a value of a row of text stands `=i` or `=u` and the number that it converts to, if the type of its column is known
+//! and is one of integers, signed or unsigned.
 
 use crate::conversation::{piece_of, show_kind};
 use crate::statements::{show, show_param, show_value};
-use mysql_packets::conversation::{Refusal, Side};
+use mysql_packets::constants::ColumnType;
+use mysql_packets::conversation::{SessionError, Side};
 use mysql_packets::io::FaultOf;
 use mysql_packets::observer::{
-    ClientRecord, ObservedPacket, Observer, ObserverLimits, ServerPacket, ServerRecord,
+    ClientRecord, ObservedPacket, Observer, ObserverLimits, ServerPacket,
 };
 use mysql_packets::packets::ExecuteParamsView;
 use mysql_packets::row::{BinaryRowView, TextRowView};
-use mysql_packets::statements::{EarlyLimits, RowColumn, StatementLimits};
-use mysql_packets::value::ServerSide;
+use mysql_packets::statements::{PipelinedLimits, RowColumn, StatementLimits};
+use mysql_packets::value::convert::FromValueRef;
+use mysql_packets::value::{ServerSide, ValueRef};
 use test_probe::counted;
 use test_probe::prelude::{Out, Request};
 
@@ -45,13 +48,49 @@ fn show_binary_row<'s>(
     Ok(())
 }
 
-/// Adds the values of a row of text.
-fn show_text_row<'s>(out: &mut Out, row: TextRowView<'_>) -> Result<(), FaultOf<'s>> {
+/// Adds the number that a value of a row of text is under the type of its column.
+fn show_converted(out: &mut Out, column: &RowColumn, value: ValueRef<'_>) {
+    if !is_integer(column.column_type) {
+        return;
+    }
+    if column.is_unsigned {
+        if let Ok(number) = u64::from_value_ref_opt(value) {
+            out.push("=u");
+            out.display(&number);
+        }
+    } else if let Ok(number) = i64::from_value_ref_opt(value) {
+        out.push("=i");
+        out.display(&number);
+    }
+}
+
+/// Whether the values of a column are integers.
+fn is_integer(column_type: ColumnType) -> bool {
+    matches!(
+        column_type,
+        ColumnType::MYSQL_TYPE_TINY
+            | ColumnType::MYSQL_TYPE_SHORT
+            | ColumnType::MYSQL_TYPE_YEAR
+            | ColumnType::MYSQL_TYPE_INT24
+            | ColumnType::MYSQL_TYPE_LONG
+            | ColumnType::MYSQL_TYPE_LONGLONG
+    )
+}
+
+/// Adds the values of a row of text, and what they convert to.
+fn show_text_row<'s>(
+    out: &mut Out,
+    row: TextRowView<'_>,
+    columns: &[RowColumn],
+) -> Result<(), FaultOf<'s>> {
     let mut row = row;
-    for _ in 0..row.left() {
+    for place in 0..row.left() {
         if let Some(value) = row.next_value()? {
             out.push(":");
             show_value(out, value);
+            if let Some(column) = columns.get(place) {
+                show_converted(out, column, value);
+            }
         }
     }
     Ok(())
@@ -65,15 +104,19 @@ fn show_fault(out: &mut Out, read: Result<(), FaultOf<'_>>) {
 }
 
 /// Adds the values of a row, and the size of an event.
-fn show_packet(out: &mut Out, packet: ServerPacket<'_, '_, RowColumn>) {
+fn show_packet(out: &mut Out, packet: ServerPacket<'_, '_, RowColumn>, columns: &[RowColumn]) {
     match packet {
         ServerPacket::BinaryRow(row) => {
             let shown = show_binary_row(out, row);
             show_fault(out, shown);
         }
         ServerPacket::TextRow(row) => {
-            let shown = show_text_row(out, row);
+            let shown = show_text_row(out, row, columns);
             show_fault(out, shown);
+        }
+        ServerPacket::UntypedRow(bytes) => {
+            out.push(":untyped:");
+            show(out, bytes.as_bytes());
         }
         ServerPacket::BinlogEvent(event) => {
             out.push(":");
@@ -85,15 +128,14 @@ fn show_packet(out: &mut Out, packet: ServerPacket<'_, '_, RowColumn>) {
 
 /// Adds what a packet of the server holds.
 fn show_server(out: &mut Out, observer: &Observer, packet: &ObservedPacket, payload: &[u8]) {
-    let read: Result<ServerRecord<'_, '_>, FaultOf<'_>> = observer.server_packet(
+    let read: Result<ServerPacket<'_, '_, RowColumn>, FaultOf<'_>> = observer.server_packet(
         packet.kind,
         payload,
     );
     match read {
-        Ok(ServerRecord::Packet(packet)) => show_packet(out, packet),
-        Ok(ServerRecord::Untyped(bytes)) => {
-            out.push(":untyped:");
-            show(out, bytes);
+        Ok(packet) => {
+            let columns = observer.result_columns().unwrap_or(&[]);
+            show_packet(out, packet, columns)
         }
         Err(_) => out.push(":fault"),
     }
@@ -134,7 +176,7 @@ fn take(out: &mut Out, observer: &mut Observer, side: Side, payload: &[u8]) -> b
                 }
                 return true;
             }
-            Err(Refusal::Memory) => out.field("next", "Memory"),
+            Err(SessionError::Memory) => out.field("next", "Memory"),
             Err(_) => {
                 out.word("refused");
                 return false;
@@ -152,15 +194,16 @@ pub fn observer(out: &mut Out, request: &Request<'_>) {
             statements: request.number(2) as usize,
             types: request.number(3) as usize,
         },
-        early: EarlyLimits {
+        early: PipelinedLimits {
             commands: request.number(4) as usize,
             bytes: request.number(5) as usize,
         },
+        columns: request.number(6) as usize,
     };
     let mut observer = Observer::new(request.alloc, limits);
-    for word in request.line.split(' ').skip(6) {
+    for word in request.line.split(' ').skip(7) {
         if word == "tls" {
-            observer.decipher();
+            observer.tls_established();
             continue;
         }
         let Some((side, payload)) = piece_of(request.alloc, word) else {
@@ -170,5 +213,5 @@ pub fn observer(out: &mut Out, request: &Request<'_>) {
             break;
         }
     }
-    out.show("at_rest", observer.is_at_rest());
+    out.show("at_rest", observer.is_idle());
 }

@@ -3,7 +3,7 @@
 
 use crate::conversation::Tracker;
 use mysql_packets::constants::{ColumnFlags, ColumnType, Flags};
-use mysql_packets::conversation::{Kind, KindName, Refusal, Session, Side};
+use mysql_packets::conversation::{PacketKind, PacketKindTag, Session, SessionError, Side};
 use mysql_packets::io::{Fault, ParseBuf};
 use mysql_packets::misc::raw::ConstValue;
 use mysql_packets::observer::{
@@ -196,7 +196,7 @@ fn server(out: &mut Out, packet: ServerPacket<'_, '_, Typed>) {
         ServerPacket::AuthPluginData(data) => length(out, data.as_bytes()),
         ServerPacket::Ok(packet) => ok(out, &packet),
         ServerPacket::Error(packet) => error(out, &packet),
-        ServerPacket::UnaskedError(packet) => error(out, &packet),
+        ServerPacket::UnsolicitedError(packet) => error(out, &packet),
         ServerPacket::ProgressReport(packet) => report(out, &packet),
         ServerPacket::LocalInfile(packet) => length(out, packet.file_name()),
         ServerPacket::ColumnCount(packet) => number(out, packet.count()),
@@ -212,7 +212,9 @@ fn server(out: &mut Out, packet: ServerPacket<'_, '_, Typed>) {
         ServerPacket::TextRow(row) => text_row(out, row),
         ServerPacket::BinaryRow(row) => binary_row(out, row),
         ServerPacket::PrepareOk(packet) => statement(out, &packet),
-        ServerPacket::Statistics(text) | ServerPacket::Clone(text) => length(out, text.as_bytes()),
+        ServerPacket::UntypedRow(bytes)
+        | ServerPacket::Statistics(bytes)
+        | ServerPacket::Clone(bytes) => length(out, bytes.as_bytes()),
         ServerPacket::BinlogEvent(event) => length(out, event.event()),
     }
 }
@@ -280,19 +282,19 @@ impl Watched {
 }
 
 impl Tracker for Watched {
-    fn next(&mut self, from: Side, payload: &[u8]) -> Result<(Kind, u64), Refusal> {
+    fn next(&mut self, from: Side, payload: &[u8]) -> Result<(PacketKind, u64), SessionError> {
         self.session.next(from, payload)
     }
 
-    fn expects(&self, from: Side, name: KindName) -> bool {
-        self.session.expects(from, name)
+    fn may_receive(&self, from: Side, name: PacketKindTag) -> bool {
+        self.session.may_receive(from, name)
     }
 
-    fn decipher(&mut self) {
-        self.session.decipher()
+    fn tls_established(&mut self) {
+        self.session.tls_established()
     }
 
-    fn see(&mut self, out: &mut Out, from: Side, kind: Kind, payload: &[u8]) {
+    fn see(&mut self, out: &mut Out, from: Side, kind: PacketKind, payload: &[u8]) {
         let agreed = self.session.agreed();
         let mut buf = ParseBuf::new(self.alloc, payload);
         if let Side::Client = from {
@@ -316,7 +318,7 @@ impl Tracker for Watched {
         let context = ReadContext {
             agreed,
             column_count: self.count,
-            columns: self.columns.as_slice(),
+            columns: Some(self.columns.as_slice()),
             semi_sync: false,
         };
         let (is_read, shape) = match read_server_packet(&context, kind, &mut buf) {

@@ -1,12 +1,13 @@
 //! Prepared statements of a connection that is watched.
 //!
-//! `statements STATEMENTS TYPES EARLY MYSQL MARIADB WORD ..`: so many are kept, with so many types, and so many commands wait that come early,
+//! `statements STATEMENTS TYPES EARLY MYSQL MARIADB WORD ..`: this many are kept, with a given number of types, and a given number of commands wait that come early,
 //! in a connection that is taken up between two commands under these capabilities. A word is `>` or `<` with the bytes of a payload of the
-//! client or the server; `?` and a number asks what is known of that statement, and `clear` forgets all. Of an execution its parameters are read, and of each binary row its values.
+//! client or the server; `?` and a number asks what is known of that statement, `columns` asks for the types of the columns of the last result, each with `u` if it is unsigned, and
+//! `clear` forgets all. Of an execution its parameters are read, and of each binary row its values.
 
 use crate::conversation::{agreed_by, piece_of};
 use mysql_packets::constants::CapabilityFlags;
-use mysql_packets::conversation::{Format, Kind, Opening, Pipeline};
+use mysql_packets::conversation::{InitialPhase, PacketKind, Pipeline, RowFormat};
 use mysql_packets::io::{FaultOf, ParseBuf};
 use mysql_packets::packets::{
     ComStmtExecuteHead, ComStmtExecuteOptionsBuilder, ExecuteParam, ExecuteParamsView,
@@ -14,7 +15,7 @@ use mysql_packets::packets::{
 };
 use mysql_packets::row::BinaryRowView;
 use mysql_packets::statements::{
-    EarlyCommands, EarlyLimits, Statement, StatementLimits, Statements,
+    PipelinedCommands, PipelinedLimits, ResultColumns, Statement, StatementLimits, Statements,
 };
 use mysql_packets::value::{ServerSide, ValueRef};
 use std::alloc::AllocError;
@@ -27,7 +28,8 @@ struct Watcher {
     agreed: SessionCapabilities,
     pipeline: Pipeline,
     statements: Statements,
-    early: EarlyCommands,
+    early: PipelinedCommands,
+    result: ResultColumns,
 }
 
 /// Adds a value.
@@ -209,8 +211,8 @@ fn show_fault(out: &mut Out, read: Result<(), FaultOf<'_>>) {
 }
 
 /// Takes a packet in its turn, and adds what is read of it.
-fn take(out: &mut Out, watcher: &mut Watcher, kind: Kind, payload: &[u8]) {
-    if let Kind::Command(0x17) = kind {
+fn take(out: &mut Out, watcher: &mut Watcher, kind: PacketKind, payload: &[u8]) {
+    if let PacketKind::Command(0x17) = kind {
         let id = match payload {
             [_, a, b, c, d, ..] => u32::from_le_bytes([*a, *b, *c, *d]),
             _ => 0,
@@ -225,7 +227,9 @@ fn take(out: &mut Out, watcher: &mut Watcher, kind: Kind, payload: &[u8]) {
     }
     let taken = counted!(out.alloc(); watcher.statements.take(watcher.agreed, kind, payload));
     show_taken(out, taken);
-    if let Kind::Row(Format::Binary) = kind {
+    let taken = counted!(out.alloc(); watcher.result.take(watcher.agreed, kind, payload));
+    show_taken(out, taken);
+    if let PacketKind::Row(RowFormat::Binary) = kind {
         let read = show_row(out, &watcher.statements, payload);
         show_fault(out, read);
     }
@@ -238,7 +242,7 @@ fn serve(out: &mut Out, watcher: &mut Watcher, number: u64) {
             return;
         };
         let code = command.payload().first().copied().unwrap_or(0);
-        take(out, watcher, Kind::Command(code), command.payload());
+        take(out, watcher, PacketKind::Command(code), command.payload());
     }
 }
 
@@ -253,10 +257,29 @@ fn hold(out: &mut Out, watcher: &mut Watcher, number: u64, payload: &[u8]) {
     }
 }
 
-/// Adds what a word asks of the table: `?` and a statement's number, what is known of it; `clear`, nothing is known any more.
-fn show_known(out: &mut Out, statements: &mut Statements, word: &str) -> bool {
+/// Adds the columns of the last result.
+fn show_columns(out: &mut Out, known: &ResultColumns) {
+    let Some(columns) = known.columns() else {
+        return out.word("columns=unknown");
+    };
+    out.word("columns=");
+    for column in columns {
+        out.display(&(column.column_type as u8));
+        out.push(if column.is_unsigned { "u," } else { "," });
+    }
+}
+
+/// Adds what a word asks: `?` and a statement's number, what is known of it; `columns`, those of the last result; `clear`, nothing is known any
+/// more.
+fn show_known(out: &mut Out, watcher: &mut Watcher, word: &str) -> bool {
+    let statements = &mut watcher.statements;
     if word == "clear" {
         statements.clear();
+        watcher.result.forget();
+        return true;
+    }
+    if word == "columns" {
+        show_columns(out, &watcher.result);
         return true;
     }
     let Some(number) = word.strip_prefix('?') else {
@@ -279,7 +302,7 @@ pub fn statements(out: &mut Out, request: &Request<'_>) {
     let early = request.number(3) as usize;
     let mut watcher = Watcher {
         agreed,
-        pipeline: Pipeline::new(request.alloc, agreed, Opening::Commands, early),
+        pipeline: Pipeline::new(request.alloc, agreed, InitialPhase::Commands, early),
         statements: Statements::new(
             request.alloc,
             StatementLimits {
@@ -287,16 +310,17 @@ pub fn statements(out: &mut Out, request: &Request<'_>) {
                 types: request.number(2) as usize,
             },
         ),
-        early: EarlyCommands::new(
+        early: PipelinedCommands::new(
             request.alloc,
-            EarlyLimits {
+            PipelinedLimits {
                 commands: early,
                 bytes: 4096,
             },
         ),
+        result: ResultColumns::new(request.alloc, request.number(2) as usize),
     };
     for word in request.line.split(' ').skip(6) {
-        if show_known(out, &mut watcher.statements, word) {
+        if show_known(out, &mut watcher, word) {
             continue;
         }
         let Some((side, payload)) = piece_of(request.alloc, word) else {
@@ -305,7 +329,7 @@ pub fn statements(out: &mut Out, request: &Request<'_>) {
         let Ok((kind, number)) = watcher.pipeline.next(side, payload.as_slice()) else {
             return out.word("refused");
         };
-        if matches!(kind, Kind::Command(_)) && watcher.pipeline.waiting() > 0 {
+        if matches!(kind, PacketKind::Command(_)) && watcher.pipeline.waiting() > 0 {
             hold(out, &mut watcher, number, payload.as_slice());
             continue;
         }

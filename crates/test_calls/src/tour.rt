@@ -1,8 +1,9 @@
 //! The tour of the README, as a request: `tour`.
 
 use mysql_packets::constants::CapabilityFlags;
-use mysql_packets::conversation::{Refusal, Session, Side};
-use mysql_packets::frames::{FrameError, FrameReader};
+use mysql_packets::conversation::{Session, Side};
+use mysql_packets::error::Error;
+use mysql_packets::frames::FrameReader;
 use mysql_packets::io::ParseBuf;
 use mysql_packets::packets::{
     ComStmtBulkExecuteRequestBuilder, CommonOkPacket, OkPacket, OkPacketDeserializer, StmtPacket,
@@ -11,10 +12,10 @@ use mysql_packets::proto::MySerialize;
 use mysql_packets::row::TextRowView;
 use mysql_packets::value::{Value, ValueRef};
 use std::alloc::Global;
-use test_probe::prelude::{Fault, Out};
+use test_probe::prelude::Out;
 
 /// A statement is read and written.
-fn statement(out: &mut Out, alloc: Global, payload: &[u8]) -> Result<(), Fault> {
+fn statement(out: &mut Out, alloc: Global, payload: &[u8]) -> Result<(), Error> {
     let shown = out;
     let out = &mut Vec::new(alloc);
     let mut buf = ParseBuf::new(alloc, payload);
@@ -27,7 +28,7 @@ fn statement(out: &mut Out, alloc: Global, payload: &[u8]) -> Result<(), Fault> 
 }
 
 /// An OK packet has changes.
-fn changes(out: &mut Out, alloc: Global, payload: &[u8]) -> Result<(), Fault> {
+fn changes(out: &mut Out, alloc: Global, payload: &[u8]) -> Result<(), Error> {
     let mut buf = ParseBuf::new(alloc, payload);
     let flags = CapabilityFlags::CLIENT_SESSION_TRACK;
     let ok: OkPacketDeserializer<'_, CommonOkPacket> = buf.parse(flags)?;
@@ -38,7 +39,7 @@ fn changes(out: &mut Out, alloc: Global, payload: &[u8]) -> Result<(), Fault> {
 }
 
 /// The first value of a text row of two columns is NULL, or is not.
-fn first_value(out: &mut Out, alloc: Global, payload: &[u8]) -> Result<(), Fault> {
+fn first_value(out: &mut Out, alloc: Global, payload: &[u8]) -> Result<(), Error> {
     let mut row = TextRowView::new(2, ParseBuf::new(alloc, payload));
     let first = row.next_value()?; // NULL, or bytes where they lie in the packet: no memory is taken
     out.show("first_is_null", first == Some(ValueRef::NULL));
@@ -46,7 +47,7 @@ fn first_value(out: &mut Out, alloc: Global, payload: &[u8]) -> Result<(), Fault
 }
 
 /// Rows of one number are cut into requests.
-fn requests(out: &mut Out, alloc: Global) -> Result<(), Fault> {
+fn requests(out: &mut Out, alloc: Global) -> Result<(), Error> {
     let mut rows = Vec::new(alloc);
     for number in 1..6 {
         rows.push(vec![in alloc; Value::Int(number)]?)?;
@@ -60,21 +61,19 @@ fn requests(out: &mut Out, alloc: Global) -> Result<(), Fault> {
 }
 
 /// The first payload of a server's stream, where it is whole.
-fn stream(out: &mut Out, alloc: Global, piece: &[u8]) -> Result<(), FrameError> {
+fn stream(out: &mut Out, alloc: Global, piece: &[u8]) -> Result<(), Error> {
     let mut input = piece;
     let mut frames = FrameReader::new(alloc, 1 << 24);
     if let Some(payload) = frames.read(&mut input)? {
         // the next payload of a stream, whose bytes come in any pieces
-        if session(out, alloc, payload.as_slice()).is_err() {
-            out.word("unexpected");
-        }
-        frames.give_back(payload);
+        session(out, alloc, payload.as_slice())?;
+        frames.recycle(payload);
     }
     Ok(())
 }
 
 /// Which packet it is.
-fn session(out: &mut Out, alloc: Global, payload: &[u8]) -> Result<(), Refusal> {
+fn session(out: &mut Out, alloc: Global, payload: &[u8]) -> Result<(), Error> {
     let mut session = Session::new(alloc, 16); // up to 16 commands may come before the answers to earlier ones
     let (kind, exchange) = session.next(Side::Server, payload)?; // which packet it is, or that none such comes here
     out.text("kind", &format_args!("{kind:?}"));
@@ -82,7 +81,7 @@ fn session(out: &mut Out, alloc: Global, payload: &[u8]) -> Result<(), Refusal> 
     Ok(())
 }
 
-fn calls(out: &mut Out, alloc: Global) -> Result<(), Fault> {
+fn calls(out: &mut Out, alloc: Global) -> Result<(), Error> {
     statement(out, alloc, &[0, 1, 0, 0, 0, 1, 0, 2, 0, 0, 0, 0])?;
     changes(
         out,
@@ -92,19 +91,16 @@ fn calls(out: &mut Out, alloc: Global) -> Result<(), Fault> {
     first_value(out, alloc, b"\xfb\x011")?;
     first_value(out, alloc, b"\x011\xfb")?;
     requests(out, alloc)?;
-    if let Err(error) = stream(
+    stream(
         out,
         alloc,
         b"\x17\x00\x00\x00\xff\x10\x04Too many connections",
-    ) {
-        out.error(&error);
-    }
-    Ok(())
+    )
 }
 
 /// Makes the calls, and adds what they give.
 pub fn tour(out: &mut Out, alloc: Global) {
-    if let Err(fault) = calls(out, alloc) {
-        out.error(&fault);
+    if let Err(error) = calls(out, alloc) {
+        out.error(&error);
     }
 }

@@ -6,7 +6,7 @@
 
 use std::alloc::Global;
 
-/// A line begins of which growth 0 (none), 1, .. is to be refused: this size, and so many bytes more.
+/// A line begins of which growth 0 (none), 1, .. is to be refused: this size, and a given number of bytes more.
 const LINE: usize = 0x5e000;
 
 const START: usize = 0x5fff1;

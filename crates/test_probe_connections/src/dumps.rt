@@ -163,7 +163,7 @@ fn show_again(out: &mut Out, dump: &ComBinlogDumpGtid<'_>, written: &[u8]) {
     out.same("strict", Ok(strict.is_ok_and(|again| again == *dump)))
 }
 
-/// A dump of so many sids of which the i-th has i intervals, and each second one that tag: its bytes are too many for a line.
+/// A dump of a given number of sids of which the i-th has i intervals, and each second one that tag: its bytes are too many for a line.
 pub fn of_count(out: &mut Out, request: &Request<'_>) -> Result {
     let alloc = out.alloc();
     let sids = numbered_sids(alloc, words::number(request.word(1)), request.word(2))?;
@@ -184,7 +184,7 @@ pub fn of_set(out: &mut Out, request: &Request<'_>) {
     let dump = ComBinlogDumpGtid::new(77).with_pos(4);
     let answer = counted!(request.alloc; dump.with_gtid_set(request.alloc, text_of(request)));
     if let Some(dump) = out.accepted("made", answer) {
-        fields!(out, dump; flags, as_servers = is_as_servers_write);
+        fields!(out, dump; flags, as_servers = is_canonical);
         write_made(out, &dump)
     }
 }

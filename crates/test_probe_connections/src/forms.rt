@@ -173,7 +173,7 @@ fn show_items<T: Item>(out: &mut Out, items: &[T]) {
     }
 }
 
-/// A block of so many bytes, which is no record: it is its bytes.
+/// A block of a given number of bytes, which is no record: it is its bytes.
 fn block(out: &mut Out, request: &Request<'_>) {
     let count = words::count(request);
     if let Some((block, left)) = parse::<ParseBuf<'_>>(out, request.bytes.as_slice(), count) {

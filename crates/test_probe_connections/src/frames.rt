@@ -1,8 +1,8 @@
 //! Frames.
 //!
-//! `frames LIMIT NUMBER PIECE BYTES`: a stream that comes in pieces of so many bytes, or whole where that is 0. In place of NUMBER `sent`:
+//! `frames LIMIT NUMBER PIECE BYTES`: a stream that comes in pieces of a given number of bytes, or whole where that is 0. In place of NUMBER `sent`:
 //! each payload begins with the number that it was sent with. `write_frames NUMBER BYTES`.
-//! `long_frames LENGTH NUMBER PIECE`: a payload of so many bytes, written, and read again in such pieces. `sequence_id BYTES`.
+//! `long_frames LENGTH NUMBER PIECE`: a payload of a given number of bytes, written, and read again in such pieces. `sequence_id BYTES`.
 //! `next_frame BYTES`: the frames, one by one.
 
 ghost use Rattle.std.specs.Prelude.{◌≤◌};
@@ -24,7 +24,7 @@ fn reader_at(request: &Request<'_>, limit: usize, place: usize) -> FrameReader {
     reader
 }
 
-/// The size of pieces, where a stream of so many bytes comes whole if the word is 0.
+/// The size of pieces, where a stream of `len` bytes comes whole if the word is 0.
 fn piece_size(request: &Request<'_>, len: usize) -> usize
     ensures { 1 ≤ result }
 {
@@ -39,12 +39,12 @@ fn take(out: &mut Out, reader: &mut FrameReader, as_sent: bool, piece: &[u8]) ->
     let mut input = piece;
     for _ in 0..=piece.len() {
         if as_sent {
-            reader.expect_as_sent(input);
+            reader.resync_sequence(input);
         }
         match counted!(out.alloc(); reader.read(&mut input)) {
             Ok(Some(payload)) => {
                 out.show("payload", payload.as_slice());
-                reader.give_back(payload)
+                reader.recycle(payload)
             }
             Ok(None) => return true,
             Err(FrameError::Memory) => out.field("payload", "Memory"),
@@ -109,7 +109,7 @@ pub fn long(out: &mut Out, request: &Request<'_>) -> Result {
         let mut input = piece;
         if let Ok(Some(found)) = reader.read(&mut input) {
             out.show("again", found.as_slice() == payload.as_slice());
-            reader.give_back(found);
+            reader.recycle(found);
         }
     }
     out.show("number", reader.number());

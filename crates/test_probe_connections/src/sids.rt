@@ -8,7 +8,7 @@ use mysql_repl::laws::{this_sid_round_trips, this_sid_text_round_trips};
 use std::borrow::CowStr;
 use std::str;
 
-/// Adds a sid, but for its text.
+/// Adds a sid, except for its text.
 pub fn show_sid(sid: &Sid<'_>, out: &mut Out) {
     out.show("uuid", sid.uuid());
     out.show("tag", sid.tag().map(|tag| tag.as_str()));
@@ -215,7 +215,7 @@ pub fn of_set(out: &mut Out, request: &Request<'_>) {
     if let Some(sids) = out.accepted("read", answer) {
         for sid in &sids {
             out.text("sid", sid);
-            out.show("as_servers", sid.is_as_servers_write());
+            out.show("as_servers", sid.is_canonical());
         }
         show_set(out, sids.as_slice())
     }
@@ -259,10 +259,10 @@ pub fn merge(out: &mut Out, request: &Request<'_>) -> Result {
     let alloc = request.alloc;
     let sid = with_intervals(alloc, Sid::new([0x11; 16]), request.word(2))?;
     let sid = with_tag(sid, request.word(1));
-    match counted!(alloc; sid.with_merged_intervals(alloc)) {
+    match counted!(alloc; sid.normalized(alloc)) {
         Ok(sid) => {
             out.text("merged", &sid);
-            out.show("as_servers", sid.is_as_servers_write());
+            out.show("as_servers", sid.is_canonical());
         }
         Err(AllocError) => out.error(&"Memory"),
     }

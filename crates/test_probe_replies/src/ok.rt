@@ -64,7 +64,7 @@ fn show_changes(infos: &[SessionStateInfo<'_>], sent: &mut SessionStateChanges<'
     for info in infos {
         show_info(info, out);
         let next = counted!(out.alloc(); value sent.next());
-        same_change(next.as_ref(), &info.decode_as_sent(out.alloc()), out);
+        same_change(next.as_ref(), &info.decode_wire(out.alloc()), out);
     }
 }
 

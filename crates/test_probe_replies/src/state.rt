@@ -22,7 +22,7 @@ pub fn show_info(info: &SessionStateInfo<'_>, out: &mut Out) {
 
 /// Adds the change as it is sent, where it is another.
 fn show_as_sent(info: &SessionStateInfo<'_>, change: &Decoded<'_>, out: &mut Out) {
-    let sent = counted!(out.alloc(); info.decode_as_sent(out.alloc()));
+    let sent = counted!(out.alloc(); info.decode_wire(out.alloc()));
     if sent != *change {
         show_decoded("sent", &sent, out);
     }
@@ -51,11 +51,11 @@ impl<'a> InPlace<SessionStateInfo<'a>, SessionStateInfoRef<'a>> for Server {
     fn is(place: &SessionStateInfoRef<'a>, owned: &SessionStateInfo<'a>, out: &mut Out) -> bool {
         let alloc = out.alloc();
         let decoded = counted!(alloc; value place.decode());
-        let sent = counted!(alloc; value place.decode_as_sent());
+        let sent = counted!(alloc; value place.decode_wire());
         place.data_type() == owned.data_type()
             && place.data_bytes() == owned.data_ref()
             && is_same_change(decoded, &owned.decode(alloc), out)
-            && is_same_change(sent, &owned.decode_as_sent(alloc), out)
+            && is_same_change(sent, &owned.decode_wire(alloc), out)
             && place.to_info() == *owned
     }
 }

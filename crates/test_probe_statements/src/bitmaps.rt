@@ -1,6 +1,6 @@
 //! Bitmaps of NULLs.
 //!
-//! `bitmap SIDE COUNT BYTES` reads one of so many values, and shows which of its first 64 places are NULL.
+//! `bitmap SIDE COUNT BYTES` reads one of a given number of values, and shows which of its first 64 places are NULL.
 //!
 //! `bits SIDE MAKING CALL ..` makes one, by `new:COUNT`, `from:BYTES` (which it borrows) or `read:COUNT:BYTES` (which
 //! it copies), and calls `set:PLACE`, `clear:PLACE`, `is:PLACE`, `len:COUNT` (`bitmap_len`). The sides are `client` and

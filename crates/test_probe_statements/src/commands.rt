@@ -1,6 +1,6 @@
 //! Commands: `command CAPABILITIES BYTES`, by the first byte; and one by one `com_query CAPABILITIES BYTES`, `com_field_list BYTES`,
 //! `com_set_option BYTES`, `com_reset BYTES`, `com_fetch BYTES`, `com_execute_ref BYTES`, `com_bulk_ref BYTES`, `com_unknown BYTES`, and
-//! `to_end BYTES`. `new_query TEXT` is a query that is made, `set_option on` and `set_option off` the choice of an option.
+//! `to_end BYTES`. `query_attributes BYTES` are the attributes of a query up to the first that is malformed. `new_query TEXT` is a query that is made, `set_option on` and `set_option off` the choice of an option.
 //!
 //! `debug_command CAPABILITIES BYTES` is a command as a person looks at it.
 //!
@@ -158,7 +158,7 @@ impl Shows<ComStmtSendLongDataRef<'_>> for Statements {
 }
 
 /// A command that keeps its bytes is all of what it was read of.
-fn show_sent<T>(out: &mut Out, it: &AsSent<'_, T>, name: &str)
+fn show_sent<T>(out: &mut Out, it: &WithRawBytes<'_, T>, name: &str)
 where
     Statements: Shows<T>,
 {
@@ -244,6 +244,24 @@ pub fn query(out: &mut Out, request: &Request<'_>) {
     if let Some(it) = read::<Statements, ComQueryRef<'_>>(out, bytes, request.capabilities()) {
         let _ = write(out, &it, bytes);
     }
+}
+
+/// The attributes of a query up to the first that is malformed, and the bytes from it on.
+pub fn query_attributes(out: &mut Out, request: &Request<'_>) {
+    let read: Result<QueryAttributesView<'_>, FaultOf<'_>> =
+        counted!(out.alloc(); read_query_attributes(ParseBuf::new(out.alloc(), request.bytes.as_slice())));
+    let Ok(mut view) = read else {
+        return out.word("refused");
+    };
+    out.show("attributes", view.left());
+    for _ in 0..view.left() {
+        match view.next_attribute() {
+            Ok(Some(attribute)) => show_attribute(out, &attribute),
+            Ok(None) | Err(_) => break,
+        }
+    }
+    out.show("left", view.left());
+    out.show("unread", view.rest().eat_all());
 }
 
 pub fn new_query(out: &mut Out, request: &Request<'_>) {

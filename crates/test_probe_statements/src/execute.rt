@@ -1,6 +1,6 @@
 //! Executions that are made.
 //!
-//! `execute ID VALUES`, and `execute_many ID COUNT VALUE` of so many of one value, with its sizes alone.
+//! `execute ID VALUES`, and `execute_many ID COUNT VALUE` of this many of one value, with its sizes alone.
 //!
 //! `execute_with ID CURSOR ATTRIBUTES PARAMETERS`: with a cursor, or `-`; with attributes, `-` for none agreed to, `()`
 //! for none, else `NAME=VALUE` with `/` between them, names in hexadecimal; and with parameters, of which `ahead` is one
@@ -120,8 +120,11 @@ fn made_with<'a, 'v>(
 /// Adds why there is no execution.
 pub fn show_refused(out: &mut Out, error: &TypedExecutionError) {
     match error {
-        TypedExecutionError::UnspelledValue { place } => out.show("UnspelledValue", *place),
-        TypedExecutionError::UnspelledAttribute { place } => out.show("UnspelledAttribute", *place),
+        TypedExecutionError::TypeMismatch { place } => out.show("TypeMismatch", *place),
+        TypedExecutionError::AttributeTypeMismatch { place } => out.show(
+            "AttributeTypeMismatch",
+            *place,
+        ),
         TypedExecutionError::Memory => out.word("Memory"),
     }
     out.text("text", error);

@@ -60,7 +60,7 @@ fn of_commands(out: &mut Out, request: &Request<'_>) -> bool {
     answers!(Statements, out, request, request.word(0);
         with () => "com_reset": ComStmtReset, "com_fetch": ComStmtFetch, "com_set_option": ComSetOption, "com_field_list": ComFieldListRef<'_>,
             "com_execute_ref": ComStmtExecuteRef<'_>, "com_bulk_ref": ComStmtBulkExecuteRef<'_>, "com_unknown": UnknownCommand<'_>, "to_end": BytesRef<'_>,
-        call "command": commands::command, "debug_command": commands::debug, "com_query": commands::query, "new_query": commands::new_query, "make_query": commands::make_query, "set_option": commands::set_option,)
+        call "command": commands::command, "debug_command": commands::debug, "com_query": commands::query, "query_attributes": commands::query_attributes, "new_query": commands::new_query, "make_query": commands::make_query, "set_option": commands::set_option,)
 }
 
 impl Answers for Statements {

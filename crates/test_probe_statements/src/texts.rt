@@ -41,5 +41,5 @@ fn text_of_rows(out: &mut Out, name: &str) -> bool {
         BulkExecuteRequestError::RowTooLarge = BulkExecuteRequestError::RowTooLarge(Vec::new(alloc)),
         BulkExecuteRequestError::MemoryRow = BulkExecuteRequestError::MemoryRow(Vec::new(alloc)),
         BulkColumnTypeError = BulkColumnTypeError { place: 0 },
-        BulkRowRefusal::MixedArity, BulkRowRefusal::TooLarge, BulkRowRefusal::MixedTypes, BulkRowRefusal::Memory,)
+        BulkRowError::MixedArity, BulkRowError::TooLarge, BulkRowError::MixedTypes, BulkRowError::Memory,)
 }

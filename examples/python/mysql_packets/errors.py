@@ -5,7 +5,7 @@ from typing import Dict, Optional, Type
 class PacketError(Exception):
     """A call answered another code than MYP_OK. Nothing is changed by it."""
 
-    text = "a code of no name"
+    text = "unknown code"
 
     def __init__(self, call: str, code: int, written: int = 0):
         super().__init__(f"{call}: {self.text}")
@@ -13,19 +13,19 @@ class PacketError(Exception):
 
 
 class UnexpectedEof(PacketError):
-    text = "bytes are missing"
+    text = "the packet is truncated"
 
 
 class InvalidData(PacketError):
-    text = "the bytes spell no such packet"
+    text = "the bytes are not a valid packet of this type"
 
 
 class InvalidInput(PacketError):
-    text = "what was passed fits no packet"
+    text = "an argument fits no packet"
 
 
-class NoMemory(PacketError):
-    text = "no memory holds so many bytes"
+class TooLarge(PacketError):
+    text = "the total length overflows size_t"
 
 
 class BufferTooSmall(PacketError):
@@ -36,6 +36,14 @@ class BufferTooSmall(PacketError):
 
 class RowTooLarge(PacketError):
     text = "a row is too large for a request"
+
+
+class OutOfRange(PacketError):
+    text = "the number is out of range"
+
+
+class Compressed(PacketError):
+    text = "both sides agreed on compression"
 
 
 class InvalidValue(ValueError):
@@ -49,10 +57,12 @@ class InvalidValue(ValueError):
 
 
 NAMES: Dict[str, Type[PacketError]] = {
-    "MYP_UNEXPECTED_EOF": UnexpectedEof,
-    "MYP_INVALID_DATA": InvalidData,
-    "MYP_INVALID_INPUT": InvalidInput,
-    "MYP_NO_MEMORY": NoMemory,
-    "MYP_BUFFER_TOO_SMALL": BufferTooSmall,
-    "MYP_ROW_TOO_LARGE": RowTooLarge,
+    "MYP_ERROR_UNEXPECTED_EOF": UnexpectedEof,
+    "MYP_ERROR_INVALID_DATA": InvalidData,
+    "MYP_ERROR_INVALID_INPUT": InvalidInput,
+    "MYP_ERROR_TOO_LARGE": TooLarge,
+    "MYP_ERROR_BUFFER_TOO_SMALL": BufferTooSmall,
+    "MYP_ERROR_ROW_TOO_LARGE": RowTooLarge,
+    "MYP_ERROR_OUT_OF_RANGE": OutOfRange,
+    "MYP_ERROR_COMPRESSED": Compressed,
 }

@@ -23,14 +23,14 @@ Content = bytes  # (a method of Library has that name)
 Location = Union[str, "os.PathLike[str]"]
 NUMBERS: Dict[str, Any] = {
     "uint8_t": ctypes.c_uint8, "uint16_t": ctypes.c_uint16, "uint32_t": ctypes.c_uint32, "uint64_t": ctypes.c_uint64,
-    "size_t": ctypes.c_size_t,
+    "size_t": ctypes.c_size_t, "int64_t": ctypes.c_int64, "double": ctypes.c_double,
 }
 # a comment, a struct, an enum, a call
 COMMENT = re.compile(r"/\*.*?\*/", re.S)
 STRUCT = re.compile(r"typedef struct (\w+) \{(.*?)\} \1;", re.S)
 ENUM = re.compile(r"enum \w+ \{(.*?)\};", re.S)
 MACRO = re.compile(r"^#define (MYP_\w+) (0x[0-9a-f]+)u$", re.M)
-CALL = re.compile(r"^uint32_t (myp_\w+)\(([^)]*)\);", re.M)
+CALL = re.compile(r"^(?:MYP_MUST_CHECK )?uint32_t (myp_\w+)\(([^)]*)\);", re.M)
 DECLARED = re.compile(r"(?:const )?(\w+) (\**)(\w+)(?:\[(\d+)\])?$")
 
 
@@ -143,6 +143,10 @@ class Library:
             raise TypeError(f"{name} has no {', '.join(fields)}")
         return it
 
+    def refer(self, it: Any) -> Any:
+        """What is passed for an output parameter."""
+        return ctypes.byref(it)
+
     def array(self, kind: Any, items: Sequence[Any]) -> Any:
         kind = self.types.get(kind, kind)
         it = (kind * max(len(items), 1))(*items)
@@ -193,6 +197,13 @@ class Library:
         it.held = packed
         return it
 
+    def parameters(self, values: Sequence[Sent]) -> Any:
+        """Converted values as an array of `myp_parameter`, each of the type of its kind."""
+        packed = self.packed(values)
+        it = self.array("myp_parameter", [self.types["myp_parameter"](value=value) for value in packed[: len(values)]])
+        it.held_values = packed
+        return it
+
     def value(self, value: Value) -> Any:
         """A value as a `myp_value`. InvalidValue if it can't be sent."""
         return self.packed(self.converted([value]))[0]
@@ -217,7 +228,7 @@ class Library:
         while True:
             out, written = (ctypes.c_uint8 * size)(), ctypes.c_size_t()
             code = getattr(self.dll, call)(*flat, out, size, ctypes.byref(written), *(ctypes.byref(it) for it in after))
-            if code != self.MYP_BUFFER_TOO_SMALL:
+            if code != self.MYP_ERROR_BUFFER_TOO_SMALL:
                 break
             size = written.value
         if code:

@@ -26,7 +26,7 @@ class Handshake(NamedTuple):
 
 
 class Change(NamedTuple):
-    """A change of the session, of a number of enum myp_session_state: its content, and the variables of one that has some."""
+    """A change of the session, of a number of enum myp_session_track: its content, and the variables of one that has some."""
 
     kind: int
     content: bytes
@@ -78,3 +78,46 @@ class ServerError(Exception):
     def __init__(self, code: int, state: Optional[str], message: str):
         super().__init__(f"{code} ({state}): {message}" if state else f"{code}: {message}")
         self.code, self.state, self.message = code, state, message
+
+
+class Login(NamedTuple):
+    """A client's login. What it leaves out is empty."""
+
+    user: str
+    database: str
+    auth_plugin: str
+    capabilities: int
+    mariadb_capabilities: int
+    collation: int
+    attributes: Tuple[Tuple[str, str], ...]
+
+
+class Command(NamedTuple):
+    """A command, by a number of enum myp_com: its text, and the number of a statement or a session."""
+
+    code: int
+    text: str
+    number: int
+
+
+class Execution(NamedTuple):
+    """An execution: the values of its parameters, None if the statement or its types are unknown, and its attributes. A parameter whose data
+    was sent ahead is None."""
+
+    statement_id: int
+    values: Optional[Row]
+    attributes: Tuple[Tuple[str, Value], ...]
+
+
+# what a packet says: a row is a tuple, the number of columns an int, the name of a file a text
+Record = Union[None, int, str, Row, Handshake, Login, Command, Execution, OkPacket, ServerError, Column, Statement]
+
+
+class Packet(NamedTuple):
+    """A packet of an observed connection. `kind` is a name of enum myp_packet_kind in lower case, without its front; the record is None for a
+    kind without one, and where the bytes are no such packet."""
+
+    side: str
+    kind: str
+    payload: bytes
+    record: Record

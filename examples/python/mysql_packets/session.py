@@ -4,7 +4,8 @@ from typing import Any, Iterable, Iterator, List, Optional, Sequence, Tuple
 
 from .errors import InvalidData
 from .library import Library
-from .records import Change, Column, Handshake, OkPacket, Row, ServerError, Statement, Value
+from .observe import Observer
+from .records import Change, Column, Handshake, OkPacket, Packet, Row, ServerError, Statement, Value
 from .rows import BulkRows, RowReader
 
 # the most bytes of a payload that are asked for at once
@@ -17,12 +18,21 @@ class Session:
     def __init__(self, library: Optional[Library] = None):
         self.library = library or Library()
         self.capabilities = self.mariadb_capabilities = 0
+        self._observer: Optional[Observer] = None
 
     def _text(self, span: Any) -> str:
         return self.library.text(span).decode("utf-8", "surrogateescape")
 
     def _flags(self, prefix: str, names: Sequence[str]) -> int:
         return sum(getattr(self.library, prefix + name) for name in names)
+
+    # ---- a connection that is observed
+
+    def observe(self, side: str, data: bytes) -> Iterator[Packet]:
+        """The packets that end in these bytes of a side, "client" or "server", from the server's greeting on; a command comes after the answer
+        to the one before it. The capabilities are kept once the login comes. After a request for TLS the bytes are those that were encrypted."""
+        self._observer = self._observer or Observer(self)
+        return self._observer.take(side, data)
 
     # ---- headers
 
@@ -60,22 +70,29 @@ class Session:
         self.capabilities = greeting.capabilities & capabilities
         self.mariadb_capabilities = greeting.mariadb_capabilities & mariadb_capabilities
 
-    def write_login(self, greeting: Handshake, user: str, password: str = "", database: str = "", collation: int = 45) -> bytes:
-        """The answer to a greeting, by mysql_native_password."""
+    def auth_response(self, plugin: str, password: str, nonce: bytes) -> bytes:
+        """The response to a nonce of 20 bytes: of mysql_native_password, or of caching_sha2_password, whose server may then ask for more
+        (the header explains it at myp_scramble_sha2)."""
+        calls = {"mysql_native_password": "myp_scramble_native", "caching_sha2_password": "myp_scramble_sha2"}
+        return self.library.write(calls[plugin], password.encode(), nonce) if password else b""
+
+    def write_login(self, greeting: Handshake, user: str, password: str = "", database: str = "", collation: int = 45,
+                    plugin: str = "mysql_native_password") -> bytes:
+        """The login that answers a greeting, by a plugin of `auth_response`."""
         p = self.library
         if database:
             self.capabilities |= greeting.capabilities & p.MYP_CLIENT_CONNECT_WITH_DB
-        answer = p.write("myp_scramble_native", password.encode(), greeting.nonce) if password else b""
+        answer = self.auth_response(plugin, password, greeting.nonce)
         return p.write("myp_write_login", p.new(
             "myp_login", user=user.encode(), auth_response=answer, database=database.encode(), has_database=int(bool(database)),
-            auth_plugin_name=b"mysql_native_password", has_auth_plugin_name=1, capabilities=self.capabilities,
-            mariadb_capabilities=self.mariadb_capabilities, max_packet_size=LIMIT, collation=collation), p.array("myp_attribute", []))
+            auth_plugin_name=plugin.encode(), has_auth_plugin_name=1, capabilities=self.capabilities,
+            mariadb_capabilities=self.mariadb_capabilities, max_packet_size=LIMIT, collation=collation), p.array("myp_connection_attribute", []))
 
     # ---- replies
 
     def is_error(self, payload: bytes) -> bool:
-        kind: int = self.library.read("myp_reply_kind", payload, into="uint32_t").value
-        return kind == self.library.MYP_REPLY_ERROR
+        """Whether a payload that isn't a row is an error or a progress report: no other begins with ff."""
+        return payload[:1] == b"\xff"
 
     def read_error(self, payload: bytes) -> ServerError:
         it = self.library.read("myp_read_error", payload, self.capabilities, into="myp_error")
@@ -99,11 +116,11 @@ class Session:
 
     def read_column_count(self, payload: bytes) -> int:
         agreed = self.capabilities, self.mariadb_capabilities
-        count: int = self.library.read("myp_read_column_count_with_metadata", payload, *agreed, into="myp_column_count").count
+        count: int = self.library.read("myp_read_column_count", payload, *agreed, into="myp_column_count").count
         return count
 
     def read_column(self, payload: bytes) -> Column:
-        it = self.library.read("myp_read_extended_column", payload, self.mariadb_capabilities, into="myp_extended_column").column
+        it = self.library.read("myp_read_column", payload, self.mariadb_capabilities, into="myp_column")
         schema, table, org_table, name, org_name = (self._text(span) for span in (it.schema, it.table, it.org_table, it.name, it.org_name))
         return Column(schema, table, org_table, name, org_name, it.character_set, it.column_length, it.column_type, it.flags, it.decimals)
 
@@ -123,20 +140,21 @@ class Session:
 
     def write_query(self, sql: str) -> bytes:
         text = sql.encode()
-        return self.library.write("myp_write_query", text, self.capabilities, size=len(text) + 3)
+        return self.library.write("myp_write_query", text, self.library.array("myp_parameter", []), self.capabilities, size=len(text) + 3)
 
     def write_prepare(self, sql: str) -> bytes:
         return bytes([self.library.MYP_COM_STMT_PREPARE]) + sql.encode()
 
     def read_statement(self, payload: bytes) -> Statement:
-        it = self.library.read("myp_read_statement", payload, into="myp_statement")
+        it = self.library.read("myp_read_statement", payload, self.capabilities, into="myp_statement")
         return Statement(it.statement_id, it.num_columns, it.num_params, it.warning_count)
 
     def write_execution(self, statement: Statement, values: Sequence[Value]) -> List[bytes]:
         """The commands of an execution: one, after which the answer comes, and before it the long data that it is too large with."""
         p, long_data = self.library, ctypes.c_uint8()
         sent = p.converted(values)
-        request = p.write("myp_write_execution", statement.statement_id, p.packed(sent), after=[long_data])
+        options, none = p.new("myp_execution_options"), p.array("myp_parameter", [])
+        request = p.write("myp_write_execution", statement.statement_id, p.parameters(sent), none, options, self.capabilities, after=[long_data])
         ahead = [(place, it) for place, it in enumerate(sent) if long_data.value and isinstance(it, bytes)]
         return [*(self.write_long_data(statement, place, it) for place, it in ahead), request]
 

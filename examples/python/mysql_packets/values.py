@@ -172,7 +172,7 @@ class Structs:
     def __init__(self, numbers: Dict[str, int], struct_type: Any):
         if [name for name, _ in struct_type._fields_] != FIELDS or ctypes.sizeof(struct_type) != LAYOUT.size:
             raise ImportError("the header has another myp_value than this package")
-        self.kinds = {name: numbers[f"MYP_{name}"] for name in ("NULL", "BYTES", "INT", "UINT", "FLOAT", "DOUBLE", "DATE", "TIME", "DATE_WITH_OFFSET")}
+        self.kinds = {name: numbers[f"MYP_VALUE_{name}"] for name in ("NULL", "BYTES", "INT", "UINT", "FLOAT", "DOUBLE", "DATE", "TIME", "DATE_WITH_OFFSET")}
         self.null = self._packed("NULL")
         self.readers: Dict[int, Callable[..., Any]] = {
             self.kinds["NULL"]: lambda *it: None,

@@ -21,42 +21,42 @@ pub fn borrowed_handshakes_read_handshakes()
     ensures read { (bytes : List ℕ) → (⟦<crate::handshake_ref::HandshakePacketRef<'static> as MyDeserialize<'static>>⟧.form tt).reads bytes ≡ (handshake.form tt).reads bytes }
 {}
 
-/// So is a response to a handshake, with each key once among its attributes.
+/// A borrowed response to a handshake reads what the owned one reads, with each key once among its attributes.
 pub fn borrowed_handshake_responses_read_handshake_responses()
     ensures read { (bytes : List ℕ) → (map with_each_key_once (⟦<crate::handshake_response_ref::HandshakeResponseRef<'static> as MyDeserialize<'static>>⟧.form tt)).reads bytes ≡ (handshake_response.form tt).reads bytes }
 {}
 
-/// So is a change of user, with each key once among its attributes.
+/// A borrowed change of user reads what the owned one reads, with each key once among its attributes.
 pub fn borrowed_changes_of_user_read_changes_of_user()
     ensures read { (c : CapabilityFlags) (bytes : List ℕ) → (map change_with_each_key_once (⟦<crate::com_change_user_ref::ComChangeUserRef<'static> as MyDeserialize<'static>>⟧.form c)).reads bytes ≡ (change_user.form c).reads bytes }
 {}
 
-/// So is what a change of user tells besides, with each key once among its attributes.
+/// The borrowed fields after a change of user's database read what the owned ones read, with each key once.
 pub fn borrowed_more_data_reads_more_data()
     ensures read { (c : CapabilityFlags) (bytes : List ℕ) → (map more_with_each_key_once (⟦<crate::com_change_user_more_data_ref::ComChangeUserMoreDataRef<'static> as MyDeserialize<'static>>⟧.form c)).reads bytes ≡ (more_data.form c).reads bytes }
 {}
 
-/// So is a switch to another plugin.
+/// A borrowed switch to another plugin reads what the owned one reads.
 pub fn borrowed_auth_switch_requests_read_auth_switch_requests()
     ensures read { (bytes : List ℕ) → (⟦<crate::auth_switch_request::AuthSwitchRequestRef<'static> as MyDeserialize<'static>>⟧.form tt).reads bytes ≡ (auth_switch_request.form tt).reads bytes }
 {}
 
-/// So is a request for the next factor.
+/// A borrowed request for the next factor reads what the owned one reads.
 pub fn borrowed_auth_next_factors_read_auth_next_factors()
     ensures read { (bytes : List ℕ) → (⟦<crate::auth_next_factor::AuthNextFactorRef<'static> as MyDeserialize<'static>>⟧.form tt).reads bytes ≡ (auth_next_factor.form tt).reads bytes }
 {}
 
-/// So is further data of an authentication.
+/// Borrowed authentication data reads what the owned packet reads.
 pub fn borrowed_auth_more_data_reads_auth_more_data()
     ensures read { (bytes : List ℕ) → (⟦<crate::auth_more_data_ref::AuthMoreDataRef<'static> as MyDeserialize<'static>>⟧.form tt).reads bytes ≡ (auth_more_data.form tt).reads bytes }
 {}
 
-/// So is a public key.
+/// A borrowed public key reads what the owned packet reads.
 pub fn borrowed_public_keys_read_public_keys()
     ensures read { (bytes : List ℕ) → (⟦<crate::public_key_response_ref::PublicKeyResponseRef<'static> as MyDeserialize<'static>>⟧.form tt).reads bytes ≡ (public_key_response.form tt).reads bytes }
 {}
 
-/// So is an attribute of a connection.
+/// A borrowed connection attribute reads what the owned one reads.
 pub fn borrowed_connect_attributes_read_attributes()
     ensures read { (bytes : List ℕ) → (⟦<crate::connect_attribute_ref::ConnectAttributeRef<'static> as MyDeserialize<'static>>⟧.form tt).reads bytes ≡ (attribute.form tt).reads bytes }
 {}

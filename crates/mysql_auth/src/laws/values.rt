@@ -1,6 +1,6 @@
 //! Laws on a value at hand: what a caller can use of a packet that was made or read.
 //!
-//! Each function looks at its value's numbers and attributes, which shows that they are as they always are.
+//! Each function reads the numbers and attributes of its value, which shows that they fit their widths.
 #![tactic(auto, using(crate::proofs::WholePackets::whole_packets, crate::proofs::ValuesFit::values_fit))]
 
 ghost use Rattle.std.specs.Prelude.{◌≡◌, ◌++◌, ℕ, List, Some};
@@ -17,14 +17,14 @@ use crate::handshake_response::HandshakeResponse;
 use crate::ssl_request::SslRequest;
 use mysql_wire::CapabilityFlags;
 
-/// What is written of this request for TLS is read again, whatever follows.
+/// This request for TLS is read back, whatever bytes follow.
 pub fn this_ssl_request_round_trips(request: &SslRequest)
     ensures spelled { (rest : List ℕ) → (ssl_request.form tt).Spells request.now (ssl_request.bytes request.now ++ rest) rest }
 {
     request.widths();
 }
 
-/// What is written of this handshake is read again, where its parts fit.
+/// This handshake is read back, where its parts fit.
 pub fn this_handshake_round_trips(packet: &HandshakePacket<'_>)
     ensures spelled { (rest : List ℕ) → HandshakePartsFit packet.now rest → (handshake.form tt).Spells packet.now (handshake.bytes packet.now ++ rest) rest }
 {
@@ -37,7 +37,7 @@ pub fn this_handshake_round_trips(packet: &HandshakePacket<'_>)
     let _mariadb_ext_capabilities = packet.mariadb_ext_capabilities();
 }
 
-/// What is written of this response to a handshake is read again, where its parts fit before what follows.
+/// This response to a handshake is read back, where its parts fit before what follows.
 pub fn this_handshake_response_round_trips(response: &HandshakeResponse<'_>)
     ensures spelled { (rest : List ℕ) → ResponsePartsFit response.now rest → (handshake_response.form tt).Spells response.now (handshake_response.bytes response.now ++ rest) rest }
 {
@@ -45,15 +45,14 @@ pub fn this_handshake_response_round_trips(response: &HandshakeResponse<'_>)
     response.keys_stand_once();
 }
 
-/// Each key stands once among the attributes of more data.
+/// Each key occurs once among the attributes of more data.
 pub fn more_data_keys_stand_once(given: &ComChangeUserMoreData<'_>)
     ensures once { (pairs : List Attribute) → connect_attributes given.now ≡ Some pairs → merged pairs ≡ pairs }
 {
     given.keys_stand_once();
 }
 
-/// What is written of this more data is read again, under the flags that both sides know, where its parts fit. So is what a
-/// session writes.
+/// This more data is read back, under the flags that both sides know, where its parts fit. So is what a session writes.
 pub fn this_more_data_round_trips(capabilities: CapabilityFlags, given: &ComChangeUserMoreData<'_>)
     ensures spelled { (rest : List ℕ) → MoreDataPartsFit capabilities given.now → (more_data.form capabilities).Spells given.now (more_data.bytes given.now ++ rest) rest }
     ensures session { (rest : List ℕ) → SessionMoreDataPartsFit capabilities given.now → (more_data.form capabilities).Spells given.now ((session_more_data capabilities).bytes given.now ++ rest) rest }
@@ -62,8 +61,7 @@ pub fn this_more_data_round_trips(capabilities: CapabilityFlags, given: &ComChan
     given.keys_stand_once();
 }
 
-/// What is written of this change of user is read again, under the flags that both sides know, where its parts fit. So is
-/// what a session writes.
+/// This change of user is read back, under the flags that both sides know, where its parts fit. So is what a session writes.
 pub fn this_change_user_round_trips(capabilities: CapabilityFlags, change: &ComChangeUser<'_>)
     ensures spelled { (rest : List ℕ) → ChangeUserPartsFit capabilities change.now rest → (change_user.form capabilities).Spells change.now (change_user.bytes change.now ++ rest) rest }
     ensures session { (rest : List ℕ) → SessionChangeUserPartsFit capabilities change.now rest → (change_user.form capabilities).Spells change.now ((session_change_user capabilities).bytes change.now ++ rest) rest }

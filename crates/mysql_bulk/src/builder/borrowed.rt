@@ -1,4 +1,4 @@
-//! Rows of which a builder takes copies.
+//! Adding copies of borrowed rows.
 
 ghost use Rattle.std.specs.Prelude.{◌≡◌, ◌+◌, ◌≤◌, ◌↔◌, ◌++◌, ◌∷◌, [], length, map, IfSome, MatchOption, List, ℕ, sum_by};
 ghost use Rattle.std.specs.Bool.{OnTrue, OnFalse};
@@ -10,7 +10,7 @@ ghost use Rattle.mysql_bulk.specs.Row.{row_size, rows_packing};
 
 use super::ComStmtBulkExecuteRequestBuilder;
 use crate::column_types::join_types;
-use crate::error::BulkRowRefusal;
+use crate::error::BulkRowError;
 use crate::row::{append_copies, find_capacity};
 use crate::row_value::RowValue;
 use crate::size::request_len;
@@ -21,22 +21,22 @@ impl<'a> ComStmtBulkExecuteRequestBuilder<'a> {
     /// Offers copies of the values of a row, which stays with the caller: so one list of values can be filled and offered
     /// again and again. Of the memory that a row takes, the builder takes that of its byte strings alone.
     ///
-    /// Where the row fits with those that wait, its copy waits too, and the answer is `Ok(true)`; where it does not fit
-    /// with those that wait it is `Ok(false)`, and a request is built then. The refusals are those of `add_row`. Where no
-    /// copy waits, the builder stays as it was.
+    /// If the row fits with those that wait, its copy waits too, and the result is `Ok(true)`; if it doesn't, the result is
+    /// `Ok(false)`, and the caller builds a request. The errors are those of `add_row`. If no copy waits, the builder is
+    /// unchanged.
     // (inlined: a loop that offers rows of a known length is faster then)
     #[inline(always)]
-    pub fn add_row_slice(&mut self, row: &[Value]) -> Result<bool, BulkRowRefusal>
+    pub fn add_row_slice(&mut self, row: &[Value]) -> Result<bool, BulkRowError>
         ensures { AddsCopy self.old (contents_of row.now) result self.new }
     {
         self.offer(row)
     }
 
-    /// Offers copies of values whose bytes lie elsewhere, as in the packet of a row that was read: see
-    /// [`add_row_slice`](Self::add_row_slice). No byte is copied before the row is known to fit as far as that byte.
+    /// Adds copies of values that borrow their bytes, for example from the packet of a row: see
+    /// [`add_row_slice`](Self::add_row_slice). A byte is only copied once the row is known to fit up to it.
     // (inlined as that one is)
     #[inline(always)]
-    pub fn add_row_refs(&mut self, row: &[ValueRef<'_>]) -> Result<bool, BulkRowRefusal>
+    pub fn add_row_refs(&mut self, row: &[ValueRef<'_>]) -> Result<bool, BulkRowError>
         ensures { AddsCopy self.old (map ref_content row.now) result self.new }
     {
         self.offer(row)
@@ -44,30 +44,30 @@ impl<'a> ComStmtBulkExecuteRequestBuilder<'a> {
 
     /// Offers copies of the values of a row.
     #[inline(always)]
-    fn offer<V: RowValue>(&mut self, row: &[V]) -> Result<bool, BulkRowRefusal>
+    fn offer<V: RowValue>(&mut self, row: &[V]) -> Result<bool, BulkRowError>
         ensures { AddsCopy self.old (map V.content row.now) result self.new }
     {
         if !self.takes_arity(row.len()) {
-            return Err(BulkRowRefusal::MixedArity);
+            return Err(BulkRowError::MixedArity);
         }
         if !self.takes_types(row) {
-            return Err(BulkRowRefusal::MixedTypes);
+            return Err(BulkRowError::MixedTypes);
         }
         if self.takes_copy(row) {
             return Ok(true);
         }
         // (nothing changed: why no copy waits is found out apart)
         if self.size_after(row).is_some() {
-            Err(BulkRowRefusal::Memory)
+            Err(BulkRowError::Memory)
         } else if self.has_rows() {
             Ok(false)
         } else {
-            Err(BulkRowRefusal::TooLarge)
+            Err(BulkRowError::TooLarge)
         }
     }
 
-    /// Whether a copy of a row, which may come next, fits with the rows that wait and now waits too. Where memory was refused,
-    /// it does not wait either.
+    /// Copies a row, which may come next, if it fits with the rows that wait. Returns whether it waits now; after an error it
+    /// doesn't.
     // (its bytes are counted while it is copied, so that they are looked at once)
     #[inline(always)]
     fn takes_copy<V: RowValue>(&mut self, row: &[V]) -> bool
@@ -103,8 +103,7 @@ impl<'a> ComStmtBulkExecuteRequestBuilder<'a> {
     }
 }
 
-/// How many bytes a further row may have, if a further one may be in a request with those that wait. It fits exactly where it has
-/// no more.
+/// The maximum length of another row, if the request may have another one: it fits exactly if it is no longer.
 fn most_bytes(
     rule: BulkRule,
     limit: u64,

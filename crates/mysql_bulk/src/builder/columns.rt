@@ -13,9 +13,9 @@ use crate::row_value::RowValue;
 use mysql_values::ParamType;
 
 impl<'a> ComStmtBulkExecuteRequestBuilder<'a> {
-    /// Declares the types of the columns, which the next request sends whatever its rows hold, and then those that
-    /// `with_types_always` says. Only rows of as many values are taken, each of which is `NULL` or is spelled under its
-    /// column's type as it is under its own; another row is refused (`MixedArity`, `MixedTypes`).
+    /// Declares the types of the columns, which the next request sends whatever its rows contain, and after it those that
+    /// `with_types_always` says. Only rows with as many values are accepted, each of which is `NULL` or has the same encoding
+    /// under its column's type as under its own; another row is an error (`MixedArity`, `MixedTypes`).
     ///
     /// | Type | Values |
     /// |---|---|
@@ -27,9 +27,9 @@ impl<'a> ComStmtBulkExecuteRequestBuilder<'a> {
     /// | `TIME` | `Time` |
     /// | `VARCHAR`, `VAR_STRING`, `STRING`, the four `BLOB`s, `DECIMAL`, `NEWDECIMAL`, `ENUM`, `SET`, `JSON`, `VECTOR`, `GEOMETRY` | `Bytes` |
     ///
-    /// Another type may not be declared, nor may an unsigned one that is not `LONGLONG`: the error has the place of the
-    /// first one, and the builder is dropped. A type takes as many bytes as one that is not declared, so each promise of
-    /// fewest requests stands. The types are not copied, and it takes no memory.
+    /// No other type can be declared, nor an unsigned one except `LONGLONG`: the error has the place of the first one, and the
+    /// builder is dropped. A declared type takes as many bytes as an undeclared one, so each promise of fewest requests holds.
+    /// The types are not copied, and it takes no memory.
     pub fn with_column_types(self, types: &'a [ParamType]) -> Result<Self, BulkColumnTypeError>
         requires { self.waiting ≡ [] }
         ensures { Declares self.entry types.now result }
@@ -58,7 +58,7 @@ impl<'a> ComStmtBulkExecuteRequestBuilder<'a> {
         BulkRequestWriter::with_settings(buffer, stmt_id, limit, results, rule, types)
     }
 
-    /// Whether the declared types, if there are any, spell the row.
+    /// Whether the row fits the declared types, if there are any.
     pub(crate) fn takes_types<V: RowValue>(&self, row: &[V]) -> bool
         ensures { result ≡ takes_types self.now.columns (map V.content row.now) }
     {

@@ -1,4 +1,4 @@
-//! Rows that are handed over to a builder.
+//! Adding rows by value.
 
 ghost use Rattle.std.specs.Prelude.{◌≡◌, ◌++◌, ◌∷◌, [], IfErr, OnOk, sum_by};
 ghost use Rattle.mysql_bulk.specs.Builder.{TakesRow, RowFits, Adds, AddsRow, AddsParams, after_row};
@@ -11,7 +11,7 @@ use crate::row::{append_row, find_capacity};
 use mysql_values::{Params, Value};
 
 impl<'a> ComStmtBulkExecuteRequestBuilder<'a> {
-    /// Offers a row, and answers one that does not fit with those that wait.
+    /// Adds a row, or returns it if it doesn't fit with those that wait.
     // (inlined with `size_after`: a loop over rows is faster then)
     #[inline(always)]
     pub(crate) fn add(
@@ -39,8 +39,8 @@ impl<'a> ComStmtBulkExecuteRequestBuilder<'a> {
         }
     }
 
-    /// Lets a row wait, which may come next and fits, and has so many bytes with those that wait. Where memory is refused,
-    /// it is handed back.
+    /// Adds a row that may come next and fits; with it, those that wait have `size` bytes. If the allocation fails, the row is
+    /// returned.
     #[inline(always)]
     fn keep(&mut self, row: Vec<Value>, size: u64) -> Result<(), Vec<Value>>
         requires takes { TakesRow self.old (contents_of_row row) }
@@ -69,12 +69,11 @@ impl<'a> ComStmtBulkExecuteRequestBuilder<'a> {
         Ok(())
     }
 
-    /// Offers a row. Where it fits with the rows that wait, it waits too, and the answer is `Ok(None)`.
+    /// Adds a row. If it fits with the rows that wait, it waits too, and the result is `Ok(None)`.
     ///
-    /// A row that does not fit with those that wait is handed back as `Ok(Some(row))`; a request is built then. Of the
-    /// refusals, `MixedArity` drops the row; `MixedTypes` (a declared type does not spell one of its values),
-    /// `RowTooLarge` (it does not fit where nothing waits) and `MemoryRow` hand it back. Where the row does not wait, the
-    /// builder stays as it was.
+    /// A row that doesn't fit with those that wait is returned as `Ok(Some(row))`; the caller then builds a request. Of the
+    /// errors, `MixedArity` drops the row; `MixedTypes` (a value doesn't fit its declared type), `RowTooLarge` (it doesn't fit
+    /// in a request of its own) and `MemoryRow` return it. If the row doesn't wait, the builder is unchanged.
     pub fn add_row(
         &mut self,
         row: Vec<Value>,
@@ -87,9 +86,9 @@ impl<'a> ComStmtBulkExecuteRequestBuilder<'a> {
         }
     }
 
-    /// Offers parameters, whose values are a row: see `add_row`. With names they are named, else positional.
+    /// Adds parameters, whose values are a row: see `add_row`. With names they are named, otherwise positional.
     ///
-    /// Parameters that give no row are refused as `Params`, and the builder stays as it was.
+    /// Parameters that give no row are `Params`, and the builder is unchanged.
     pub fn add_params(
         &mut self,
         params: Params,

@@ -10,17 +10,17 @@ use std::marker::Model;
 
 /// A row that is offered.
 pub(super) trait OfferedRow {
-    /// Its bytes.
+    /// The bytes of the offered values.
     ghost bytes: { Self → List ℕ };
 
-    /// Writes them, where there is capacity.
+    /// Writes them, if there is capacity.
     fn append_to(&self, out: &mut Vec<u8>)
         requires { vec_len out.old + length (bytes self.now) ≤ vec_capacity out.old }
         ensures items { out.new.items ≡ out.old.items ++ bytes self.now }
         ensures capacity { vec_capacity out.old ≤ vec_capacity out.new };
 }
 
-/// Values that are spelled as they are without declared types.
+/// Values with the same encoding as without declared types.
 pub(super) struct PlainRow<'r, 'a> {
     pub(super) values: &'r [ValueRef<'a>],
 }
@@ -43,7 +43,7 @@ impl OfferedRow for PlainRow<'_, '_> {
     }
 }
 
-/// Values, DEFAULT and IGNORE, which their types spell: one for each.
+/// Values, DEFAULT and IGNORE, one for each type, which fit these.
 pub(super) struct TypedRow<'r, 'a> {
     types: &'r [ParamType],
     cells: &'r [BulkValue<'a>],

@@ -1,23 +1,23 @@
 //! A whole run of a writer over rows of values, DEFAULT and IGNORE.
 
 ghost use Rattle.std.specs.Prelude.{◌≡◌, ◌≤◌, ◌++◌, ◌∷◌, [], map, IfErr, OnOk, OnErr, Ok, Err, List, if◌then◌else◌};
-ghost use Rattle.mysql_bulk.specs.declared.error.BulkRowRefusal.TheVariants.{TooLarge};
+ghost use Rattle.mysql_bulk.specs.declared.error.BulkRowError.TheVariants.{TooLarge};
 ghost use Rattle.mysql_bulk.specs.BulkValue.{Cell, cell_of};
 ghost use Rattle.mysql_bulk.specs.ValueRows.{HoldsCells, LetsGo};
 ghost use Rattle.mysql_bulk.specs.ValuesRun as spec;
 
 use super::BulkRequestWriter;
 use crate::bulk_value::BulkValue;
-use crate::error::BulkRowRefusal;
+use crate::error::BulkRowError;
 use std::alloc::{AllocError, Global};
 
-/// What a run over rows of values, DEFAULT and IGNORE gives.
+/// The result of a run over rows of values, DEFAULT and IGNORE.
 #[derive(Debug, Drop)]
 pub struct BulkValuesRun {
     /// The bytes of the requests.
     pub requests: Vec<Vec<u8>>,
     /// Why the run ended before the rows did, if so.
-    pub refusal: Option<BulkRowRefusal>,
+    pub refusal: Option<BulkRowError>,
 }
 
 impl<'a> BulkRequestWriter<'a> {
@@ -40,7 +40,7 @@ impl<'a> BulkRequestWriter<'a> {
         alloc: Global,
         row: &[BulkValue<'_>],
         requests: &mut Vec<Vec<u8>>,
-    ) -> Result<(), BulkRowRefusal>
+    ) -> Result<(), BulkRowError>
         ensures ok { OnOk result (spec.Offered self.old (map cell_of row.now) (spec.bytes_of requests.old.items) self.new (spec.bytes_of requests.new.items)) }
         ensures refused { IfErr result (λ e. spec.OfferRefused self.old (map cell_of row.now) (spec.bytes_of requests.old.items) e self.new (spec.bytes_of requests.new.items)) }
         ensures capacity { self.old.capacity ≤ self.new.capacity }
@@ -53,7 +53,7 @@ impl<'a> BulkRequestWriter<'a> {
             return Ok(());
         }
         let Ok(()) = self.send_request(alloc, requests) else {
-            return Err(BulkRowRefusal::Memory);
+            return Err(BulkRowError::Memory);
         };
         match self.add_row_values(row) {
             Ok(fits_alone) => answer_of(fits_alone),
@@ -67,7 +67,7 @@ impl<'a> BulkRequestWriter<'a> {
         alloc: Global,
         rows: &[Vec<BulkValue<'_>>],
         requests: &mut Vec<Vec<u8>>,
-    ) -> Result<(), BulkRowRefusal>
+    ) -> Result<(), BulkRowError>
         requires { requests.old.items ≡ [] }
         ensures gives { (before : List (List Cell)) → HoldsCells self.old before → spec.CellsRunGives self.old before (spec.cells_of_rows rows.now) (spec.bytes_of requests.new.items) (spec.refusal_of result) self.new }
         ensures capacity { self.old.capacity ≤ self.new.capacity }
@@ -82,17 +82,17 @@ impl<'a> BulkRequestWriter<'a> {
             return Ok(());
         }
         let Ok(()) = self.send_request(alloc, requests) else {
-            return Err(BulkRowRefusal::Memory);
+            return Err(BulkRowError::Memory);
         };
         Ok(())
     }
 
-    /// Writes rows after those that wait, and gives the bytes of all their requests, or those before the row that is refused.
+    /// Writes rows after those that wait, and returns the bytes of all their requests, or of those before the faulty row.
     ///
-    /// Each request is full: the row after it would not fit. Where the next request was to send types, as a new writer's is, they are
-    /// the fewest that fit, by the sizes of the rows under the declared types. A row is refused as by
-    /// [`add_row_values`](Self::add_row_values), and those before it wait then, but for the ones that were sent; `Memory` is also the
-    /// answer where there is no memory for a request that is due, whose rows wait.
+    /// Each request is full: the row after it would not fit. If the next request was to send types, as a new writer's is, they
+    /// are the fewest that fit, by the sizes of the rows under the declared types. The errors of a row are those of
+    /// [`add_row_values`](Self::add_row_values), and the rows before it then wait, except for those that were sent; `Memory` is
+    /// also returned if a request that is due can't be allocated, and its rows then wait.
     pub fn build_all_values(&mut self, alloc: Global, rows: &[Vec<BulkValue<'_>>]) -> BulkValuesRun
         ensures gives { (before : List (List Cell)) → HoldsCells self.old before → spec.CellsRunGives self.old before (spec.cells_of_rows rows.now) (spec.bytes_of result.requests.items) result.refusal self.new }
         // The memory of the buffer stays, whatever is sent.
@@ -108,12 +108,12 @@ impl<'a> BulkRequestWriter<'a> {
 }
 
 /// A row that is not taken where none waits is too large.
-fn answer_of(fits_alone: bool) -> Result<(), BulkRowRefusal>
+fn answer_of(fits_alone: bool) -> Result<(), BulkRowError>
     ensures { result ≡ (if fits_alone then Ok tt else Err TooLarge) }
 {
     if fits_alone {
         Ok(())
     } else {
-        Err(BulkRowRefusal::TooLarge)
+        Err(BulkRowError::TooLarge)
     }
 }

@@ -4,17 +4,17 @@ ghost use Rattle.std.specs.Prelude.{◌≡◌, ◌≢◌, ◌+◌, ◌-◌, ◌+
 ghost use Rattle.mysql_cuts.specs.Cut.{PartFits};
 ghost use Rattle.mysql_bulk.specs.BulkValue.{Cell, cell_of, cells_size};
 ghost use Rattle.mysql_bulk.specs.ValueRows as spec;
-ghost use Rattle.mysql_bulk.specs.declared.error.BulkRowRefusal.TheVariants as refused;
+ghost use Rattle.mysql_bulk.specs.declared.error.BulkRowError.TheVariants as refused;
 
 use super::BulkRequestWriter;
 use super::offered::TypedRow;
 use crate::bulk_value::{BulkValue, spells_values, values_len};
-use crate::error::BulkRowRefusal;
+use crate::error::BulkRowError;
 use crate::size::size_within;
 use mysql_cuts::BulkRule;
 use mysql_values::ParamType;
 
-/// The bytes of so many rows with one more, which has a cell for each type, if these may be one request.
+/// The bytes of a given number of rows with one more, which has a cell for each type, if these may be one request.
 fn size_with_values(
     rule: BulkRule,
     limit: u64,
@@ -38,8 +38,8 @@ impl<'a> BulkRequestWriter<'a> {
     /// A writer into a buffer, as [`new`](Self::new) makes one, for columns of any types: numbers of any width, floats, dates,
     /// times and strings.
     ///
-    /// Its rows are offered to [`add_row_values`](Self::add_row_values), which spells each value under its type.
-    /// [`add_row_refs`](Self::add_row_refs) takes those alone whose values are spelled so without declared types.
+    /// Its rows are written by [`add_row_values`](Self::add_row_values), which encodes each value under its type.
+    /// [`add_row_refs`](Self::add_row_refs) only accepts values with the same encoding as without declared types.
     pub fn with_types(
         buffer: Vec<u8>,
         stmt_id: u32,
@@ -81,12 +81,12 @@ impl<'a> BulkRequestWriter<'a> {
 
     /// Offers a row of values, DEFAULT and IGNORE, whose bytes are written where it fits.
     ///
-    /// Where the row fits with those that wait, it is written after them, and the answer is `Ok(true)`; where it does not fit
-    /// with those that wait it is `Ok(false)`, and the request is done with then. A row is refused as `MixedArity` where it has
-    /// not a cell for each type, as `MixedTypes` where a type does not spell its value, as `TooLarge` where it does not fit alone, and
-    /// as `Memory` where the buffer did not grow, but not where it has the memory. Where no row is written, the writer stays as it was.
-    /// The bytes of the row are counted first, by the declared widths, and the buffer grows once at the most.
-    pub fn add_row_values(&mut self, row: &[BulkValue<'_>]) -> Result<bool, BulkRowRefusal>
+    /// If the row fits with those that wait, it is written after them, and the result is `Ok(true)`; if it doesn't, the result
+    /// is `Ok(false)`, and the request is complete. The errors are `MixedArity` if the row has not a cell for each type,
+    /// `MixedTypes` if a value doesn't fit its type, `TooLarge` if it doesn't fit in a request of its own, and `Memory` if the
+    /// buffer couldn't grow, but not if it has the capacity. If no row is written, the writer is unchanged. The bytes of the
+    /// row are counted first, by the declared widths, and the buffer grows at most once.
+    pub fn add_row_values(&mut self, row: &[BulkValue<'_>]) -> Result<bool, BulkRowError>
         ensures adds { spec.AddsCells self.old (map cell_of row.now) result self.new }
         ensures waits { IfOk result (λ taken. taken ≡ false → self.new ≡ self.old) }
         ensures err { OnErr result (self.new ≡ self.old) }
@@ -94,14 +94,14 @@ impl<'a> BulkRequestWriter<'a> {
         ensures no_memory { spec.HasRoomFor self.old (map cell_of row.now) → result ≢ Err refused.Memory }
     {
         if row.len() != self.types.len() {
-            return Err(BulkRowRefusal::MixedArity);
+            return Err(BulkRowError::MixedArity);
         }
         if !spells_values(self.types, row) {
-            return Err(BulkRowRefusal::MixedTypes);
+            return Err(BulkRowError::MixedTypes);
         }
         let Some(size) = self.size_after_values(row) else {
             return if self.count == 0 {
-                Err(BulkRowRefusal::TooLarge)
+                Err(BulkRowError::TooLarge)
             } else {
                 Ok(false)
             };
@@ -111,13 +111,13 @@ impl<'a> BulkRequestWriter<'a> {
             return if self.write_first(&TypedRow::new(types, row), size) {
                 Ok(true)
             } else {
-                Err(BulkRowRefusal::Memory)
+                Err(BulkRowError::Memory)
             };
         }
         if self.write_further(&TypedRow::new(types, row), size) {
             Ok(true)
         } else {
-            Err(BulkRowRefusal::Memory)
+            Err(BulkRowError::Memory)
         }
     }
 

@@ -1,3 +1,3 @@
-//! What a client asks of a server with the plugin `caching_sha2_password`.
+//! Requests of a client with the plugin `caching_sha2_password`.
 
 pub use mysql_auth::{InvalidPublicKeyRequest, PublicKeyRequest, PublicKeyRequestHeader};

@@ -1,4 +1,4 @@
-//! What changes in a session.
+//! Changes of a session's state.
 
 pub use mysql_session::{
     ChangeRef, Gtids, Schema, SessionStateChange, SessionStateChangeRef, SystemVariable,

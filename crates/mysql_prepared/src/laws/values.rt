@@ -8,7 +8,7 @@ ghost use Rattle.mysql_prepared.specs.Stmt.{stmt};
 
 use crate::stmt::StmtPacket;
 
-/// What is written of this statement packet is read again, whatever follows.
+/// This statement packet is read back, whatever bytes follow.
 pub fn this_stmt_packet_round_trips(packet: &StmtPacket)
     ensures spelled { (rest : List ℕ) → (stmt.form tt).Spells packet.now (stmt.bytes packet.now ++ rest) rest }
 {

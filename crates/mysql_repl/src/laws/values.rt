@@ -25,7 +25,7 @@ use crate::semi_sync_ack::SemiSyncAckPacket;
 use crate::sid::{Sid, UUID_LEN};
 use crate::table_dump::ComTableDump;
 
-/// What is written of this registration is read again, whatever follows, where no string has more than 255 bytes.
+/// This registration is read back, whatever bytes follow, where no string has more than 255 bytes.
 pub fn this_register_slave_round_trips(registration: &ComRegisterSlave<'_>)
     ensures spelled { (rest : List ℕ) → length (hostname registration.now) < 2 ^ 8 → length (user registration.now) < 2 ^ 8 → length (password registration.now) < 2 ^ 8
         → (register_slave.form tt).Spells registration.now (register_slave.bytes registration.now ++ rest) rest }
@@ -36,14 +36,14 @@ pub fn this_register_slave_round_trips(registration: &ComRegisterSlave<'_>)
     let _master_id = registration.master_id();
 }
 
-/// What is written of this request for a table is read again, whatever follows, where no name has more than 255 bytes.
+/// This request for a table is read back, whatever bytes follow, where no name has more than 255 bytes.
 #[tactic(auto, using(crate::proofs::Fits::plain_fits))]
 pub fn this_table_dump_round_trips(request: &ComTableDump<'_>)
     ensures spelled { (rest : List ℕ) → length (database request.now) < 2 ^ 8 → length (table request.now) < 2 ^ 8
         → (table_dump.form tt).Spells request.now (table_dump.bytes request.now ++ rest) rest }
 {}
 
-/// What is written of this dump by position is read again, where nothing follows.
+/// This dump by position is read back if nothing follows.
 pub fn this_binlog_dump_round_trips(dump: &ComBinlogDump<'_>)
     ensures spelled { (binlog_dump.form tt).Spells dump.now (binlog_dump.bytes dump.now) [] }
 {
@@ -52,15 +52,15 @@ pub fn this_binlog_dump_round_trips(dump: &ComBinlogDump<'_>)
     let _server_id = dump.server_id();
 }
 
-/// What is written of this acknowledgement is read again, where nothing follows.
+/// This acknowledgement is read back if nothing follows.
 pub fn this_semi_sync_ack_round_trips(ack: &SemiSyncAckPacket<'_>)
     ensures spelled { (semi_sync_ack.form tt).Spells ack.now (semi_sync_ack.bytes ack.now) [] }
 {
     let _position = ack.position();
 }
 
-/// What is written of this packet of a stream is read again, where nothing follows: with the header of semi-synchronous
-/// replication where that is agreed on, and without it where it is not.
+/// This packet of a stream is read back if nothing follows: with the header of semi-synchronous replication where that is
+/// agreed on, and without it where it is not.
 #[tactic(auto, using(crate::proofs::StreamFits::streams))]
 pub fn this_binlog_stream_packet_round_trips(agreed: bool, packet: &BinlogStreamPacket<'_>)
     ensures spelled { StreamPacketPartsFit agreed packet.now → (stream_packet.form agreed).Spells packet.now (stream_packet.bytes packet.now) [] }
@@ -70,7 +70,7 @@ pub fn this_binlog_stream_packet_round_trips(agreed: bool, packet: &BinlogStream
     }
 }
 
-/// What is written of this sid is read again, whatever follows: where it has no tag, and in the form with tags.
+/// This sid is read back, whatever bytes follow: where it has no tag, and in the form with tags.
 pub fn this_sid_round_trips(sid: &Sid<'_>)
     ensures untagged { (rest : List ℕ) → spec.tag sid.now ≡ None → (spec.sid.form tt).Spells sid.now (spec.sid.bytes sid.now ++ rest) rest }
     ensures tagged { (rest : List ℕ) → (spec.tagged_sid.form tt).Spells sid.now (spec.tagged_sid.bytes sid.now ++ rest) rest }
@@ -99,8 +99,7 @@ fn are_sids(sids: &[Sid<'_>])
     }
 }
 
-/// What is written of this dump by GTID set is read again, whatever follows, by either reader, where it is written as
-/// less than 2^32 bytes.
+/// This dump by GTID set is read back, whatever bytes follow, by either reader, where it is written as less than 2^32 bytes.
 pub fn this_binlog_dump_gtid_round_trips(dump: &ComBinlogDumpGtid<'_>)
     ensures lenient { (rest : List ℕ) → length (gtid_dump.bytes dump.now) < 2 ^ 32 → (gtid_dump.form false).Spells dump.now (gtid_dump.bytes dump.now ++ rest) rest }
     ensures strict { (rest : List ℕ) → length (gtid_dump.bytes dump.now) < 2 ^ 32 → (gtid_dump.form true).Spells dump.now (gtid_dump.bytes dump.now ++ rest) rest }
@@ -111,8 +110,7 @@ pub fn this_binlog_dump_gtid_round_trips(dump: &ComBinlogDumpGtid<'_>)
     are_sids(dump.sids());
 }
 
-/// The text that is written of this sid spells it, and is read as it, where it has at least one interval, and each is
-/// proper.
+/// The written text of this sid is parsed as this sid, if it has at least one interval, and each is valid.
 pub fn this_sid_text_round_trips(sid: &Sid<'_>)
     ensures spelled { ProperIntervals (spec.intervals sid.now) → SpellsSid (sid_text sid.now) sid.now }
     ensures read { ProperIntervals (spec.intervals sid.now) → read_sid (sid_text sid.now) ≡ Ok sid.now }

@@ -1,4 +1,4 @@
-//! What stays in its packet is read of the same bytes as what can leave it, and is that value.
+//! A borrowed form is read from the same bytes as the owned one, and has the same value.
 #![tactic(auto, using(mysql_wire::proofs::Packets::packets))]
 
 ghost use Rattle.std.specs.Prelude.{◌≡◌, List, ℕ, Bool};

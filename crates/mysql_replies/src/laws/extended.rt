@@ -13,20 +13,20 @@ ghost use Rattle.mysql_replies.specs.declared.extended_column.ExtendedColumn.{Ex
 
 use mysql_wire::MyDeserialize;
 
-/// What is written of a column is read again under the same capabilities, whatever follows.
+/// A column is read back under the same capabilities, whatever bytes follow.
 pub fn extended_column_round_trips()
     ensures spelled { (capabilities : MariadbCapabilities) (c : ExtendedColumn) (rest : List ℕ) → extended_column.fits capabilities c rest → (extended_column.form capabilities).Spells c (extended_column.bytes c ++ rest) rest }
     ensures plain { (capabilities : MariadbCapabilities) (c : ExtendedColumn) (rest : List ℕ) → ExtendedColumnFits capabilities c → (extended_column.form capabilities).Spells c (extended_column.bytes c ++ rest) rest }
 {}
 
-/// What is written of a column with its default value is read again under the same capabilities, whatever follows.
+/// A column with its default value is read back under the same capabilities, whatever bytes follow.
 #[tactic(auto, using(mysql_wire::proofs::Packets::packets, crate::proofs::FieldListColumns::field_list_columns))]
 pub fn field_list_column_round_trips()
     ensures spelled { (capabilities : MariadbCapabilities) (d : Definition) (rest : List ℕ) → field_list_column.fits capabilities d rest → (field_list_column.form capabilities).Spells d (field_list_column.bytes d ++ rest) rest }
     ensures plain { (capabilities : MariadbCapabilities) (d : Definition) (rest : List ℕ) → FieldListColumnFits capabilities d → (field_list_column.form capabilities).Spells d (field_list_column.bytes d ++ rest) rest }
 {}
 
-/// What is written of an attribute of a column is read again, whatever follows.
+/// An attribute of a column is read back, whatever bytes follow.
 pub fn column_attribute_round_trips()
     ensures spelled { (a : ColumnAttribute) (rest : List ℕ) → column_attribute.fits tt a rest → (column_attribute.form tt).Spells a (column_attribute.bytes a ++ rest) rest }
     ensures plain { (a : ColumnAttribute) (rest : List ℕ) → attribute_code a < 2 ^ 8 → length (attribute_text a) < 2 ^ 64 → (column_attribute.form tt).Spells a (column_attribute.bytes a ++ rest) rest }

@@ -1,7 +1,7 @@
 //! Laws on a value at hand: what a caller can use of a packet that was made or read.
 //!
-//! Each function reads the numbers and lengths of its value, which shows that they have their widths. It answers nothing and
-//! changes nothing: in line it costs no instruction.
+//! Each function reads the numbers and lengths of its value, which shows that they fit their widths. It has no result and no
+//! effect: inlined, it costs no instruction.
 #![tactic(auto, using(crate::proofs::PlainFits::plain))]
 
 ghost use Rattle.std.specs.Prelude.{◌≡◌, ◌++◌, ◌<◌, ◌^◌, [], ℕ, List, Ok, IfSome, is_some};
@@ -46,7 +46,7 @@ use crate::sql_state::SqlState;
 use mysql_session::SessionStateChange;
 use mysql_session::laws::values::this_session_state_change_round_trips;
 
-/// What is written of this column is read again, whatever follows.
+/// This column is read back, whatever bytes follow.
 #[inline]
 pub fn this_column_round_trips(column: &Column)
     ensures spelled { (rest : List ℕ) → (spec.column.form tt).Spells column.now (spec.column.bytes column.now ++ rest) rest }
@@ -70,8 +70,8 @@ fn has_column_widths(column: &Column)
     let _decimals = column.decimals();
 }
 
-/// What is written of this column is read again under these capabilities, whatever follows, where it has metadata just where
-/// the flag asks for it.
+/// This column is read back under these capabilities, whatever bytes follow, where it has metadata just where the flag asks for
+/// it.
 #[inline]
 #[tactic(auto, using(crate::proofs::ExtendedColumns::extended_columns))]
 pub fn this_extended_column_round_trips(column: &ExtendedColumn)
@@ -84,8 +84,8 @@ pub fn this_extended_column_round_trips(column: &ExtendedColumn)
     }
 }
 
-/// What is written of this column with its default value is read again under these capabilities, whatever follows, where it has metadata
-/// just where the flag asks for it.
+/// This column with its default value is read back under these capabilities, whatever bytes follow, where it has metadata just
+/// where the flag asks for it.
 #[inline]
 #[tactic(auto, using(crate::proofs::FieldListColumns::field_list_columns))]
 pub fn this_field_list_column_round_trips(definition: &FieldListColumn<'_>)
@@ -118,7 +118,7 @@ fn has_widths_in_place(column: &ColumnRef<'_>)
     let _decimals = column.decimals();
 }
 
-/// What is written of this attribute of a column is read again, whatever follows.
+/// This attribute of a column is read back, whatever bytes follow.
 #[inline]
 #[tactic(auto, using(crate::proofs::ExtendedColumns::extended_columns))]
 pub fn this_column_attribute_round_trips(attribute: &ColumnAttribute<'_>)
@@ -128,8 +128,8 @@ pub fn this_column_attribute_round_trips(attribute: &ColumnAttribute<'_>)
     let _text = attribute.text_ref().len();
 }
 
-/// What is written of this count of columns is read again, whatever follows, where a byte says whether definitions follow just
-/// where the flags ask for it.
+/// This count of columns is read back, whatever bytes follow, where a byte says whether definitions follow just where the flags
+/// ask for it.
 #[inline]
 pub fn this_column_count_round_trips(columns: &ColumnCount)
     ensures spelled { (capabilities : SessionCapabilities) (rest : List ℕ) → SuitsSession capabilities columns.now
@@ -141,14 +141,14 @@ pub fn this_column_count_round_trips(columns: &ColumnCount)
     }
 }
 
-/// What is written of this request for a local file is read again, where nothing follows.
+/// This request for a local file is read back if nothing follows.
 #[inline]
 pub fn this_local_infile_round_trips(request: &LocalInfilePacket<'_>)
     ensures spelled { (local_infile.form tt).Spells request.now (local_infile.bytes request.now) [] }
 {}
 
-/// What is written of this error in place of the greeting is read again, where nothing follows; without a state its message
-/// does not begin as a state does.
+/// This error in place of the greeting is read back if nothing follows; without a state its message does not begin as a state
+/// does.
 #[inline]
 #[tactic(auto, using(crate::proofs::GreetingErrors::greeting_errors))]
 pub fn this_greeting_error_round_trips(packet: &GreetingError<'_>)
@@ -168,7 +168,7 @@ fn has_error_widths(error: &ServerError<'_>)
     }
 }
 
-/// What is written of this progress report is read again, whatever follows, where its progress has three bytes.
+/// This progress report is read back, whatever bytes follow, where its progress has three bytes.
 #[inline]
 pub fn this_progress_report_round_trips(report: &ProgressReport<'_>)
     ensures spelled { (rest : List ℕ) → progress report.now < 2 ^ 24 → (progress_report.form tt).Spells report.now (progress_report.bytes report.now ++ rest) rest }
@@ -178,8 +178,7 @@ pub fn this_progress_report_round_trips(report: &ProgressReport<'_>)
     let _stage_info = report.stage_info_ref().len();
 }
 
-/// What is written of this error is read again, where nothing follows and the reader is passed its code, and whether it has
-/// a state.
+/// This error is read back if nothing follows and the reader is passed its code, and whether it has a state.
 #[inline]
 pub fn this_server_error_round_trips(error: &ServerError<'_>)
     ensures spelled { (server_error.form (error_code error.now, is_some (sql_state_of error.now))).Spells error.now (server_error.bytes error.now) [] }
@@ -189,8 +188,8 @@ pub fn this_server_error_round_trips(error: &ServerError<'_>)
     }
 }
 
-/// What is written of this error packet is read again, where nothing follows and the flags of both sides suit it: a report
-/// is taken, and its progress has three bytes; an error has a state just under protocol 4.1, and is no report by its code.
+/// This error packet is read back if nothing follows and the flags of both sides suit it: a report is taken, and its progress
+/// has three bytes; an error has a state just under protocol 4.1, and is no report by its code.
 #[inline]
 #[tactic(auto, using(crate::proofs::PlainFits::plain, crate::proofs::ErrPacketFits::err_packets))]
 pub fn this_err_packet_round_trips(packet: &ErrPacket<'_>)
@@ -199,7 +198,7 @@ pub fn this_err_packet_round_trips(packet: &ErrPacket<'_>)
     has_widths(packet);
 }
 
-/// The numbers of an error packet have their widths, but for a report's progress.
+/// The numbers of an error packet have their widths, except for a report's progress.
 #[inline]
 fn has_widths(packet: &ErrPacket<'_>)
     ensures value { HasWidths packet.now }
@@ -214,7 +213,7 @@ fn has_widths(packet: &ErrPacket<'_>)
     }
 }
 
-/// What is written of this entry of a state string is read again, whatever follows.
+/// This entry of a state string is read back, whatever bytes follow.
 #[inline]
 pub fn this_session_state_info_round_trips(info: &SessionStateInfo<'_>)
     ensures spelled { (rest : List ℕ) → (session_state_info.form tt).Spells info.now (session_state_info.bytes info.now ++ rest) rest }
@@ -222,7 +221,7 @@ pub fn this_session_state_info_round_trips(info: &SessionStateInfo<'_>)
     let _data = info.data_ref().len();
 }
 
-/// What is sent of this change is decoded as the same.
+/// The written bytes of this change are decoded as the same change.
 #[inline]
 #[tactic(auto, using(crate::proofs::SentChangeAgain::sent_changes))]
 pub fn this_sent_change_round_trips(change: &SessionStateChange<'_>)
@@ -234,7 +233,7 @@ pub fn this_sent_change_round_trips(change: &SessionStateChange<'_>)
     }
 }
 
-/// What is written of this SQL state is read again, whatever follows.
+/// This SQL state is read back, whatever bytes follow.
 #[inline]
 pub fn this_sql_state_round_trips(state: &SqlState)
     ensures spelled { (rest : List ℕ) → (sql_state.form tt).Spells state.now (sql_state.bytes state.now ++ rest) rest }

@@ -1,7 +1,7 @@
 //! Laws on a value at hand: what a caller can use of a change that was made or read.
 //!
-//! Each function reads the lengths of its value, which shows that eight bytes can tell them. It answers nothing and changes
-//! nothing: in line it costs no instruction.
+//! Each function reads the lengths of its value, which shows that they fit in eight bytes. It has no result and no effect:
+//! inlined, it costs no instruction.
 #![tactic(auto, using(crate::proofs::PlainFits::plain))]
 
 ghost use Rattle.std.specs.Prelude.{◌++◌, [], ℕ, List};
@@ -18,7 +18,7 @@ use crate::system_variable::SystemVariable;
 use crate::system_variables::SystemVariables;
 use mysql_wire::LenEnc;
 
-/// What is written of this part of a change is read again, whatever follows.
+/// A part of a change is read back, whatever bytes follow.
 #[inline]
 pub fn this_session_text_round_trips<N>(text: &SessionText<'_, N, LenEnc>)
     ensures spelled { (rest : List ℕ) → (lenenc_text.form tt).Spells text.now (lenenc_text.bytes text.now ++ rest) rest }
@@ -26,13 +26,13 @@ pub fn this_session_text_round_trips<N>(text: &SessionText<'_, N, LenEnc>)
     let _bytes = text.as_bytes().len();
 }
 
-/// What is written of these GTIDs is read again, where nothing follows.
+/// GTIDs are read back if nothing follows.
 #[inline]
 pub fn these_gtids_round_trips(set: &Gtids<'_>)
     ensures spelled { (gtids.form tt).Spells set.now (gtids.bytes set.now) [] }
 {}
 
-/// What is written of this system variable is read again, whatever follows.
+/// A system variable is read back, whatever bytes follow.
 #[inline]
 pub fn this_system_variable_round_trips(variable: &SystemVariable<'_>)
     ensures fits { SystemVariableFits variable.now }
@@ -42,7 +42,7 @@ pub fn this_system_variable_round_trips(variable: &SystemVariable<'_>)
     let _value = variable.value_bytes().len();
 }
 
-/// What is written of these system variables is read again, where nothing follows.
+/// System variables are read back if nothing follows.
 #[inline]
 pub fn these_system_variables_round_trips(variables: &SystemVariables<'_>)
     ensures fits { All SystemVariableFits variables.now }
@@ -51,7 +51,7 @@ pub fn these_system_variables_round_trips(variables: &SystemVariables<'_>)
     are_short(variables.as_slice());
 }
 
-/// The lengths of system variables are such that eight bytes can tell them.
+/// The lengths of system variables fit in eight bytes.
 #[inline]
 fn are_short(variables: &[SystemVariable<'_>])
     ensures value { All SystemVariableFits variables.now }
@@ -61,7 +61,7 @@ fn are_short(variables: &[SystemVariable<'_>])
     }
 }
 
-/// What is written of this change is read again, where nothing follows and the reader is passed its type.
+/// A change is read back if nothing follows and the reader is passed its type.
 #[inline]
 pub fn this_session_state_change_round_trips(change: &SessionStateChange<'_>)
     ensures fits { ChangeIsShort change.now }

@@ -5,7 +5,7 @@ use Rattle.mysql_wire.specs.Reading.{Reading, then_read}
 use Rattle.mysql_wire.specs.Form.{Form}
 use Rattle.mysql_wire.specs.Seq.{asks_memory}
 
--- the value, and what is read after it; it took at least one of so many bytes
+-- the value, and what is read after it; it took at least one of a given number of bytes
 abbrev pub value_and_more : {A : Type 0} → ℕ → (List ℕ → Reading (List A)) → A → List ℕ → Reading (List A)
 value_and_more before next x mid = if nat_lt (length mid) before then then_read (next mid) (λ xs rest. Ok (x ∷ xs, rest)) else Err kind.InvalidData
 
@@ -20,7 +20,7 @@ module _ {A : Type 0} (f : Form A) where
   many_Spells [] bytes rest = (bytes ≡ []) × (rest ≡ [])
   many_Spells (x ∷ xs) bytes rest = (mid : List ℕ) × (length mid < length bytes) × f.Spells x bytes mid × many_Spells xs mid rest
 
-  -- at most so many values
+  -- at most a given number of values
   abbrev pub many_within : ℕ → List ℕ → Reading (List A)
   many_within steps [] = Ok ([], [])
   many_within zero (b ∷ bs) = Err kind.InvalidData

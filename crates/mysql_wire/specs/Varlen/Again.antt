@@ -24,7 +24,7 @@ pub size_fits : (n : ℕ) → varlen_size n ≢ 9 → (0 < varlen_size n) × (va
 unfolding varlen_size
 size_fits n ne = elim (fewest-fits 8 0 n (omega arith)) [ inl nine ↦ absurd (ne nine) | inr fits ↦ fits ]
 
--- the number above a zero and ones, in so many bytes
+-- the number above a zero and ones, in a given number of bytes
 word_fits : (k n : ℕ) → k < 8 → n < 2 ^ (7 * suc k) → n * 2 ^ suc k + (2 ^ k - 1) < 256 ^ suc k
 word_fits zero n most lt = omega (arith, lt)
 word_fits (suc zero) n most lt = omega (arith, lt)

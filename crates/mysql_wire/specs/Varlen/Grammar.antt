@@ -10,7 +10,7 @@ varlen_Spells n bytes rest =
     ((k : ℕ) × (k < 8) × (number (suc k)).Spells (n * 2 ^ suc k + (2 ^ k - 1)) bytes rest)
     ⊎ ((mid : List ℕ) × (bytes ≡ 255 ∷ mid) × (number 8).Spells n mid rest)
 
--- how many of the low bits are ones, at most so many
+-- how many of the low bits are ones, at most this many
 abbrev pub low_ones : ℕ → ℕ → ℕ
 low_ones zero n = 0
 low_ones (suc most) n = if n % 2 == 0 then 0 else suc (low_ones most (n / 2))

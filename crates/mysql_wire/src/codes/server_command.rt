@@ -8,6 +8,10 @@ use crate::constant_value::ConstValue;
 use thiserror::Error;
 
 /// `enum_server_command`: what a client asks of a server, in the first byte of its packet.
+///
+/// ```
+/// ServerCommand::try_from(first).ok()
+/// ```
 #[derive(Clone, Copy, Debug, PartialEq, Eq, Hash)]
 pub enum ServerCommand {
     /// Nothing: servers use it inside.
@@ -20,7 +24,7 @@ pub enum ServerCommand {
     COM_QUERY = 3,
     /// The columns of a table.
     COM_FIELD_LIST = 4,
-    /// A schema is made.
+    /// Creates a schema.
     COM_CREATE_DB = 5,
     /// A schema is dropped.
     COM_DROP_DB = 6,

@@ -1,4 +1,4 @@
-//! What of a session's state has changed.
+//! The kinds of session state changes.
 
 ghost use Rattle.std.specs.Prelude.{◌≡◌};
 ghost use Rattle.mysql_wire.specs.Codes.{known_or};

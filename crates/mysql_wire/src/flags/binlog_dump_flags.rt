@@ -28,6 +28,8 @@ impl FlagWord<BinlogDumpNames, u16> {
 }
 
 impl FlagNames<u16> for BinlogDumpNames {
+    const NAME: &'static str = "BinlogDumpFlags";
+
     ghost table = { (codes "BINLOG_DUMP_NON_BLOCK", BINLOG_DUMP_NON_BLOCK) ∷ (codes "BINLOG_THROUGH_POSITION", BINLOG_THROUGH_POSITION) ∷ (codes "BINLOG_THROUGH_GTID", BINLOG_THROUGH_GTID) ∷ [] };
 
     fn flags<'a>() -> &'a [Flag<BinlogDumpFlags>] {

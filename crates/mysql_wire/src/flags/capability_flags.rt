@@ -1,4 +1,4 @@
-//! What a client and a server can do.
+//! The capabilities of a client and a server.
 
 ghost use Rattle.std.specs.Prelude.{[], ◌∷◌, codes};
 ghost use Rattle.mysql_wire.specs.FlagMasks.{CLIENT_LONG_PASSWORD, CLIENT_FOUND_ROWS, CLIENT_LONG_FLAG, CLIENT_CONNECT_WITH_DB, CLIENT_NO_SCHEMA, CLIENT_COMPRESS, CLIENT_ODBC, CLIENT_LOCAL_FILES, CLIENT_IGNORE_SPACE, CLIENT_PROTOCOL_41, CLIENT_INTERACTIVE, CLIENT_SSL, CLIENT_IGNORE_SIGPIPE, CLIENT_TRANSACTIONS, CLIENT_RESERVED, CLIENT_SECURE_CONNECTION, CLIENT_MULTI_STATEMENTS, CLIENT_MULTI_RESULTS, CLIENT_PS_MULTI_RESULTS, CLIENT_PLUGIN_AUTH, CLIENT_CONNECT_ATTRS, CLIENT_PLUGIN_AUTH_LENENC_CLIENT_DATA, CLIENT_CAN_HANDLE_EXPIRED_PASSWORDS, CLIENT_SESSION_TRACK, CLIENT_DEPRECATE_EOF, CLIENT_OPTIONAL_RESULTSET_METADATA, CLIENT_ZSTD_COMPRESSION_ALGORITHM, CLIENT_QUERY_ATTRIBUTES, MULTI_FACTOR_AUTHENTICATION, CLIENT_PROGRESS_OBSOLETE, CLIENT_SSL_VERIFY_SERVER_CERT, CLIENT_REMEMBER_OPTIONS};
@@ -26,19 +26,19 @@ impl FlagWord<CapabilityNames, u32> {
     /// The client names a database when it connects.
     pub const CLIENT_CONNECT_WITH_DB: CapabilityFlags = FlagWord(1 << 3, PhantomData);
 
-    /// `database.table.column` is refused.
+    /// Rejects `database.table.column`.
     pub const CLIENT_NO_SCHEMA: CapabilityFlags = FlagWord(1 << 4, PhantomData);
 
     /// Packets are compressed with zlib.
     pub const CLIENT_COMPRESS: CapabilityFlags = FlagWord(1 << 5, PhantomData);
 
-    /// The client is an ODBC driver. Servers look at it no more.
+    /// The client is an ODBC driver. Servers ignore it.
     pub const CLIENT_ODBC: CapabilityFlags = FlagWord(1 << 6, PhantomData);
 
-    /// The client answers requests for local files.
+    /// The client supports `LOAD DATA LOCAL INFILE`.
     pub const CLIENT_LOCAL_FILES: CapabilityFlags = FlagWord(1 << 7, PhantomData);
 
-    /// Spaces may stand before a `(`.
+    /// Spaces before a `(` are ignored.
     pub const CLIENT_IGNORE_SPACE: CapabilityFlags = FlagWord(1 << 8, PhantomData);
 
     /// The protocol of MySQL 4.1 and later.
@@ -59,16 +59,16 @@ impl FlagWord<CapabilityNames, u32> {
     /// Reserved: the protocol of MySQL 4.1, by its old number.
     pub const CLIENT_RESERVED: CapabilityFlags = FlagWord(1 << 14, PhantomData);
 
-    /// A scramble of 20 bytes; the answer to it has a length in front.
+    /// Authentication with a scramble of 20 bytes; the client's response has a length in front.
     pub const CLIENT_SECURE_CONNECTION: CapabilityFlags = FlagWord(1 << 15, PhantomData);
 
     /// A query may hold several statements.
     pub const CLIENT_MULTI_STATEMENTS: CapabilityFlags = FlagWord(1 << 16, PhantomData);
 
-    /// A query may be answered by several results.
+    /// A query may return several results.
     pub const CLIENT_MULTI_RESULTS: CapabilityFlags = FlagWord(1 << 17, PhantomData);
 
-    /// An execution may be answered by several results.
+    /// An execution may return several results.
     pub const CLIENT_PS_MULTI_RESULTS: CapabilityFlags = FlagWord(1 << 18, PhantomData);
 
     /// Authentication by named plugins.
@@ -77,7 +77,7 @@ impl FlagWord<CapabilityNames, u32> {
     /// The client sends attributes when it connects.
     pub const CLIENT_CONNECT_ATTRS: CapabilityFlags = FlagWord(1 << 20, PhantomData);
 
-    /// The length of the answer to the scramble is a length-encoded number.
+    /// The length of the authentication response is a length-encoded integer.
     pub const CLIENT_PLUGIN_AUTH_LENENC_CLIENT_DATA: CapabilityFlags = FlagWord(
         1 << 21,
         PhantomData,
@@ -118,6 +118,8 @@ impl FlagWord<CapabilityNames, u32> {
 }
 
 impl FlagNames<u32> for CapabilityNames {
+    const NAME: &'static str = "CapabilityFlags";
+
     ghost table = { (codes "CLIENT_LONG_PASSWORD", CLIENT_LONG_PASSWORD) ∷ (codes "CLIENT_FOUND_ROWS", CLIENT_FOUND_ROWS) ∷ (codes "CLIENT_LONG_FLAG", CLIENT_LONG_FLAG) ∷ (codes "CLIENT_CONNECT_WITH_DB", CLIENT_CONNECT_WITH_DB) ∷ (codes "CLIENT_NO_SCHEMA", CLIENT_NO_SCHEMA) ∷ (codes "CLIENT_COMPRESS", CLIENT_COMPRESS) ∷ (codes "CLIENT_ODBC", CLIENT_ODBC) ∷ (codes "CLIENT_LOCAL_FILES", CLIENT_LOCAL_FILES) ∷ (codes "CLIENT_IGNORE_SPACE", CLIENT_IGNORE_SPACE) ∷ (codes "CLIENT_PROTOCOL_41", CLIENT_PROTOCOL_41) ∷ (codes "CLIENT_INTERACTIVE", CLIENT_INTERACTIVE) ∷ (codes "CLIENT_SSL", CLIENT_SSL) ∷ (codes "CLIENT_IGNORE_SIGPIPE", CLIENT_IGNORE_SIGPIPE) ∷ (codes "CLIENT_TRANSACTIONS", CLIENT_TRANSACTIONS) ∷ (codes "CLIENT_RESERVED", CLIENT_RESERVED) ∷ (codes "CLIENT_SECURE_CONNECTION", CLIENT_SECURE_CONNECTION) ∷ (codes "CLIENT_MULTI_STATEMENTS", CLIENT_MULTI_STATEMENTS) ∷ (codes "CLIENT_MULTI_RESULTS", CLIENT_MULTI_RESULTS) ∷ (codes "CLIENT_PS_MULTI_RESULTS", CLIENT_PS_MULTI_RESULTS) ∷ (codes "CLIENT_PLUGIN_AUTH", CLIENT_PLUGIN_AUTH) ∷ (codes "CLIENT_CONNECT_ATTRS", CLIENT_CONNECT_ATTRS) ∷ (codes "CLIENT_PLUGIN_AUTH_LENENC_CLIENT_DATA", CLIENT_PLUGIN_AUTH_LENENC_CLIENT_DATA) ∷ (codes "CLIENT_CAN_HANDLE_EXPIRED_PASSWORDS", CLIENT_CAN_HANDLE_EXPIRED_PASSWORDS) ∷ (codes "CLIENT_SESSION_TRACK", CLIENT_SESSION_TRACK) ∷ (codes "CLIENT_DEPRECATE_EOF", CLIENT_DEPRECATE_EOF) ∷ (codes "CLIENT_OPTIONAL_RESULTSET_METADATA", CLIENT_OPTIONAL_RESULTSET_METADATA) ∷ (codes "CLIENT_ZSTD_COMPRESSION_ALGORITHM", CLIENT_ZSTD_COMPRESSION_ALGORITHM) ∷ (codes "CLIENT_QUERY_ATTRIBUTES", CLIENT_QUERY_ATTRIBUTES) ∷ (codes "MULTI_FACTOR_AUTHENTICATION", MULTI_FACTOR_AUTHENTICATION) ∷ (codes "CLIENT_PROGRESS_OBSOLETE", CLIENT_PROGRESS_OBSOLETE) ∷ (codes "CLIENT_SSL_VERIFY_SERVER_CERT", CLIENT_SSL_VERIFY_SERVER_CERT) ∷ (codes "CLIENT_REMEMBER_OPTIONS", CLIENT_REMEMBER_OPTIONS) ∷ [] };
 
     fn flags<'a>() -> &'a [Flag<CapabilityFlags>] {

@@ -1,4 +1,4 @@
-//! What holds of the values of a column.
+//! The attributes of a column.
 
 ghost use Rattle.std.specs.Prelude.{[], ◌∷◌, codes};
 ghost use Rattle.mysql_wire.specs.FlagMasks.{NOT_NULL_FLAG, PRI_KEY_FLAG, UNIQUE_KEY_FLAG, MULTIPLE_KEY_FLAG, BLOB_FLAG, UNSIGNED_FLAG, ZEROFILL_FLAG, BINARY_FLAG, ENUM_FLAG, AUTO_INCREMENT_FLAG, TIMESTAMP_FLAG, SET_FLAG, NO_DEFAULT_VALUE_FLAG, ON_UPDATE_NOW_FLAG, PART_KEY_FLAG, NUM_FLAG};
@@ -67,6 +67,8 @@ impl FlagWord<ColumnFlagNames, u16> {
 }
 
 impl FlagNames<u16> for ColumnFlagNames {
+    const NAME: &'static str = "ColumnFlags";
+
     ghost table = { (codes "NOT_NULL_FLAG", NOT_NULL_FLAG) ∷ (codes "PRI_KEY_FLAG", PRI_KEY_FLAG) ∷ (codes "UNIQUE_KEY_FLAG", UNIQUE_KEY_FLAG) ∷ (codes "MULTIPLE_KEY_FLAG", MULTIPLE_KEY_FLAG) ∷ (codes "BLOB_FLAG", BLOB_FLAG) ∷ (codes "UNSIGNED_FLAG", UNSIGNED_FLAG) ∷ (codes "ZEROFILL_FLAG", ZEROFILL_FLAG) ∷ (codes "BINARY_FLAG", BINARY_FLAG) ∷ (codes "ENUM_FLAG", ENUM_FLAG) ∷ (codes "AUTO_INCREMENT_FLAG", AUTO_INCREMENT_FLAG) ∷ (codes "TIMESTAMP_FLAG", TIMESTAMP_FLAG) ∷ (codes "SET_FLAG", SET_FLAG) ∷ (codes "NO_DEFAULT_VALUE_FLAG", NO_DEFAULT_VALUE_FLAG) ∷ (codes "ON_UPDATE_NOW_FLAG", ON_UPDATE_NOW_FLAG) ∷ (codes "PART_KEY_FLAG", PART_KEY_FLAG) ∷ (codes "NUM_FLAG", NUM_FLAG) ∷ [] };
 
     fn flags<'a>() -> &'a [Flag<ColumnFlags>] {

@@ -34,6 +34,8 @@ impl FlagWord<CursorNames, u8> {
 }
 
 impl FlagNames<u8> for CursorNames {
+    const NAME: &'static str = "CursorType";
+
     ghost table = { (codes "CURSOR_TYPE_NO_CURSOR", CURSOR_TYPE_NO_CURSOR) ∷ (codes "CURSOR_TYPE_READ_ONLY", CURSOR_TYPE_READ_ONLY) ∷ (codes "CURSOR_TYPE_FOR_UPDATE", CURSOR_TYPE_FOR_UPDATE) ∷ (codes "CURSOR_TYPE_SCROLLABLE", CURSOR_TYPE_SCROLLABLE) ∷ (codes "PARAMETER_COUNT_AVAILABLE", PARAMETER_COUNT_AVAILABLE) ∷ [] };
 
     fn flags<'a>() -> &'a [Flag<CursorType>] {

@@ -1,4 +1,4 @@
-//! What a MariaDB client and server can do.
+//! The extended capabilities of a MariaDB client and server.
 
 ghost use Rattle.std.specs.Prelude.{[], ◌∷◌, codes};
 ghost use Rattle.mysql_wire.specs.FlagMasks.{MARIADB_CLIENT_PROGRESS, MARIADB_CLIENT_COM_MULTI, MARIADB_CLIENT_STMT_BULK_OPERATIONS, MARIADB_CLIENT_EXTENDED_METADATA, MARIADB_CLIENT_CACHE_METADATA, MARIADB_CLIENT_BULK_UNIT_RESULTS};
@@ -32,7 +32,7 @@ impl FlagWord<MariadbCapabilityNames, u32> {
     /// The columns of a result may be left out where the client has them.
     pub const MARIADB_CLIENT_CACHE_METADATA: MariadbCapabilities = FlagWord(1 << 4, PhantomData);
 
-    /// Each row of a bulk request may be answered with its own result.
+    /// Each row of a bulk request may have its own result.
     pub const MARIADB_CLIENT_BULK_UNIT_RESULTS: MariadbCapabilities = FlagWord(1 << 5, PhantomData);
 
     const FLAGS: &'static [Flag<MariadbCapabilities>] =
@@ -40,6 +40,8 @@ impl FlagWord<MariadbCapabilityNames, u32> {
 }
 
 impl FlagNames<u32> for MariadbCapabilityNames {
+    const NAME: &'static str = "MariadbCapabilities";
+
     ghost table = { (codes "MARIADB_CLIENT_PROGRESS", MARIADB_CLIENT_PROGRESS) ∷ (codes "MARIADB_CLIENT_COM_MULTI", MARIADB_CLIENT_COM_MULTI) ∷ (codes "MARIADB_CLIENT_STMT_BULK_OPERATIONS", MARIADB_CLIENT_STMT_BULK_OPERATIONS) ∷ (codes "MARIADB_CLIENT_EXTENDED_METADATA", MARIADB_CLIENT_EXTENDED_METADATA) ∷ (codes "MARIADB_CLIENT_CACHE_METADATA", MARIADB_CLIENT_CACHE_METADATA) ∷ (codes "MARIADB_CLIENT_BULK_UNIT_RESULTS", MARIADB_CLIENT_BULK_UNIT_RESULTS) ∷ [] };
 
     fn flags<'a>() -> &'a [Flag<MariadbCapabilities>] {

@@ -1,4 +1,4 @@
-//! How rows are sent and answered in bulk.
+//! The flags of a bulk execution.
 
 ghost use Rattle.std.specs.Prelude.{[], ◌∷◌, codes};
 ghost use Rattle.mysql_wire.specs.FlagMasks.{SEND_UNIT_RESULTS, SEND_TYPES_TO_SERVER};
@@ -10,11 +10,11 @@ use std::marker::PhantomData;
 /// The names of [`StmtBulkExecuteFlags`].
 pub struct StmtBulkExecuteNames;
 
-/// `COM_STMT_BULK_EXECUTE`'s flags: how rows are sent and answered, in two bytes.
+/// The flags of `COM_STMT_BULK_EXECUTE`, in two bytes.
 pub type StmtBulkExecuteFlags = FlagWord<StmtBulkExecuteNames, u16>;
 
 impl FlagWord<StmtBulkExecuteNames, u16> {
-    /// Each row is answered with its own result.
+    /// Each row has its own result.
     pub const SEND_UNIT_RESULTS: StmtBulkExecuteFlags = FlagWord(1 << 6, PhantomData);
 
     /// The types of the parameters are sent too.
@@ -25,6 +25,8 @@ impl FlagWord<StmtBulkExecuteNames, u16> {
 }
 
 impl FlagNames<u16> for StmtBulkExecuteNames {
+    const NAME: &'static str = "StmtBulkExecuteFlags";
+
     ghost table = { (codes "SEND_UNIT_RESULTS", SEND_UNIT_RESULTS) ∷ (codes "SEND_TYPES_TO_SERVER", SEND_TYPES_TO_SERVER) ∷ [] };
 
     fn flags<'a>() -> &'a [Flag<StmtBulkExecuteFlags>] {

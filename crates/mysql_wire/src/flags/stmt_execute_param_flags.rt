@@ -1,4 +1,4 @@
-//! What holds of one parameter of a statement.
+//! The flags of one parameter of a statement.
 
 ghost use Rattle.std.specs.Prelude.{[], ◌∷◌, codes};
 ghost use Rattle.mysql_wire.specs.FlagMasks.{UNSIGNED};
@@ -10,7 +10,7 @@ use std::marker::PhantomData;
 /// The names of [`StmtExecuteParamFlags`].
 pub struct StmtExecuteParamNames;
 
-/// What holds of one parameter of a statement, in the byte after its type.
+/// The flags of one parameter of a statement, in the byte after its type.
 pub type StmtExecuteParamFlags = FlagWord<StmtExecuteParamNames, u8>;
 
 impl FlagWord<StmtExecuteParamNames, u8> {
@@ -22,6 +22,8 @@ impl FlagWord<StmtExecuteParamNames, u8> {
 }
 
 impl FlagNames<u8> for StmtExecuteParamNames {
+    const NAME: &'static str = "StmtExecuteParamFlags";
+
     ghost table = { (codes "UNSIGNED", UNSIGNED) ∷ [] };
 
     fn flags<'a>() -> &'a [Flag<StmtExecuteParamFlags>] {

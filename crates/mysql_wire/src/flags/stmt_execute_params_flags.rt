@@ -22,6 +22,8 @@ impl FlagWord<StmtExecuteParamsNames, u8> {
 }
 
 impl FlagNames<u8> for StmtExecuteParamsNames {
+    const NAME: &'static str = "StmtExecuteParamsFlags";
+
     ghost table = { (codes "NEW_PARAMS_BOUND", NEW_PARAMS_BOUND) ∷ [] };
 
     fn flags<'a>() -> &'a [Flag<StmtExecuteParamsFlags>] {

@@ -1,4 +1,4 @@
-//! What is written of a byte string is read again.
+//! Round trips of byte strings.
 
 ghost use Rattle.std.specs.Prelude.{◌≡◌, ◌^◌, ◌<◌, ◌≤◌, ◌++◌, [], length, take, ℕ, List};
 ghost use Rattle.mysql_wire.specs.Bare.{bare};
@@ -10,27 +10,25 @@ ghost use Rattle.mysql_wire.specs.Spelling.{IsSpelling};
 
 use crate::const_bytes::{ConstBytes, ConstBytesValue};
 
-/// A content without a zero is read again in front of the zero that ends it, whatever follows.
+/// A content without a zero is read again in front of the zero that ends it, whatever bytes follow.
 #[tactic(auto, using(crate::specs::BytesAgain::byte_strings_again))]
 pub fn null_string_round_trips()
     ensures { (content : List ℕ) → HasNoZero content → IsSpelling null_string content (null_bytes content) }
 {}
 
-/// A content of at most 255 bytes is read again after its count of one byte, whatever follows.
+/// A content of at most 255 bytes is read again after its count of one byte, whatever bytes follow.
 #[tactic(auto, using(crate::specs::BytesAgain::byte_strings_again))]
 pub fn u8_string_round_trips()
     ensures { (content : List ℕ) → length content < 2 ^ 8 → IsSpelling u8_string content (u8_string_bytes content) }
 {}
 
-/// A content of less than 2^32 bytes is read again after its count of four bytes, whatever
-/// follows.
+/// A content of less than 2^32 bytes is read again after its count of four bytes, whatever bytes follow.
 #[tactic(auto, using(crate::specs::BytesAgain::byte_strings_again))]
 pub fn u32_string_round_trips()
     ensures { (content : List ℕ) → length content < 2 ^ 32 → IsSpelling u32_string content (u32_string_bytes content) }
 {}
 
-/// A content that the form's limit lets through is read again where its length is handed in,
-/// whatever follows.
+/// A content within the encoding's limit is read back if its length is passed, whatever bytes follow.
 #[tactic(auto, using(crate::specs::BytesAgain::byte_strings_again))]
 pub fn bare_string_round_trips()
     ensures { (most n : ℕ) (content : List ℕ) → length content ≡ n → n ≤ most → IsSpelling (bare n) content (take most content) }
@@ -42,13 +40,13 @@ pub fn rest_round_trips()
     ensures { (content : List ℕ) → all_left.Spells content (content ++ []) [] }
 {}
 
-/// An array is read again, whatever follows.
+/// An array is read again, whatever bytes follow.
 #[tactic(auto, using(crate::specs::BytesAgain::byte_strings_again))]
 pub fn array_round_trips()
     ensures { (n : ℕ) (content : List ℕ) → length content ≡ n → IsSpelling (bytes n) content content }
 {}
 
-/// A constant byte string is read again, whatever follows.
+/// A constant byte string is read again, whatever bytes follow.
 #[tactic(auto, using(crate::specs::BytesAgain::byte_strings_again))]
 pub fn const_bytes_round_trips<T: ConstBytesValue<LEN>, const LEN: usize>()
     ensures { (v : ConstBytes T LEN) → IsSpelling (const_bytes LEN T.VALUE) v T.VALUE }

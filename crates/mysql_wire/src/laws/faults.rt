@@ -1,4 +1,4 @@
-//! Which fault a reading answers where more than one thing is at fault.
+//! Which fault a reading returns if there are several.
 
 ghost use Rattle.std.specs.Prelude.{◌≡◌, ◌<◌, ◌∷◌, ◌++◌, length, ℕ, List, Err};
 ghost use Rattle.mysql_wire.specs.Form.{block};
@@ -8,8 +8,8 @@ ghost use Rattle.mysql_wire.specs.declared.fault.FaultKind.TheVariants.{InvalidD
 
 use crate::proto::MyDeserialize;
 
-/// Of one value and then another, whose reading may depend on the first: where the first has a fault, that is the
-/// answer; and else the second one's, on the bytes after the first.
+/// Of one value and then another, which may depend on the first: a fault of the first value is returned; otherwise, that of the
+/// second, on the bytes after the first.
 pub fn first_fault_comes_first<'de, A: MyDeserialize<'de>, B: MyDeserialize<'de>>()
     ensures first { (ctx : A.Ctx) (next : A → B.Ctx) (bytes : List ℕ) (fault : FaultKind) → (A.form ctx).reads bytes ≡ Err fault
         → then_reads (A.form ctx) (λ a. B.form (next a)) bytes ≡ Err fault }
@@ -17,8 +17,8 @@ pub fn first_fault_comes_first<'de, A: MyDeserialize<'de>, B: MyDeserialize<'de>
         → then_reads (A.form ctx) (λ a. B.form (next a)) bytes ≡ Err fault }
 {}
 
-/// A block that is short is `UnexpectedEof` before any field of it is looked at, and bytes of it that its fields leave
-/// are `InvalidData`.
+/// A block that is too short is `UnexpectedEof` before any of its fields is read, and bytes of the block after its fields are
+/// `InvalidData`.
 #[tactic(auto, using(crate::proofs::Blocks::block_faults))]
 pub fn block_faults<'de, T: MyDeserialize<'de>>()
     ensures short { (ctx : T.Ctx) (n : ℕ) (bytes : List ℕ) → length bytes < n → (block n (T.form ctx)).reads bytes ≡ Err UnexpectedEof }

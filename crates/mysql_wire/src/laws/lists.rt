@@ -1,4 +1,4 @@
-//! What is written of a list or of a number of varying length is read again.
+//! Round trips of lists and of numbers of variable length.
 
 ghost use Rattle.std.specs.Prelude.{◌^◌, ◌<◌, [], length, ℕ, List};
 ghost use Rattle.std.specs.List.{All, flat_map};
@@ -12,19 +12,19 @@ ghost use Rattle.mysql_wire.specs.Writing.{le_bytes};
 use crate::proto::{MyDeserialize, MySerialize};
 use crate::seq::SeqRepr;
 
-/// A number of varying length of up to 64 bits is read again, whatever follows.
+/// A number of varying length of up to 64 bits is read again, whatever bytes follow.
 #[tactic(auto, using(crate::specs::Varlen::Again::varlen_round_trips))]
 pub fn varlen_round_trips()
     ensures { (n : ℕ) → n < 2 ^ 64 → IsSpelling varlen n (varlen_bytes n) }
 {}
 
-/// A list whose count and whose values each are read again is read again, whatever follows.
+/// A list whose count and whose values each are read again is read again, whatever bytes follow.
 pub fn list_round_trips<'de, T: MyDeserialize<'de, Ctx = ()> + MySerialize, L: SeqRepr>()
     ensures { (ctx : L.Ctx) (xs : List T) → IsSpelling (L.form ctx) (length xs) (L.written (length xs)) → All (λ x. IsSpelling (T.form tt) x (T.bytes x)) xs
         → IsSpelling (seq (L.form ctx) (T.form tt)) xs (seq_bytes L.written T.bytes xs) }
 {}
 
-/// A count of eight bytes is read again, whatever follows.
+/// A count of eight bytes is read again, whatever bytes follow.
 #[tactic(auto, using(crate::specs::ListAgain::lists_again))]
 pub fn count_round_trips()
     ensures { (n : ℕ) → n < 2 ^ 64 → IsSpelling (number_of le_u64) n (le_bytes 8 n) }

@@ -48,7 +48,7 @@ pub fn show_built(out: &mut Out, built: Result<ComStmtBulkExecuteRequest, Refusa
 }
 
 /// Adds what a call answered that adds a copy of a row.
-pub fn show_copied(out: &mut Out, answer: Result<bool, BulkRowRefusal>) {
+pub fn show_copied(out: &mut Out, answer: Result<bool, BulkRowError>) {
     match answer {
         Ok(is_taken) => out.word(if is_taken { "taken" } else { "kept" }),
         Err(refusal) => {

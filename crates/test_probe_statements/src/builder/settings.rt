@@ -67,7 +67,7 @@ pub struct Given<'a> {
 }
 
 impl<'a> Given<'a> {
-    /// The builder with these settings, but for its declared types. A limit below 4 is 4.
+    /// The builder with these settings, except for its declared types. A limit below 4 is 4.
     fn without_types(self, alloc: Global, settings: &str) -> Builder<'a>
         ensures { result.waiting ≡ [] }
     {

@@ -1,12 +1,12 @@
 use Rattle.std.proofs.Common.{◌≡◌, ◌∙◌, Some, refl, ap, subst}
 use Rattle.mysql_conversation.specs.ConversationState.{TakenAt}
-use Rattle.mysql_conversation.specs.declared.kind.Opening.{Opening}
-use Rattle.mysql_conversation.specs.declared.kind.Opening.TheVariants.{Login, Commands}
+use Rattle.mysql_conversation.specs.declared.packet_kind.InitialPhase.{InitialPhase}
+use Rattle.mysql_conversation.specs.declared.packet_kind.InitialPhase.TheVariants.{Login, Commands}
 use Rattle.mysql_packets_c.specs.Conversation.{number_of, opening_of}
 use Rattle.mysql_packets_c.proofs.conversation.keep.Goals as goal
 
 -- the opening is that of its number
-opening-again : (o : Opening) → opening_of (number_of o) ≡ Some o
+opening-again : (o : InitialPhase) → opening_of (number_of o) ≡ Some o
 opening-again Login = refl
 opening-again Commands = refl
 

@@ -1,5 +1,5 @@
 use Rattle.std.proofs.Common.{◌≡◌, ◌⊎◌, rules}
-use Rattle.mysql_conversation.specs.declared.kind.Side.TheVariants as side
+use Rattle.mysql_conversation.specs.declared.packet_kind.Side.TheVariants as side
 use Rattle.mysql_recorder.proofs.Lines.{begins_signed, begins_bare}
 use Rattle.mysql_recorder.proofs.line.begun_by.Goals as goal
 

@@ -2,8 +2,8 @@ use Rattle.std.proofs.Common.{◌≡◌, ◌+◌, ◌<◌, List, Ok, Err, length
 use Rattle.std.proofs.lemmas.Result.{IfErr-at_err}
 use Rattle.std.specs.Cow.{cow_slice_items}
 use Rattle.mysql_conversation.specs.Pipelined.{Numbered}
-use Rattle.mysql_conversation.specs.declared.kind_name.TheConstants.KindName.{ALL}
-use Rattle.mysql_conversation.specs.declared.pipeline.Refusal.{Refusal}
+use Rattle.mysql_conversation.specs.declared.packet_kind_tag.TheConstants.PacketKindTag.{ALL}
+use Rattle.mysql_conversation.specs.declared.pipeline.SessionError.{SessionError}
 use Rattle.mysql_recorder.specs.Followed.{IsFollowed}
 use Rattle.mysql_recorder.specs.Frames.{IsNumbered}
 use Rattle.mysql_recorder.specs.Refused.{ShowsRefused}
@@ -21,7 +21,7 @@ use Rattle.mysql_recorder.proofs.piece.read_packets.Goals as goal
 
 pub packets-smaller : goal.packets-smaller
 packets-smaller c =
-    subst (λ s. length s.reader.held + length c.next.new.input.now < length c.packets.stream.reader.held + length c.packets.input.now) (sym c.give_back.ensures)
+    subst (λ s. length s.reader.held + length c.next.new.input.now < length c.packets.stream.reader.held + length c.packets.input.now) (sym c.recycle.ensures)
     (packets_less c.packets.stream.reader c.next.new.self.reader c.packets.input.now (cow_slice_items c.in-Ok-Some.sent.payload) c.next.new.input.now (rw c.in-Ok-Some.field-0-is at c.in-Ok-Some.ensures.payload))
 
 shows : (c : goal.In-Ok-Shown) (xs : List Numbered) → IsFollowed c.packets.packets.followed xs
@@ -34,18 +34,18 @@ shows c =
 
 pub packets-preserved : goal.packets-preserved
 packets-preserved c = record {
-  passed = ap (λ s. s.passed) c.give_back.ensures ∙ c.in-Ok-Some.ensures.passed ∙ c.packets.invariant.passed;
+  passed = ap (λ s. s.passed) c.recycle.ensures ∙ c.in-Ok-Some.ensures.passed ∙ c.packets.invariant.passed;
   layout = c.take-taken.ensures.layout ∙ c.packets.invariant.layout;
   may_wait = c.take-taken.ensures.may_wait ∙ c.packets.invariant.may_wait;
   deciphered = c.take-taken.ensures.deciphered ∙ c.packets.invariant.deciphered;
   sums = c.take-taken.ensures.sums ∙ c.packets.invariant.sums;
   stays = stays_then (string_bytes c.args.out.now) (string_bytes c.packets.out) (string_bytes c.take-taken.new.out) c.packets.invariant.stays (rw c.in-Ok-Shown.is at c.take-taken.ensures.stays);
-  numbered = λ n. subst (λ s. IsNumbered s.reader) (sym c.give_back.ensures)
+  numbered = λ n. subst (λ s. IsNumbered s.reader) (sym c.recycle.ensures)
       (handed_numbered c.packets.stream.reader c.next.new.self.reader c.packets.input.now (cow_slice_items c.in-Ok-Some.sent.payload) c.next.new.input.now (rw c.in-Ok-Some.field-0-is at c.in-Ok-Some.ensures.payload));
   reads = λ items h.
       let r = c.packets.invariant.reads items h in
       subst (λ s. (x : List Item) × Reads c.args.side c.args.piece.now c.next.new.input.now items x c.args.stream.now s c.args.packets.now c.take-taken.new.self (string_bytes c.args.out.now) (string_bytes c.take-taken.new.out))
-      (sym c.give_back.ensures)
+      (sym c.recycle.ensures)
       (reads_packet c.args.side c.args.piece.now c.packets.input.now c.next.new.input.now items r.0 c.args.stream.now c.packets.stream c.next.new.self c.args.packets.now c.packets.packets c.take-taken.new.self
       (string_bytes c.args.out.now) (string_bytes c.packets.out) (string_bytes c.take-taken.new.out) c.in-Ok-Some.sent.sequence c.as_slice.result.now r.1
       (rw c.as_slice.ensures.value (rw c.in-Ok-Some.field-0-is at c.in-Ok-Some.ensures.payload))
@@ -81,7 +81,7 @@ pub returns-in-Ok-Refused-clause-loses : goal.returns-in-Ok-Refused-clause-loses
 returns-in-Ok-Refused-clause-loses c = λ e items h.
     let r = c.packets.invariant.reads items h in
     let P : Type 0 = (xs : List Numbered) → IsFollowed c.packets.packets.followed xs
-    → (why : Refusal) × ShowsRefused ALL c.packets.packets.layout c.args.side c.in-Ok-Some.sent.sequence c.as_slice.result.now xs why (string_bytes c.packets.out) (string_bytes c.take-taken.new.out) in
+    → (why : SessionError) × ShowsRefused ALL c.packets.packets.layout c.args.side c.in-Ok-Some.sent.sequence c.as_slice.result.now xs why (string_bytes c.packets.out) (string_bytes c.take-taken.new.out) in
     let refused : c.take-taken.result ≡ Ok (taken_as.Refused c.in-Ok-Refused.agreed) = first_of (cc (c.in-Ok-Refused.is, c.in-Ok-Refused.field-0-is), search rules, grind (rules, c.in-Ok-Refused.is, c.in-Ok-Refused.field-0-is)) in
     loses_packet ALL c.args.side c.args.piece.now c.packets.input.now c.next.new.input.now items r.0 c.args.stream.now c.packets.stream c.next.new.self c.args.packets.now c.packets.packets
     (string_bytes c.args.out.now) (string_bytes c.packets.out) (string_bytes c.take-taken.new.out) c.in-Ok-Some.sent.sequence c.as_slice.result.now r.1

@@ -1,5 +1,5 @@
 use Rattle.std.proofs.Common.{◌≡◌, ◌+◌, List, is_some, length, string_bytes}
-use Rattle.mysql_fields.specs.Entries.{Stays}
+use Rattle.mysql_show.specs.Appended.{Stays}
 use Rattle.mysql_recorder.specs.Followed.{may_wait}
 use Rattle.mysql_recorder.specs.Frames.{IsNumbered}
 use Rattle.mysql_recorder.specs.Shown.{Item}

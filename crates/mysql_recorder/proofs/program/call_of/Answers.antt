@@ -1,5 +1,5 @@
 use Rattle.std.proofs.Common.{◌≡◌, ◌∙◌, ◌+◌, ◌<◌, ℕ, sym, ap, List, ◌∷◌, length, drop, get_or, map, Some, None, true, arith, string_bytes, String, Global}
-use Rattle.mysql_fields.specs.declared.entry.Layout.TheVariants.{Json}
+use Rattle.mysql_recorder.specs.declared.entry.Layout.TheVariants.{Json}
 use Rattle.mysql_recorder.specs.Calls.{asked_after, nothing_asked}
 use Rattle.mysql_recorder.proofs.Calls.{next_of, goes_json, goes_sum, goes_deciphered, caps_to, mariadb_to, longest_to, good, bad_word, too_many, state_is, ended, length_map, number_given}
 use Rattle.mysql_recorder.proofs.program.call_of.Goals as goal

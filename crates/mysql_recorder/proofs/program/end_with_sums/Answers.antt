@@ -6,4 +6,4 @@ pub returns-clause-ends : goal.returns-clause-ends
 returns-clause-ends g c = none_written c.args.sums c.args.status (g.W.Write.contents c.args.writer.now)
 
 pub returns-then-sums-clause-sums : goal.returns-then-sums-clause-sums
-returns-then-sums-clause-sums g c = λ asked has. inr c.end-in-Err.ensures
+returns-then-sums-clause-sums g c = λ asked has. inr c.refuse_memory.ensures

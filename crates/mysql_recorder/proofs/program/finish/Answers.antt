@@ -1,5 +1,5 @@
 use Rattle.std.proofs.Common.{string_bytes}
-use Rattle.mysql_conversation.specs.declared.kind_name.TheConstants.KindName.{ALL}
+use Rattle.mysql_conversation.specs.declared.packet_kind_tag.TheConstants.PacketKindTag.{ALL}
 use Rattle.mysql_recorder.specs.Answers.{Ends}
 use Rattle.mysql_recorder.proofs.Written.{end_done, end_fails, end_refused, ends_of}
 use Rattle.mysql_recorder.proofs.program.finish.Goals as goal

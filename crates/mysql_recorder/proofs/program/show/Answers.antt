@@ -1,6 +1,6 @@
 use Rattle.std.proofs.Common.{refl, rules}
 use Rattle.std.proofs.KnownBytes.{Keeps-refl}
-use Rattle.mysql_conversation.specs.declared.kind_name.TheConstants.KindName.{ALL}
+use Rattle.mysql_conversation.specs.declared.packet_kind_tag.TheConstants.PacketKindTag.{ALL}
 use Rattle.mysql_recorder.proofs.Fed.{end_answered, fed_more, fed_none, no_more_read, piece_answered}
 use Rattle.mysql_recorder.proofs.program.show.Goals as goal
 

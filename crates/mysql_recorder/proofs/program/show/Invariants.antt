@@ -1,5 +1,5 @@
 use Rattle.std.proofs.Common.{[]}
-use Rattle.mysql_conversation.specs.declared.kind_name.TheConstants.KindName.{ALL}
+use Rattle.mysql_conversation.specs.declared.packet_kind_tag.TheConstants.PacketKindTag.{ALL}
 use Rattle.mysql_recorder.specs.Recorded.{Recorded, longest}
 use Rattle.mysql_recorder.proofs.Fed.{IsFed}
 use Rattle.mysql_recorder.proofs.program.show.Given as goal

@@ -1,7 +1,7 @@
 use Rattle.std.proofs.Common.{[], inl, inr, refl, subst, string_bytes}
 use Rattle.std.proofs.KnownBytes.{Appends-nil}
 use Rattle.mysql_recorder.specs.Answers.{memory_line}
-use Rattle.mysql_output.specs.Output.{IsFront}
+use Rattle.mysql_show.specs.Output.{IsFront}
 use Rattle.mysql_recorder.proofs.Fed.{says_name, says_none}
 use Rattle.mysql_recorder.proofs.program.write_error.Goals as goal
 

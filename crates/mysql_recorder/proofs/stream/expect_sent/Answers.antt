@@ -3,5 +3,5 @@ use Rattle.mysql_recorder.proofs.stream.expect_sent.Goals as goal
 
 pub returns : goal.returns
 returns c =
-    let found = c.expect_as_sent.ensures in
+    let found = c.resync_sequence.ensures in
     sent-number _ _ _ found.held found.number found.same found.limit

@@ -1,5 +1,5 @@
 use Rattle.std.proofs.Common.{map, refl, inl}
-use Rattle.mysql_bulk.specs.declared.error.BulkRowRefusal.TheVariants.{TooLarge}
+use Rattle.mysql_bulk.specs.declared.error.BulkRowError.TheVariants.{TooLarge}
 use Rattle.mysql_bulk.specs.BulkValue.{cell_of}
 use Rattle.mysql_bulk.specs.ValuesRun.{Offered, OfferRefused, bytes_of}
 use Rattle.mysql_bulk.proofs.ValuesRun.{again_kept, again_refused, again_taken, answered_err, answered_ok}

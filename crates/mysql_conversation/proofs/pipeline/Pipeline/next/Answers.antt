@@ -2,7 +2,7 @@ use Rattle.std.proofs.Common.{◌≡◌, Some, None, [], ◌∷◌, ◌++◌, sy
 use Rattle.std.specs.Prelude.{◌≢◌, ◌↔◌, Err}
 use Rattle.mysql_conversation.specs.Standing.{pipe_step}
 use Rattle.mysql_conversation.specs.Piped.{IsFull, stands, place}
-use Rattle.mysql_conversation.specs.declared.pipeline.Refusal.TheVariants as refusal
+use Rattle.mysql_conversation.specs.declared.pipeline.SessionError.TheVariants as refusal
 use Rattle.mysql_conversation.proofs.Places.{neither, only, server_is_never_full, unexpected_full}
 use Rattle.mysql_conversation.proofs.Stood.{pipe_comes, pipe_one_more, pipe_refused, run_stays, lift_ok, lift_err}
 use Rattle.mysql_conversation.proofs.pipeline.Pipeline.next.Goals as goal

@@ -1,6 +1,6 @@
 use Rattle.std.proofs.Common.{◌≡◌, ◌∙◌, subst, sym, ap, ◌++◌, [], ◌∷◌}
 use Rattle.mysql_conversation.specs.declared.session.Phase.TheVariants as phase
-use Rattle.mysql_conversation.specs.declared.pipeline.Refusal.TheVariants as refusal
+use Rattle.mysql_conversation.specs.declared.pipeline.SessionError.TheVariants as refusal
 use Rattle.mysql_conversation.proofs.Places.{neither, only}
 use Rattle.mysql_conversation.proofs.SessionAnswers.{on_err, same_commands, same_limit, ok_always, is_login, is_plain, not_encrypted, commands_is, no_compression, no_tls, sent_compressed, sent_tls, served_plain, server_asks_nothing, commands_full}
 use Rattle.mysql_conversation.specs.Piped.{place}

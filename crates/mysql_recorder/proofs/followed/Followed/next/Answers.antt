@@ -3,9 +3,9 @@ use Rattle.std.proofs.lemmas.Result.{err_from_is_err_and}
 use Rattle.mysql_conversation.specs.Piped.{place}
 use Rattle.mysql_conversation.specs.Pipelined.{Numbered}
 use Rattle.mysql_conversation.specs.Session.{IsSessionBeginning}
-use Rattle.mysql_conversation.specs.declared.kind.Kind.{Kind}
-use Rattle.mysql_conversation.specs.declared.pipeline.Refusal.{Refusal}
-use Rattle.mysql_conversation.specs.declared.pipeline.Refusal.TheVariants as refusal
+use Rattle.mysql_conversation.specs.declared.packet_kind.PacketKind.{PacketKind}
+use Rattle.mysql_conversation.specs.declared.pipeline.SessionError.{SessionError}
+use Rattle.mysql_conversation.specs.declared.pipeline.SessionError.TheVariants as refusal
 use Rattle.mysql_recorder.specs.Followed.{IsFollowed}
 use Rattle.mysql_recorder.proofs.Wholes.{highest_now}
 use Rattle.mysql_recorder.proofs.followed.Followed.next.Goals as goal
@@ -17,7 +17,7 @@ returns-clause-taken c = λ items h.
 
 pub returns-in_err-kind-clause-refused : goal.returns-in_err-kind-clause-refused
 returns-in_err-kind-clause-refused c =
-    let Q : Refusal → Type 0 = λ why. (items : List Numbered) (kind : Kind) (number : ℕ) → why ≡ refusal.Unexpected → IsFollowed c.args.self.now items
+    let Q : SessionError → Type 0 = λ why. (items : List Numbered) (kind : PacketKind) (number : ℕ) → why ≡ refusal.UnexpectedPacket → IsFollowed c.args.self.now items
     → IsSessionBeginning (items ++ place c.args.side c.args.payload.now kind number ∷ []) → ⊥ in
     let p = err_from_is_err_and c.from_residual.result c.from_residual.ensures.1 in
     let same : c.in_err-kind.field-0.0 ≡ p.0 = cc p.2 in

@@ -1,6 +1,6 @@
 use Rattle.std.proofs.Common.{[], ◌∷◌, ◌++◌, take, get_or, refl, sym, ap, subst, ◌∙◌, append_assoc, append-nil}
 use Rattle.std.proofs.lemmas.List.{take_more, take_all}
-use Rattle.mysql_conversation.specs.declared.kind_name.KindName.TheVariants.{Handshake}
+use Rattle.mysql_conversation.specs.declared.packet_kind_tag.PacketKindTag.TheVariants.{Handshake}
 use Rattle.mysql_recorder.specs.Refused.{expected_fields, AreExpected}
 use Rattle.mysql_recorder.proofs.Refused.{expected-append, expected_both}
 use Rattle.mysql_recorder.proofs.packets.Packets.append_expected.Goals as goal

@@ -1,6 +1,6 @@
 use Rattle.std.proofs.Common.{ap, ◌∙◌, codes, string_bytes}
-use Rattle.mysql_conversation.specs.declared.kind_name.TheConstants.KindName.{ALL}
-use Rattle.mysql_fields.specs.Fields.{said, Word}
+use Rattle.mysql_conversation.specs.declared.packet_kind_tag.TheConstants.PacketKindTag.{ALL}
+use Rattle.mysql_show.specs.Fields.{said, Word}
 use Rattle.mysql_recorder.proofs.Refused.{refused_fields_are, appends_refused}
 use Rattle.mysql_recorder.proofs.packets.Packets.show_refused.Goals as goal
 

@@ -8,5 +8,5 @@ returns-clause-recorded c = λ text items h. record {
   waits = h.waits;
   line = h.line;
   untaken = h.untaken;
-  stand = c.decipher.ensures.stand h.pieces items h.stand;
+  stand = c.tls_established.ensures.stand h.pieces items h.stand;
 }

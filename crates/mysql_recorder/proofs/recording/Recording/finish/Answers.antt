@@ -1,6 +1,6 @@
 use Rattle.std.proofs.Common.{◌≡◌, Ok, Err, IfErr, refl, sym, subst, string_bytes}
 use Rattle.std.proofs.lemmas.Result.{err_from_is_err_and}
-use Rattle.mysql_conversation.specs.declared.kind_name.TheConstants.KindName.{ALL}
+use Rattle.mysql_conversation.specs.declared.packet_kind_tag.TheConstants.PacketKindTag.{ALL}
 use Rattle.mysql_recorder.specs.Losses.{TextLoses}
 use Rattle.mysql_recorder.proofs.Losses.{end_loses, then_loses}
 use Rattle.mysql_recorder.proofs.Seen.{finishes}

@@ -1,5 +1,5 @@
 use Rattle.std.proofs.Common.{[], inl, refl, sym, ap}
-use Rattle.mysql_conversation.specs.declared.kind.Side.TheVariants as side
+use Rattle.mysql_conversation.specs.declared.packet_kind.Side.TheVariants as side
 use Rattle.mysql_recorder.specs.Lines.{heard}
 use Rattle.mysql_recorder.proofs.recording.Recording.new.Goals as goal
 

@@ -1,5 +1,5 @@
 use Rattle.std.proofs.Common.{◌≡◌, ℕ, List, [], ◌∷◌, Some, refl, ap, subst, ◌∙◌, string_bytes}
-use Rattle.mysql_conversation.specs.declared.kind_name.TheConstants.KindName.{ALL}
+use Rattle.mysql_conversation.specs.declared.packet_kind_tag.TheConstants.PacketKindTag.{ALL}
 use Rattle.mysql_recorder.specs.Lines.{Heard, Stands, Passes, StaysOf}
 use Rattle.mysql_recorder.specs.declared.line.Said.TheVariants as says
 use Rattle.mysql_recorder.specs.declared.recording.Recording.{Recording}

@@ -1,5 +1,5 @@
 use Rattle.std.proofs.Common.{false, ap, ◌∙◌, string_bytes}
-use Rattle.mysql_conversation.specs.declared.kind_name.TheConstants.KindName.{ALL}
+use Rattle.mysql_conversation.specs.declared.packet_kind_tag.TheConstants.PacketKindTag.{ALL}
 use Rattle.mysql_recorder.proofs.Goes.{takes_piece_on_ok}
 use Rattle.mysql_recorder.proofs.Losses.{line_loses}
 use Rattle.mysql_recorder.proofs.Stopped.{line_stops}

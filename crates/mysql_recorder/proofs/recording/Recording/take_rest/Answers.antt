@@ -1,5 +1,5 @@
 use Rattle.std.proofs.Common.{Ok, refl, string_bytes}
-use Rattle.mysql_conversation.specs.declared.kind_name.TheConstants.KindName.{ALL}
+use Rattle.mysql_conversation.specs.declared.packet_kind_tag.TheConstants.PacketKindTag.{ALL}
 use Rattle.mysql_recorder.proofs.Goes.{takes_on_ok, recorded_stays}
 use Rattle.mysql_recorder.proofs.Losses.{text_keeps, text_loses}
 use Rattle.mysql_recorder.proofs.Stopped.{text_stops}

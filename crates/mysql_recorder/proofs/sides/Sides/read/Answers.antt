@@ -1,5 +1,5 @@
 use Rattle.std.proofs.Common.{◌≢◌, IfOk, IfErr, refl, sym, subst, string_bytes}
-use Rattle.mysql_conversation.specs.declared.kind_name.TheConstants.KindName.{ALL}
+use Rattle.mysql_conversation.specs.declared.packet_kind_tag.TheConstants.PacketKindTag.{ALL}
 use Rattle.mysql_recorder.specs.Losses.{PieceLosesIn}
 use Rattle.mysql_recorder.specs.Stops.{PieceStops}
 use Rattle.mysql_recorder.specs.declared.piece.Came.TheVariants as came_as

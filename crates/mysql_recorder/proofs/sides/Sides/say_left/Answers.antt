@@ -1,5 +1,5 @@
 use Rattle.std.proofs.Common.{◌≡◌, ◌∙◌, ◌++◌, OnOk, sym, subst, string_bytes}
-use Rattle.mysql_recorder.proofs.Remarks.{is_told, left_is}
+use Rattle.mysql_recorder.proofs.Notices.{is_told, left_is}
 use Rattle.mysql_recorder.proofs.sides.Sides.say_left.Goals as goal
 
 pub returns-in-Some-clause-text : goal.returns-in-Some-clause-text

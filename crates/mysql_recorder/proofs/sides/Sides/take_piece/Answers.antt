@@ -1,5 +1,5 @@
 use Rattle.std.proofs.Common.{[], ◌∷◌, string_bytes}
-use Rattle.mysql_conversation.specs.declared.kind_name.TheConstants.KindName.{ALL}
+use Rattle.mysql_conversation.specs.declared.packet_kind_tag.TheConstants.PacketKindTag.{ALL}
 use Rattle.mysql_recorder.specs.Sides.{piece}
 use Rattle.mysql_recorder.proofs.Losses.{came_loses}
 use Rattle.mysql_recorder.proofs.Stopped.{goes_on_came, piece_never}

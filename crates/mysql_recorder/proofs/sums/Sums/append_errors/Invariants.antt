@@ -1,5 +1,5 @@
 use Rattle.std.proofs.Common.{string_bytes}
-use Rattle.mysql_fields.specs.Entries.{Stays}
+use Rattle.mysql_show.specs.Appended.{Stays}
 use Rattle.mysql_recorder.proofs.sums.Sums.append_errors.Given as goal
 
 abbrev pub invariant-loop-code : goal.invariant-loop-code

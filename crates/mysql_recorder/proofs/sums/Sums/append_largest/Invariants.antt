@@ -1,5 +1,5 @@
 use Rattle.std.proofs.Common.{string_bytes}
-use Rattle.mysql_fields.specs.Entries.{Stays}
+use Rattle.mysql_show.specs.Appended.{Stays}
 use Rattle.mysql_recorder.proofs.sums.Sums.append_largest.Given as goal
 
 abbrev pub invariant-loop-large : goal.invariant-loop-large

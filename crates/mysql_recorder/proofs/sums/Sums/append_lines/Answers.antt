@@ -1,6 +1,6 @@
 use Rattle.std.proofs.Common.{◌≡◌, ◌++◌, arith, refl, rules, string_bytes}
 use Rattle.std.proofs.lemmas.Grind.{common_steps}
-use Rattle.mysql_fields.proofs.Heads.{front-begins}
+use Rattle.mysql_recorder.proofs.Heads.{front-begins}
 use Rattle.mysql_recorder.specs.Sums.{count_line}
 use Rattle.mysql_recorder.proofs.sums.Sums.append_lines.Goals as goal
 

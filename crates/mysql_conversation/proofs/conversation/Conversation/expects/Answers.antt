@@ -1,8 +1,0 @@
-use Rattle.std.proofs.Common.{sym, ◌∙◌}
-use Rattle.mysql_conversation.proofs.GoesOn.{goes_on}
-use Rattle.mysql_conversation.proofs.conversation.Conversation.expects.Goals as goal
-
-pub returns : goal.returns
-returns c = λ items h.
-    let g = goes_on _ _ items _ c.args.from c.args.name h in
-    ((λ e. g.0 (sym c.expects.ensures ∙ e)), (λ k. c.expects.ensures ∙ g.1 k))

@@ -1,4 +1,0 @@
-pub mod Heads
-pub mod Objects
-pub mod Texts
-pub mod TextLines

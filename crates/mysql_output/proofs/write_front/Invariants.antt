@@ -1,6 +1,0 @@
-use Rattle.mysql_output.specs.Output.{IsCut}
-use Rattle.mysql_output.proofs.write_front.Given as goal
-
--- what was written so far is the front, and the rest is not
-abbrev pub invariant-loop : goal.invariant-loop
-invariant-loop g l = IsCut l.initial.text l.rest (g.W.Write.contents l.initial.writer) (g.W.Write.contents l.writer)

@@ -1,9 +1,0 @@
-use Rattle.std.proofs.Common.{◌≡◌, drop}
-use Rattle.mysql_bulk.specs.Row.{contents_of_rows}
-use Rattle.mysql_packets.specs.RowText.{rows_read, value_rows}
-use Rattle.mysql_packets.proofs.Rows.{prepended}
-use Rattle.mysql_packets.proofs.row_text.rows_of_values.Given as goal
-
--- the rows so far, and then those to come
-abbrev pub invariant-loop-row : goal.invariant-loop-row
-invariant-loop-row l = prepended (contents_of_rows l.values.items) (value_rows (rows_read (drop l.row-index l.rows))) ≡ value_rows (rows_read l.rows)

@@ -1,9 +1,0 @@
-use Rattle.std.proofs.Common.{◌≡◌, drop, map}
-use Rattle.mysql_values.specs.Value.{contents_of}
-use Rattle.mysql_packets.specs.RowText.{cell_read, values_in}
-use Rattle.mysql_packets.proofs.Rows.{prepended}
-use Rattle.mysql_packets.proofs.row_text.values_of_row.Given as goal
-
--- the values so far, and then those to come
-abbrev pub invariant-loop-cell : goal.invariant-loop-cell
-invariant-loop-cell l = prepended (contents_of l.values.items) (values_in (map cell_read (drop l.cell-index l.row))) ≡ values_in (map cell_read l.row)

@@ -1,0 +1,16 @@
+-- What is refused where a handshake has a fault.
+use Rattle.std.proofs.Common.{[], Bool}
+use Rattle.mysql_wire.specs.declared.fault.FaultOf.{FaultOf}
+use Rattle.mysql_wire.specs.declared.fault.FaultOf.TheVariants as fault
+use Rattle.mysql_wire.specs.Reading.{Reading, Faults}
+use Rattle.mysql_auth.specs.declared.handshake.HandshakePacket.{HandshakePacket}
+use Rattle.mysql_program.specs.Answer.{Answer, IsFaultRefusal}
+use Rattle.mysql_program.specs.HandshakeLines.{AnswersReading}
+
+pub refused_handshake : (takes_memory : Bool) (e : FaultOf) (read : Reading HandshakePacket) (answer : Answer) → Faults takes_memory e read → IsFaultRefusal [] e answer → AnswersReading read answer
+refused_handshake takes_memory fault.UnexpectedEof read answer e is = rw e is
+refused_handshake takes_memory (fault.InvalidData text) read answer e is = rw e is
+refused_handshake takes_memory (fault.InvalidInput text) read answer e is = rw e is
+refused_handshake takes_memory fault.Memory read answer e is = absurd is
+
+pub ruleset handshake_refusals = (refused_handshake)

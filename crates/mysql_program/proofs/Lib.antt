@@ -1,0 +1,12 @@
+pub mod Numerals
+pub mod Checked
+pub mod Words
+pub mod Refused
+pub mod OkRefused
+pub mod HandshakeRefused
+pub mod Decimals
+pub mod Inputs
+pub mod Rows
+pub mod Types
+pub mod BulkAnswers
+pub mod Calls

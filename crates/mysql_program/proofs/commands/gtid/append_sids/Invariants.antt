@@ -1,0 +1,8 @@
+use Rattle.std.proofs.Common.{◌≡◌, ◌++◌, drop, string_bytes}
+use Rattle.std.specs.List.{flat_map}
+use Rattle.mysql_program.specs.Gtid.{sid_line}
+use Rattle.mysql_program.proofs.commands.gtid.append_sids.Given as goal
+
+-- what is written, and then the lines of the sids to come
+abbrev pub invariant-loop-sid : goal.invariant-loop-sid
+invariant-loop-sid l = string_bytes l.out ++ flat_map sid_line (drop l.sid-index l.sids) ≡ string_bytes l.initial.out ++ flat_map sid_line l.sids

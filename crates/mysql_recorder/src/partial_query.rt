@@ -1,0 +1,44 @@
+//! A query whose attributes are malformed, as far as it can be read.
+
+use crate::values::{append_attributes, append_unread};
+use mysql_commands::{ComQueryRef, read_query_attributes};
+use mysql_conversation::PacketKind;
+use mysql_replies::SessionCapabilities;
+use mysql_show::Field;
+use mysql_wire::{CapabilityFlags, FaultOf, Flags, ParseBuf};
+use std::alloc::{AllocError, Global};
+
+/// The first byte of `COM_QUERY`.
+const QUERY: u8 = 0x03;
+
+/// Appends what can be read of a query that is refused: the attributes before the first that is malformed, and the bytes from there on, in
+/// which the text is.
+pub(crate) fn append_partial_query<'p>(
+    alloc: Global,
+    agreed: Option<SessionCapabilities>,
+    kind: PacketKind,
+    payload: &'p [u8],
+    fields: &mut Vec<Field<'p>>,
+) -> Result<(), AllocError> {
+    let Some(agreed) = agreed else {
+        return Ok(());
+    };
+    // (a query without attributes is never refused)
+    if kind != PacketKind::Command(QUERY)
+        || !agreed
+            .mysql
+            .contains(CapabilityFlags::CLIENT_QUERY_ATTRIBUTES)
+    {
+        return Ok(());
+    }
+    let read: Result<ComQueryRef<'p>, FaultOf<'_>> = ParseBuf::new(alloc, payload).parse(
+        agreed.mysql,
+    );
+    if read.is_ok() {
+        return Ok(());
+    }
+    match read_query_attributes(ParseBuf::new(alloc, payload)) {
+        Ok(attributes) => append_attributes(attributes, true, fields),
+        Err(_) => append_unread(&payload[payload.len().min(1)..], fields),
+    }
+}

@@ -1,0 +1,4 @@
+pub mod Objects
+pub mod Outputs
+pub mod Texts
+pub mod TextLines

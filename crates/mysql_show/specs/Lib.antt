@@ -1,0 +1,11 @@
+pub mod Appended
+pub mod Columns
+pub mod CommandName
+pub mod FieldObject
+pub mod FieldText
+pub mod Fields
+pub mod Floats
+pub mod Logins
+pub mod Output
+pub mod Replicas
+pub mod Replies

@@ -1,0 +1,28 @@
+//! Floats of the protocol, which are given by their bits.
+
+ghost use Rattle.std.specs.Prelude.{◌≡◌};
+ghost use Rattle.mysql_show.specs.Floats.{double_in, float_in};
+
+/// The number with these bits, which may be infinite, unless they are no number's.
+#[tactic(auto, using(std::proofs::lemmas::Float::not_nan_f64_bits))]
+pub(crate) fn double_of(bits: u64) -> Option<f64>
+    ensures value { result ≡ double_in bits }
+{
+    if bits % 0x8000_0000_0000_0000 <= 0x7ff0_0000_0000_0000 {
+        Some(f64::from_bits(bits))
+    } else {
+        None
+    }
+}
+
+/// The digits of a float of four bytes.
+#[tactic(auto, using(std::proofs::lemmas::Float::not_nan_f32_bits))]
+pub(crate) fn float_of(bits: u32) -> Option<f32>
+    ensures value { result ≡ float_in bits }
+{
+    if bits % 0x8000_0000 <= 0x7f80_0000 {
+        Some(f32::from_bits(bits))
+    } else {
+        None
+    }
+}

@@ -1,0 +1,100 @@
+//! Commands that came early, and wait.
+
+ghost use Rattle.std.specs.Prelude.{◌≡◌, IfOk, OnErr, IfSome, IfNone, IsTrue};
+ghost use Rattle.mysql_statements.specs.PipelinedCommands as spec;
+
+use crate::limits::PipelinedLimits;
+use crate::pipelined_command::PipelinedCommand;
+use std::alloc::{AllocError, Global};
+use std::collections::VecDeque;
+use std::marker::Model;
+
+/// Commands that precede the answers to earlier ones, until the server reaches them.
+///
+/// A table of [`Statements`](crate::Statements) is passed the packets of a conversation in its order: a pipelined command is
+/// kept here, and is passed on when the server reaches its exchange.
+///
+/// At most as many are kept as the limits say, and no memory is taken before the first.
+///
+/// ```
+/// let limits = StatementLimits {
+///     statements: 100,
+///     types: 10_000, // of parameters and columns, of all statements
+/// };
+/// let pipelined = PipelinedLimits {
+///     commands: 16,
+///     bytes: 1 << 16, // of one command
+/// };
+/// (
+///     Statements::new(alloc, limits),
+///     PipelinedCommands::new(alloc, pipelined),
+/// )
+/// ```
+#[derive(Drop)]
+pub struct PipelinedCommands {
+    alloc: Global,
+    limits: PipelinedLimits,
+    commands: VecDeque<PipelinedCommand>,
+}
+
+impl Model for PipelinedCommands {
+    ghost use Rattle.mysql_statements.specs.PipelinedCommands.{Queue};
+
+    ghost Value = { Queue };
+
+    ghost view = { λ q. record { limits = q.limits; commands = q.commands.items } };
+}
+
+impl PipelinedCommands {
+    /// One in which no command waits.
+    pub fn new(alloc: Global, limits: PipelinedLimits) -> Self
+        ensures value { result ≡ spec.none_waits limits }
+    {
+        PipelinedCommands {
+            alloc,
+            limits,
+            commands: VecDeque::new(alloc),
+        }
+    }
+
+    /// The number of commands that wait.
+    pub fn len(&self) -> usize
+        ensures value { result ≡ spec.waiting self.now }
+    {
+        self.commands.len()
+    }
+
+    /// Keeps a pipelined command, with the number of its exchange. If the limit is reached, or it is too long, it isn't kept,
+    /// and the result is `false`. `Memory` if the copy can't be allocated.
+    pub fn hold(&mut self, number: u64, payload: &[u8]) -> Result<bool, AllocError>
+        ensures held { IfOk result (λ is_held. (is_held ≡ spec.has_place self.old payload.now) × (self.new ≡ spec.held number payload.now self.old)) }
+        ensures asked { OnErr result (IsTrue (spec.has_place self.old payload.now)) }
+        ensures err { OnErr result (self.new ≡ self.old) }
+    {
+        if self.commands.len() >= self.limits.commands || payload.len() > self.limits.bytes {
+            return Ok(false);
+        }
+        let command = PipelinedCommand::copied(self.alloc, number, payload)?;
+        if self.commands.push_back(command).is_err() {
+            return Err(AllocError);
+        }
+        Ok(true)
+    }
+
+    /// Returns the first command that waits, if the server has reached the exchange with that number: the command's own, or a
+    /// later one.
+    pub fn serve(&mut self, number: u64) -> Option<PipelinedCommand>
+        ensures some { IfSome result (λ command. spec.Serves number self.old command self.new) }
+        ensures none { IfNone result ((self.new ≡ self.old) × spec.FirstIsLater number self.old.commands) }
+    {
+        match self.commands.front() {
+            Some(command) => {
+                if command.number() > number {
+                    return None;
+                }
+            }
+            None => return None,
+        }
+        self.commands.pop_front()
+    }
+}

@@ -1,0 +1,135 @@
+//! The columns of the result that came last.
+
+ghost use Rattle.std.specs.Prelude.{◌≡◌, IfSome, IfNone, OnOk, OnErr, IsTrue, Some, None, true, false};
+ghost use Rattle.mysql_conversation.specs.declared.packet_kind.PacketKind.TheVariants as kinds;
+ghost use Rattle.mysql_statements.specs.ResultColumns as spec;
+
+use crate::packets::column_at;
+use crate::row_column::RowColumn;
+use mysql_conversation::PacketKind;
+use mysql_replies::SessionCapabilities;
+use std::alloc::{AllocError, Global};
+use std::marker::Model;
+
+/// The type and the sign of each column of the result that came last, by its own definitions: values of a row of text are converted by them.
+///
+/// It is passed each packet of the server, in order ([`take`](Self::take)). Definitions in the answer to a preparation belong
+/// to no result. At most as many columns are kept as the limit says.
+///
+/// ```
+/// columns.take(agreed, kind, payload)?;
+/// Ok(columns.columns().is_some())
+/// ```
+#[derive(Drop)]
+pub struct ResultColumns {
+    alloc: Global,
+    limit: usize,
+    left: Option<u64>,
+    columns: Vec<RowColumn>,
+}
+
+impl Model for ResultColumns {
+    ghost use Rattle.mysql_statements.specs.ResultColumns.{ResultColumns as Columns};
+
+    ghost Value = { Columns };
+
+    ghost view = { λ r. record { limit = r.limit; left = r.left; columns = r.columns.items } };
+}
+
+impl ResultColumns {
+    /// Creates one before the first result. Of a result with more than `limit` columns none is kept.
+    pub fn new(alloc: Global, limit: usize) -> Self
+        ensures value { result ≡ spec.unknown limit }
+    {
+        ResultColumns {
+            alloc,
+            limit,
+            left: None,
+            columns: Vec::new(alloc),
+        }
+    }
+
+    /// Returns the columns, in order, if all of their definitions came and are kept.
+    pub fn columns(&self) -> Option<&[RowColumn]>
+        ensures some { IfSome result (λ columns. spec.known self.now ≡ Some columns.now) }
+        ensures none { IfNone result (spec.known self.now ≡ None) }
+    {
+        match self.left {
+            Some(0) => Some(self.columns.as_slice()),
+            _ => None,
+        }
+    }
+
+    /// Forgets the result.
+    pub fn forget(&mut self)
+        ensures { self.new ≡ spec.unknown self.old.limit }
+    {
+        self.left = None;
+        self.columns.clear();
+    }
+
+    /// Takes a packet of this kind, the server's next one.
+    ///
+    /// If there is no memory for a column, no column of the result is known.
+    #[inline]
+    pub fn take(
+        &mut self,
+        agreed: SessionCapabilities,
+        kind: PacketKind,
+        payload: &[u8],
+    ) -> Result<(), AllocError>
+        ensures taken { OnOk result (self.new ≡ spec.after true agreed kind payload.now self.old) }
+        ensures memory { OnErr result (self.new ≡ spec.after false agreed kind payload.now self.old) }
+        // Memory is asked for alone where a column is kept.
+        ensures asked { OnErr result (IsTrue (spec.takes_memory agreed kind payload.now self.old)) }
+    {
+        match kind {
+            PacketKind::ColumnCount(count, follow) => {
+                self.begin(count, follow);
+                Ok(())
+            }
+            PacketKind::Column => self.define(agreed, payload),
+            PacketKind::PrepareOk(_, _, _) | PacketKind::Error => {
+                self.forget();
+                Ok(())
+            }
+            _ => Ok(()),
+        }
+    }
+
+    /// A result of a given number of columns, whose definitions follow or not.
+    #[inline(never)]
+    fn begin(&mut self, count: u64, follow: bool)
+        ensures { self.new ≡ spec.begun count follow self.old }
+    {
+        self.forget();
+        if follow && count <= self.limit as u64 {
+            self.left = Some(count);
+        }
+    }
+
+    /// Takes a definition, if one is expected.
+    #[inline(never)]
+    fn define(&mut self, agreed: SessionCapabilities, payload: &[u8]) -> Result<(), AllocError>
+        ensures ok { OnOk result (self.new ≡ spec.after true agreed kinds.Column payload.now self.old) }
+        ensures err { OnErr result (self.new ≡ spec.after false agreed kinds.Column payload.now self.old) }
+        ensures asked { OnErr result (IsTrue (spec.takes_memory agreed kinds.Column payload.now self.old)) }
+    {
+        let Some(left) = self.left else {
+            return Ok(());
+        };
+        let Some(left) = left.checked_sub(1) else {
+            return Ok(());
+        };
+        let Some(column) = column_at(self.alloc, agreed, payload) else {
+            self.forget();
+            return Ok(());
+        };
+        if self.columns.push(column).is_err() {
+            self.forget();
+            return Err(AllocError);
+        }
+        self.left = Some(left);
+        Ok(())
+    }
+}
