@@ -18,6 +18,7 @@ use crate::step::{
 use mysql_replies::SessionCapabilities;
 use std::alloc::Global;
 use std::collections::VecDeque;
+use thiserror::Error;
 
 /// A command that waits, and its number.
 #[derive(Clone, Copy, Debug, PartialEq, Eq)]
@@ -27,17 +28,22 @@ pub(crate) struct Waiting {
 }
 
 /// The error of a session or a pipeline: the packet is not taken, and the state is unchanged.
-#[derive(Clone, Copy, Debug, PartialEq, Eq)]
+#[derive(Clone, Copy, Debug, PartialEq, Eq, Error)]
 pub enum SessionError {
     /// The packet may not come next.
+    #[error("unexpected packet")]
     UnexpectedPacket,
     /// The command would have to wait, and the limit of waiting commands is reached.
+    #[error("too many pipelined commands")]
     Full,
     /// An allocation for a command that has to wait failed.
+    #[error("out of memory for a pipelined command")]
     Memory,
     /// The connection continues in TLS, and the payload is not decrypted. Only a session returns it.
+    #[error("the connection is encrypted")]
     Encrypted,
     /// Both sides agreed on compression, so the bytes after the login are compressed packets. Only a session returns it.
+    #[error("the connection is compressed")]
     Compressed,
 }
 
