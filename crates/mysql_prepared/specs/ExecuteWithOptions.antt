@@ -50,7 +50,7 @@ module _ {A : Type 0} where
   abbrev pub head_for : ComStmtExecuteOptionsBuilder A → (has_params : Bool) → ComStmtExecuteHead
   head_for b has_params = head.with_count b.iteration_count (head.head_with b.stmt_id (flags_for b has_params))
 
-  -- the execution that the builder makes of these parameters; `is_long` says whether byte strings are long data
+  -- the execution that the builder makes of these parameters; `as_long_data` says whether byte strings are sent as long data
   abbrev pub asked : (attribute : A → Param) (attribute_type : A → NamedType) → ComStmtExecuteOptionsBuilder A → List TypedParam → (as_long_data : Bool) → Execution
   asked attribute attribute_type b params as_long_data = record {
     head = head_for b (has_some params);
