@@ -37,7 +37,7 @@ pub fn append_object(
 {
     let object = object_of(alloc, head, fields)?;
     let text = object.to_string(alloc)?;
-    // No clause says what a refused `write!` leaves behind.
+    // No clause says what text a refused `write!` leaves.
     out.push_str(text.as_str())?;
     out.push_str("\n")
 }
