@@ -76,10 +76,6 @@ opened a state.Fields items h = h
 opened a state.Events items h = h
 opened a state.SessionError items h = h
 
-not_none : (front : List Packet) (x : Packet) (more : List Packet) → front ++ x ∷ more ≡ [] → ⊥
-not_none [] x more e = absurd cc
-not_none (y ∷ front) x more e = absurd cc
-
 -- ---- a packet before what comes
 
 broken_before : (a : Agreed) (f g : List Packet → List Packet → Type 0) (x : Packet) (items mid : List Packet)
