@@ -12,7 +12,7 @@ use Rattle.mysql_conversation.specs.Machine.{entrance, step, client_step, serve,
 use Rattle.mysql_conversation.proofs.Runs.{join, part, once}
 use Rattle.mysql_conversation.specs.Taken.{packet}
 use Rattle.mysql_conversation.proofs.Classes.{chosen, some_is, reply_means}
-use Rattle.mysql_conversation.proofs.States.{which_rests, due_of, due_runs, reports_of, reports_parts, entrance_listens, entrance_login, step_listens, step_login, may_shut, failed_is, failed_no_report, error_ends}
+use Rattle.mysql_conversation.proofs.States.{which_rests, due_of, due_runs, reports_parts, entrance_listens, entrance_login, step_listens, step_login, may_shut, failed_is, failed_no_report, error_ends}
 use Rattle.mysql_conversation.proofs.Ends.{to_come, short_report}
 use Rattle.mysql_conversation.proofs.Leads.{RunsOut, conversation_runs, inside_runs}
 use Rattle.mysql_conversation.proofs.Tails.{tail_of, authenticating, serving, many_more, many_none}
