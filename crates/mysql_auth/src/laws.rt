@@ -4,7 +4,7 @@
 //! with `this` speak of the value at hand.
 #![tactic(auto, using(mysql_wire::proofs::Packets::packets, crate::proofs::WholePackets::whole_packets, crate::proofs::HandshakeFits::handshakes, crate::proofs::HandshakeResponseFits::responses, crate::proofs::ChangeUserFits::changes))]
 
-ghost use Rattle.std.specs.Prelude.{◌≡◌, ◌++◌, ℕ, List, [], Some, None, true};
+ghost use Rattle.std.specs.Prelude.{◌≡◌, ◌++◌, ℕ, List, [], true};
 ghost use Rattle.mysql_auth.specs.declared.auth_more_data.AuthMoreData.{AuthMoreData};
 ghost use Rattle.mysql_auth.specs.AuthNextFactor.{AuthNextFactor};
 ghost use Rattle.mysql_auth.specs.AuthSwitchRequest.{AuthSwitchRequest};
@@ -35,7 +35,7 @@ ghost use Rattle.mysql_auth.specs.PublicKeyResponse.{public_key_response};
 ghost use Rattle.mysql_auth.specs.SslRequest.{ssl_request, SslRequestFits};
 ghost use Rattle.mysql_wire.specs.Null.{HasNoZero};
 
-use mysql_wire::MyDeserialize;
+use mysql_wire::{MyDeserialize, Width};
 
 mod borrowed;
 mod equal;
@@ -160,9 +160,7 @@ pub fn one_version()
 pub fn each_packet_has_its_size() -> bool
     ensures value { result ≡ true }
 {
-    login_packets_have_their_sizes()
-        && authentication_packets_have_their_sizes()
-        && requests_for_plugins_have_no_constant_size()
+    login_packets_have_their_sizes() && authentication_packets_have_their_sizes()
 }
 
 /// The packets of a login and of a change of user.
@@ -187,14 +185,7 @@ fn authentication_packets_have_their_sizes() -> bool
         && crate::PublicKeyResponse::<'static>::SIZE.is_none()
         && crate::AuthMoreData::<'static>::SIZE.is_none()
         && crate::AuthReply::<'static>::SIZE.is_none()
-}
-
-/// A plugin, and the requests for one.
-#[tactic(auto)]
-fn requests_for_plugins_have_no_constant_size() -> bool
-    ensures value { result ≡ true }
-{
-    crate::AuthPlugin::<'static>::SIZE.is_none()
-        && crate::AuthSwitchRequest::<'static>::SIZE.is_none()
-        && crate::AuthNextFactor::<'static>::SIZE.is_none()
+        && crate::AuthPlugin::<'static>::SIZE.is_none()
+        && <<crate::AuthSwitchRequest<'static> as MyDeserialize>::Size as Width>::SIZE.is_none()
+        && <<crate::AuthNextFactor<'static> as MyDeserialize>::Size as Width>::SIZE.is_none()
 }
