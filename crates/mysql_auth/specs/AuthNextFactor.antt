@@ -14,5 +14,11 @@ abbrev pub next_factor_by : List ℕ → List ℕ → AuthNextFactor
 next_factor_by = request_of
 
 -- 02, the plugin name with a zero, and the plugin data to the end
+abbrev pub auth_next_factor_fields : Fields (Unit {0}) AuthNextFactor AuthNextFactor
+auth_next_factor_fields = plugin_request_fields 0x02
+
 abbrev pub auth_next_factor : Codec (Unit {0}) AuthNextFactor
 auth_next_factor = plugin_request 0x02
+
+pub size-auth_next_factor : (auth_next_factor.form tt).size ≡ None
+size-auth_next_factor = size-plugin_request _ 0x02

@@ -14,5 +14,11 @@ abbrev pub switch_to : List ℕ → List ℕ → AuthSwitchRequest
 switch_to = request_of
 
 -- fe, the plugin name with a zero, and the plugin data to the end
+abbrev pub auth_switch_request_fields : Fields (Unit {0}) AuthSwitchRequest AuthSwitchRequest
+auth_switch_request_fields = plugin_request_fields 0xfe
+
 abbrev pub auth_switch_request : Codec (Unit {0}) AuthSwitchRequest
 auth_switch_request = plugin_request 0xfe
+
+pub size-auth_switch_request : (auth_switch_request.form tt).size ≡ None
+size-auth_switch_request = size-plugin_request _ 0xfe

@@ -37,6 +37,21 @@ some_counted w rows h n e = n (h.count ∙ ap length e)
 abbrev pub EachFits : WriterState → List Cell → Type 0
 EachFits w row = (rows : List (List Cell)) → HoldsCells w rows → CellsFit w rows row
 
+abbrev pub NoneFits : WriterState → List Cell → Type 0
+NoneFits w row = (rows : List (List Cell)) → HoldsCells w rows → CellsFit w rows row → ⊥
+
+pub refused_arity : (w : WriterState) (row : List BulkValue) → length row ≢ length w.types → AddsCells w (map cell_of row) (Err refused.MixedArity) w
+refused_arity w row long = λ rows h. ((λ e. long (sym (length-map row cell_of) ∙ e)), refl)
+
+pub refused_types : (w : WriterState) (row : List BulkValue) → length row ≡ length w.types → (Spells w.types (map cell_of row) → ⊥) → AddsCells w (map cell_of row) (Err refused.MixedTypes) w
+refused_types w row long spells = λ rows h. (length-map row cell_of ∙ long, spells, refl)
+
+pub does_not_fit : (w : WriterState) (row : List Cell) → Spells w.types row → w.count ≢ 0 → NoneFits w row → AddsCells w row (Ok false) w
+does_not_fit w row spells some none = λ rows h. (spells, none rows h, some_counted w rows h some, refl)
+
+pub is_too_large : (w : WriterState) (row : List Cell) → Spells w.types row → w.count ≡ 0 → NoneFits w row → AddsCells w row (Err refused.TooLarge) w
+is_too_large w row spells empty none = λ rows h. (spells, none rows h, none_counted w rows h empty, refl)
+
 pub no_memory : (w : WriterState) (row : List Cell) → Spells w.types row → EachFits w row → AddsCells w row (Err refused.Memory) w
 no_memory w row spells fits = λ rows h. (spells, fits rows h, refl)
 

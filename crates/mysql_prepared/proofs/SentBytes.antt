@@ -77,6 +77,10 @@ position-mapped : {A B : Type 0} (p : B → Bool) (f : A → B) (xs : List A) �
 position-mapped p f [] = refl
 position-mapped p f (x ∷ xs) = ap (λ (n : ℕ). cond (not (p (f x))) (1 + n) 0) (position-mapped p f xs)
 
+pub length-any : (has_names : Bool) (p : TypedParam) → length (type_bytes has_names p) ≡ if has_names then 2 + length (lenenc_string_bytes p.named_type.name) else 2
+length-any true p = length-named p
+length-any false p = length-typed p
+
 -- ---- lists of values of a type of the caller's
 
 module _ {V : Type 0} (param : V → Param) (named_type : V → NamedType) where
