@@ -33,6 +33,17 @@ def installed(folder):
     return python
 
 
+def has_types():
+    """Whether mypy --strict accepts the package and its example; none where mypy is not installed."""
+    if shutil.which("mypy") is None:
+        print("package.py: types are not checked: mypy is not installed")
+        return None
+    call = ["mypy", "--strict", "--cache-dir", os.devnull, "mysql_packets", "insert.py"]
+    ran = subprocess.run(call, cwd=TOP / "examples/python", capture_output=True, text=True)
+    print(ran.stdout if ran.returncode else "package.py: mypy --strict finds nothing")
+    return ran.returncode == 0
+
+
 def main(prefix):
     prefix = Path(prefix).resolve()
     with tempfile.TemporaryDirectory() as folder:
@@ -53,9 +64,10 @@ def main(prefix):
         shutil.copy(prefix / "include/mysql_packets.h", here)
         shutil.copy(prefix / "lib/libmysql_packets.so", here)
         beside = subprocess.run(finds, cwd=folder, env=bare, capture_output=True, text=True)
-        for name, holds in (("a library that is not found is said", "mypackets-c" in lost.stderr), ("the library beside it", not beside.returncode)):
-            passed, failed = passed + holds, failed + (not holds)
-            if not holds:
+        checks = {"a library that is not found is said": "mypackets-c" in lost.stderr, "the library beside it": not beside.returncode, "types": has_types()}
+        for name, holds in checks.items():
+            passed, failed = passed + (holds is True), failed + (holds is False)
+            if holds is False:
                 print(f"  FAILED: {name}: {lost.stderr}{beside.stderr}")
     print(f"{passed} passed, {failed} failed")
     return 1 if failed else 0

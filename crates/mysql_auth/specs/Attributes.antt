@@ -1,4 +1,4 @@
--- Attributes of a connection: keys with their values, each key once, in the order of their first places.
+-- Connection attributes: keys with their values, each key once, in order of their first occurrence.
 use Rattle.std.specs.Prelude.{◌≡◌, ℕ, ◌<◌, ◌≤◌, ◌^◌, Bool, ◌&&◌, nat_eq, List, [], ◌∷◌, ◌++◌, length, map, string_bytes, Option, Some, None, refl}
 use Rattle.std.specs.Cmp.{IsPartialEquivalence, IsEquivalence, and_per, on_per, and_equiv, on_equiv, partial_equiv_from_equiv}
 use Rattle.std.specs.Cmp.Lexicographic.{pointwise, nat_list_eq_equiv}
@@ -21,7 +21,7 @@ use Rattle.std.proofs.lemmas.List.{append-nil, length-append}
 abbrev pub Attribute : Type 0
 Attribute = List ℕ × List ℕ
 
--- The pairs put into a map one after another: a key that is there keeps its place and takes the value, a new one goes last.
+-- The pairs inserted into a map in order: an existing key keeps its place and takes the new value; a new key goes last.
 abbrev pub merged : List Attribute → List Attribute
 merged pairs = insert_all (pointwise nat_eq) [] pairs
 
@@ -39,11 +39,11 @@ attribute_equiv = and_equiv (on_equiv (λ p. p.0) nat_list_eq_equiv) (on_equiv (
 abbrev pub text_pair : String Global × String Global → Attribute
 text_pair p = (string_bytes p.0, string_bytes p.1)
 
--- a pair as texts, with U+FFFD for what is not UTF-8
+-- a pair as texts, with U+FFFD for bytes that are not UTF-8
 abbrev pub lossy_pair : Attribute → Attribute
 lossy_pair p = (lossy_text p.0, lossy_text p.1)
 
--- the pairs as texts: where two keys become one text, it keeps the first place and takes the later value
+-- the pairs as texts: if two keys become the same text, it keeps the first place and takes the later value
 abbrev pub lossy_pairs : List Attribute → List Attribute
 lossy_pairs pairs = merged (map lossy_pair pairs)
 
@@ -67,19 +67,19 @@ some-attribute : (p : Attribute) → 0 < attribute.len p
 unfolding attribute
 some-attribute p = some-then _ (some-lenenc p.0)
 
--- what is inside: pairs to the end
+-- the content: pairs up to the end
 abbrev pub pairs_bytes : List Attribute → List ℕ
 pairs_bytes pairs = flat_map attribute.bytes pairs
 
 abbrev pub pairs : form.Form (List Attribute)
 pairs = form.map merged (many (attribute.form tt))
 
--- each key stands once, as in every map, and the length of all pairs fits a number of eight bytes
+-- each key occurs once, as in every map, and the total length of the pairs is below 2^64
 pub record AttributesFit (attributes : List Attribute) : Type 0 where
   pub once : merged attributes ≡ attributes
   pub short : length (pairs_bytes attributes) < 2 ^ 64
 
--- the latter alone: what is left to show of attributes at hand
+-- the latter alone: what remains to be shown for given attributes
 abbrev pub AreShort : List Attribute → Type 0
 AreShort attributes = length (pairs_bytes attributes) < 2 ^ 64
 
@@ -91,7 +91,7 @@ string-within : (content : List ℕ) → length content ≤ length (lenenc_strin
 unfolding lenenc_string_bytes
 string-within content = omega (arith, length-append (lenenc_bytes (length content)) content)
 
--- so does the length of each key and of each value
+-- the length of each key and value is below 2^64, too
 each-short : (attributes : List Attribute) → length (pairs_bytes attributes) < 2 ^ 64 → each_fits attribute tt attributes []
 unfolding attribute
 each-short [] short = tt
@@ -116,7 +116,7 @@ pub as_sent-again : (attributes : List Attribute) (rest : List ℕ) → AreShort
     → (form.within lenenc_string (many (attribute.form tt))).Spells attributes (lenenc_string_bytes (pairs_bytes attributes) ++ rest) rest
 as_sent-again attributes rest short = (pairs_bytes attributes, lenenc_string-again (pairs_bytes attributes) short rest, inside-again attributes short)
 
--- the length of all pairs, length-encoded, and the pairs in that many bytes
+-- the total length of the pairs, length-encoded, and the pairs in that many bytes
 unfoldable pub attributes : Codec (Unit {0}) (List Attribute)
 attributes = record {
   form = λ c. form.within lenenc_string pairs;
@@ -127,7 +127,7 @@ attributes = record {
   again = λ c attributes rest h. attributes-again attributes rest h;
 }
 
--- the same, each pair as it was sent: a key may come again
+-- the same, each pair as it was sent: a key may be repeated
 unfoldable pub attributes_as_sent : Codec (Unit {0}) (List Attribute)
 attributes_as_sent = record {
   form = λ c. form.within lenenc_string (many (attribute.form tt));

@@ -1,4 +1,4 @@
--- Further data of an authentication.
+-- More data of an authentication.
 use Rattle.std.specs.Prelude.{◌≡◌, ℕ, List, None, refl}
 use Rattle.mysql_wire.specs.Codec.{Codec, Fields}
 use Rattle.mysql_wire.specs.Codecs.{◌>>=◌, give, field, packet, const_u8, string_eof}
@@ -8,7 +8,7 @@ use Rattle.mysql_auth.specs.declared.auth_more_data.AuthMoreData.{AuthMoreData}
 abbrev pub more_data : AuthMoreData → List ℕ
 more_data p = p.«data»
 
--- the packet of this data
+-- the packet with this data
 abbrev pub more_data_of : List ℕ → AuthMoreData
 more_data_of content = record { header = record { 0 = record {} }; «data» = content }
 

@@ -1,4 +1,4 @@
--- The request for the next factor.
+-- The request for the next authentication factor.
 use Rattle.std.specs.Prelude.{◌≡◌, ℕ, List, None}
 use Rattle.mysql_wire.specs.Codec.{Codec, Fields}
 use Rattle.mysql_auth.specs.declared.faults.InvalidAuthNextFactorHeader.{InvalidAuthNextFactorHeader}
@@ -9,11 +9,11 @@ pub use Rattle.mysql_auth.specs.PluginRequest.{plugin_name, plugin_data}
 abbrev pub AuthNextFactor : Type 0
 AuthNextFactor = PluginRequest InvalidAuthNextFactorHeader 0x02
 
--- the packet of a plugin's name and its data
+-- the packet with this plugin name and data
 abbrev pub next_factor_by : List ℕ → List ℕ → AuthNextFactor
 next_factor_by = request_of
 
--- 02, the plugin's name with a zero, and its data to the end
+-- 02, the plugin name with a zero, and the plugin data to the end
 abbrev pub auth_next_factor_fields : Fields (Unit {0}) AuthNextFactor AuthNextFactor
 auth_next_factor_fields = plugin_request_fields 0x02
 

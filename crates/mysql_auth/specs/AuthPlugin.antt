@@ -10,7 +10,7 @@ use Rattle.mysql_auth.specs.Parsec.{parsec_salt}
 use Rattle.mysql_auth.specs.declared.auth_plugin.AuthPlugin.{AuthPlugin}
 use Rattle.mysql_auth.specs.declared.auth_plugin.AuthPlugin.TheVariants as plugin
 
--- the name that a plugin is called by
+-- the name of a plugin
 abbrev pub plugin_name : AuthPlugin → List ℕ
 plugin_name plugin.MysqlOldPassword = codes "mysql_old_password"
 plugin_name plugin.MysqlClearPassword = codes "mysql_clear_password"
@@ -20,14 +20,14 @@ plugin_name plugin.Ed25519 = codes "client_ed25519"
 plugin_name (plugin.MariadbParsec iterations ext_salt) = codes "parsec"
 plugin_name (plugin.Other name) = name
 
--- parsec before its server has sent anything
+-- parsec before the server sent its parameters
 abbrev pub new_parsec : AuthPlugin
 new_parsec = plugin.MariadbParsec 0 (replicate 18 0)
 
 abbrev is : List ℕ → List ℕ → Bool
 is name known = pointwise nat_eq name known
 
--- the plugin of that very name
+-- the plugin with exactly this name
 unfoldable pub plugin_named : List ℕ → AuthPlugin
 plugin_named name =
     if is name (codes "caching_sha2_password") then plugin.CachingSha2Password
@@ -46,7 +46,7 @@ step name known one other h k = by (is name known) k
     by true k = h
     by false k = k refl
 
--- a plugin of a name is that of its own name
+-- the plugin of a plugin's name is that plugin
 pub named-again : (name : List ℕ) → plugin_named (plugin_name (plugin_named name)) ≡ plugin_named name
 unfolding plugin_named
 named-again name =
@@ -57,31 +57,31 @@ named-again name =
     step name (codes "client_ed25519") _ _ refl (λ no5.
     step name (codes "parsec") _ _ refl (λ no6. rw (no1, no2, no3, no4, no5, no6) refl))))))
 
--- the plugin of a name, one zero at its end aside
+-- the plugin with a name; one zero at its end is ignored
 abbrev pub plugin_of : List ℕ → AuthPlugin
 plugin_of bytes = plugin_named (without_last_zero bytes)
 
--- the plugin, where it has a variant of its own
+-- the plugin, if it has its own variant
 abbrev pub known : AuthPlugin → Option AuthPlugin
 known (plugin.Other name) = None
 known p = Some p
 
--- a plugin that has a variant of its own, and so no bytes of a name
+-- a plugin with its own variant, which stores no bytes of a name
 abbrev pub IsKnown : AuthPlugin → Type 0
 IsKnown (plugin.Other name) = ⊥
 IsKnown _ = Unit {0}
 
--- the bytes of a name that it keeps
+-- the bytes of a name that it stores
 abbrev pub kept_name : AuthPlugin → List ℕ
 kept_name (plugin.Other name) = name
 kept_name _ = []
 
--- parsec takes in its rounds and its salt
+-- parsec with its rounds and salt
 abbrev pub with_salt : AuthPlugin → List ℕ → Option AuthPlugin
 with_salt (plugin.MariadbParsec iterations ext_salt) payload = option_map (λ given. plugin.MariadbParsec given.0 given.1) (parsec_salt payload)
 with_salt _ payload = None
 
--- ---- the plugin as its name: all that is left, written with a zero after it
+-- ---- the plugin as its name: the rest of the bytes, written with a terminating zero
 
 abbrev pub name_bytes : AuthPlugin → List ℕ
 name_bytes p = plugin_name p ++ 0 ∷ []

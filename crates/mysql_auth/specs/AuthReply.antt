@@ -1,4 +1,4 @@
--- What a server says before a login is done, by its first byte.
+-- A server's packets before the login ends, by their first byte.
 use Rattle.std.specs.Prelude.{◌≡◌, ◌==◌, ℕ, List, [], ◌∷◌, length, Bool, None, refl}
 use Rattle.mysql_wire.specs.FlagMasks.{MULTI_FACTOR_AUTHENTICATION}
 use Rattle.mysql_wire.specs.Flags.{CapabilityFlags, has}
@@ -10,20 +10,20 @@ use Rattle.mysql_auth.specs.OldAuthSwitchRequest.{old_auth_switch_request}
 use Rattle.mysql_auth.specs.declared.auth_reply.AuthReply.{AuthReply}
 use Rattle.mysql_auth.specs.declared.auth_reply.AuthReply.TheVariants as reply
 
--- both sides know of further factors
+-- both sides know further factors
 abbrev pub asks_factors : CapabilityFlags → Bool
 asks_factors capabilities = has capabilities.0 MULTI_FACTOR_AUTHENTICATION
 
--- fe alone is the old switch
+-- a single fe is the old switch
 abbrev pub switch_reply : List ℕ → Form AuthReply
 switch_reply payload = either (length payload == 1) (map (λ request. reply.OldSwitch) (old_auth_switch_request.form tt)) (map reply.Switch (auth_switch_request.form tt))
 
--- the next factor where both sides know of factors, else data of a plugin
+-- the next factor if both sides know factors, otherwise data of a plugin
 abbrev pub factor_reply : (asks : Bool) → Form AuthReply
 factor_reply asks = either asks (map reply.NextFactor (auth_next_factor.form tt)) (map reply.PluginData all_left)
 
--- 00 is an OK packet, ff an error, fe a switch, 01 further data, and 02 the next factor where both sides know of factors. What begins
--- with another byte, or is empty, is data of a plugin.
+-- 00 is an OK packet, ff an error, fe a switch, 01 more data, and 02 the next factor if both sides know factors. A packet with another
+-- first byte, or an empty one, is data of a plugin.
 abbrev pub reply_by : (asks : Bool) → List ℕ → Form AuthReply
 reply_by asks [] = map reply.PluginData all_left
 reply_by asks (first ∷ others) =

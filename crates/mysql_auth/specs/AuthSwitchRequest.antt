@@ -9,11 +9,11 @@ pub use Rattle.mysql_auth.specs.PluginRequest.{plugin_name, plugin_data}
 abbrev pub AuthSwitchRequest : Type 0
 AuthSwitchRequest = PluginRequest InvalidAuthSwitchRequestHeader 0xfe
 
--- the packet of a plugin's name and its data
+-- the packet with this plugin name and data
 abbrev pub switch_to : List ℕ → List ℕ → AuthSwitchRequest
 switch_to = request_of
 
--- fe, the plugin's name with a zero, and its data to the end
+-- fe, the plugin name with a zero, and the plugin data to the end
 abbrev pub auth_switch_request_fields : Fields (Unit {0}) AuthSwitchRequest AuthSwitchRequest
 auth_switch_request_fields = plugin_request_fields 0xfe
 

@@ -25,7 +25,7 @@ sends_plugin capabilities = has capabilities.0 CLIENT_PLUGIN_AUTH
 abbrev pub sends_attributes : CapabilityFlags → Bool
 sends_attributes capabilities = has capabilities.0 CLIENT_CONNECT_ATTRS
 
--- ---- more data: its values
+-- ---- more data: values
 
 abbrev pub character_set : ComChangeUserMoreData → ℕ
 character_set p = p.character_set.0
@@ -36,7 +36,7 @@ auth_plugin p = p.auth_plugin
 abbrev pub connect_attributes : ComChangeUserMoreData → Option (List Attribute)
 connect_attributes p = p.connect_attributes
 
--- neither a plugin's name that it keeps nor attributes: nothing that has bytes
+-- it stores neither a plugin name nor attributes: no bytes
 abbrev pub HasNoTexts : ComChangeUserMoreData → Type 0
 HasNoTexts p = (option_map_or kept_name (auth_plugin p) [] ≡ []) × (unwrap_or (connect_attributes p) [] ≡ [])
 
@@ -50,21 +50,21 @@ with_connect_attributes given p = record p { connect_attributes = given }
 abbrev pub more_with_each_key_once : ComChangeUserMoreData → ComChangeUserMoreData
 more_with_each_key_once p = with_connect_attributes (option_map merged (connect_attributes p)) p
 
--- more data of these
+-- more data with these fields
 abbrev pub more_data_of : ℕ → Option AuthPlugin → Option (List Attribute) → ComChangeUserMoreData
 more_data_of number plugin given = record { character_set = raw_int number; auth_plugin = plugin; connect_attributes = given }
 
--- ---- more data: the layout
+-- ---- more data: layout
 
--- the plugin's name, which ends in a zero, where CLIENT_PLUGIN_AUTH is set
+-- the plugin name, terminated by a zero, under CLIENT_PLUGIN_AUTH
 unfoldable pub named_plugin : Codec CapabilityFlags (Option AuthPlugin)
 named_plugin = when sends_plugin (without_context plugin_null)
 
--- a part that is written where it is asked for: where it isn't given, as this other one
+-- a part that is written exactly if it is requested; a missing one as this default
 abbrev pub asked_bytes : {A : Type 0} → (asked : Bool) (other : A) → (A → List ℕ) → Option A → List ℕ
 asked_bytes asked other of_part given = if asked then of_part (unwrap_or given other) else []
 
--- it is given, and is there where the flag says so
+-- it is present, and the flag allows it
 abbrev pub GivenFits : {A : Type 0} → (A → Type 0) → (sent : Bool) → Option A → Type 0
 GivenFits Fits sent None = ⊥
 GivenFits Fits sent (Some part) = (sent ≡ true) × Fits part
@@ -75,8 +75,7 @@ unfolding attributes
 always-again sent None rest h = absurd h
 always-again sent (Some pairs) rest h = option-again attributes sent tt (Some pairs) rest h
 
--- The attributes, where CLIENT_CONNECT_ATTRS is set. A writer isn't passed the flags: it always writes them, an empty list
--- where none are given.
+-- The attributes, under CLIENT_CONNECT_ATTRS. A writer doesn't know the flags: it always writes them, as an empty list if they are missing.
 unfoldable pub sent_attributes : Codec CapabilityFlags (Option (List Attribute))
 sent_attributes = record {
   form = λ c. form.when (sends_attributes c) (attributes.form tt);
@@ -87,11 +86,11 @@ sent_attributes = record {
   again = λ c given rest h. always-again (sends_attributes c) given rest h;
 }
 
--- the attributes as they were sent: a key may come again
+-- the attributes as they were sent: a key may be repeated
 unfoldable pub pairs_as_sent : Codec CapabilityFlags (Option (List Attribute))
 pairs_as_sent = when sends_attributes (without_context attributes_as_sent)
 
--- the character set, the plugin, the attributes
+-- character set, plugin, attributes
 abbrev pub more_data_fields : {C : Type 0} → Codec C (Option AuthPlugin) → Codec C (Option (List Attribute)) → Fields C ComChangeUserMoreData ComChangeUserMoreData
 more_data_fields named given = do
   character_set ← field (λ p. p.character_set) u16
@@ -102,7 +101,7 @@ more_data_fields named given = do
 unfoldable pub more_data : Codec CapabilityFlags ComChangeUserMoreData
 more_data = packet (more_data_fields named_plugin sent_attributes) (λ p. refl)
 
--- more data as it was sent: a key may come again among its attributes
+-- more data as it was sent: a key may be repeated among its attributes
 unfoldable pub more_data_as_sent : Codec CapabilityFlags ComChangeUserMoreData
 more_data_as_sent = packet (more_data_fields named_plugin pairs_as_sent) (λ p. refl)
 
@@ -114,7 +113,7 @@ pub size-more_data_as_sent : (capabilities : CapabilityFlags) → (more_data_as_
 unfolding more_data_as_sent
 size-more_data_as_sent capabilities = refl
 
--- ---- the packet's values
+-- ---- values
 
 abbrev pub user : ComChangeUser → List ℕ
 user p = p.user
@@ -128,11 +127,11 @@ database p = p.database
 abbrev pub more_data_in : ComChangeUser → Option ComChangeUserMoreData
 more_data_in p = p.more_data
 
--- no byte string has a byte, and more data has no texts
+-- all byte strings are empty, and more data stores no text
 abbrev pub HasNoBytes : ComChangeUser → Type 0
 HasNoBytes p = (p.user ≡ []) × (p.auth_plugin_data ≡ []) × (p.database ≡ []) × IfSome (more_data_in p) HasNoTexts
 
--- the packet of these
+-- the packet with these fields
 abbrev pub change_of : List ℕ → List ℕ → List ℕ → Option ComChangeUserMoreData → ComChangeUser
 change_of user answer database more = record {
   header = record { 0 = record {} };
@@ -158,13 +157,13 @@ with_more_data more p = record p { more_data = more }
 abbrev pub with_each_key_once : ComChangeUser → ComChangeUser
 with_each_key_once p = with_more_data (option_map more_with_each_key_once (more_data_in p)) p
 
--- ---- the layout
+-- ---- layout
 
 pub some-more_data : (p : ComChangeUserMoreData) → 0 < more_data.len p
 unfolding more_data
 some-more_data p = some-then _ (omega arith)
 
--- more data, where bytes are left
+-- more data, if bytes are left
 unfoldable pub last_part : Codec CapabilityFlags (Option ComChangeUserMoreData)
 last_part = if_bytes_left more_data some-more_data
 
@@ -175,7 +174,7 @@ some-more_data_as_sent p = some-then _ (omega arith)
 unfoldable pub last_part_as_sent : Codec CapabilityFlags (Option ComChangeUserMoreData)
 last_part_as_sent = if_bytes_left more_data_as_sent some-more_data_as_sent
 
--- 11; the user; the answer to the scramble, after a length of one byte; the database; more data where bytes are left
+-- 11; the user; the authentication data, after a length of one byte; the database; more data if bytes are left
 abbrev pub change_user_fields : {C : Type 0} → Codec C (Option ComChangeUserMoreData) → Fields C ComChangeUser ComChangeUser
 change_user_fields last = do
   header ← field (λ p. p.header) (const_u8 0x11)
@@ -188,7 +187,7 @@ change_user_fields last = do
 unfoldable pub change_user : Codec CapabilityFlags ComChangeUser
 change_user = packet (change_user_fields last_part) (λ p. refl)
 
--- the change as it was sent: a key may come again among its attributes
+-- the change as it was sent: a key may be repeated among its attributes
 unfoldable pub change_user_as_sent : Codec CapabilityFlags ComChangeUser
 change_user_as_sent = packet (change_user_fields last_part_as_sent) (λ p. refl)
 
@@ -200,7 +199,7 @@ pub size-change_user_as_sent : (capabilities : CapabilityFlags) → (change_user
 unfolding change_user_as_sent
 size-change_user_as_sent capabilities = refl
 
--- ---- the same in a session: what its flags ask for is written, and no more
+-- ---- in a session: exactly the fields that its flags ask for are written
 
 module _ {A : Type 0} (other : A) (f : Codec (Unit {0}) A) where
   pub asked-again : (sent : Bool) (given : Option A) (rest : List ℕ) → option_fits f sent tt given rest
@@ -208,7 +207,7 @@ module _ {A : Type 0} (other : A) (f : Codec (Unit {0}) A) where
   asked-again sent None rest h = rw h (refl, refl)
   asked-again sent (Some part) rest h = rw h.0 (part, refl, f.again tt part rest h.1)
 
--- a part that is there, and is written, exactly where it is asked for
+-- a part that is present, and is written, exactly if it is requested
 abbrev pub asked : {A : Type 0} → (sent : Bool) (other : A) → Codec (Unit {0}) A → Codec (Unit {0}) (Option A)
 asked sent other f = record {
   form = λ c. form.when sent (f.form tt);
@@ -219,7 +218,7 @@ asked sent other f = record {
   again = λ c given rest h. asked-again other f sent given rest h;
 }
 
--- without a plugin an empty name is written, and without attributes an empty list
+-- a missing plugin is written as an empty name, and missing attributes as an empty list
 unfoldable pub session_more_data : CapabilityFlags → Codec (Unit {0}) ComChangeUserMoreData
 session_more_data capabilities =
     packet (more_data_fields (asked (sends_plugin capabilities) (plugin_of []) plugin_null) (asked (sends_attributes capabilities) [] attributes)) (λ p. refl)
@@ -234,20 +233,20 @@ session_last_part capabilities = if_bytes_left (session_more_data capabilities) 
 unfoldable pub session_change_user : CapabilityFlags → Codec (Unit {0}) ComChangeUser
 session_change_user capabilities = packet (change_user_fields (session_last_part capabilities)) (λ p. refl)
 
--- ---- when these are read again, in plain words
+-- ---- when these are read back, in plain words
 
--- the plugin is named exactly under its flag, and the name tells it
+-- the plugin is named exactly under its flag, and its name identifies it
 abbrev pub NamedFits : Bool → Option AuthPlugin → Type 0
 NamedFits sent None = sent ≡ false
 NamedFits sent (Some p) = (sent ≡ true) × PluginFits p
 
--- The plugin and the attributes by the flags. `Given` says when attributes are: always, as `change_user` writes them
--- (`GivenFits`), or exactly under their flag, as they are written in a session (`PartFits`).
+-- Plugin and attributes under the flags. `Given` says when attributes are present: always, as `change_user` writes them (`GivenFits`), or
+-- exactly under their flag, as in a session (`PartFits`).
 pub record MoreFieldsFit (Given : (List Attribute → Type 0) → Bool → Option (List Attribute) → Type 0) (Fits : List Attribute → Type 0) (capabilities : CapabilityFlags) (p : ComChangeUserMoreData) : Type 0 where
   pub auth_plugin : NamedFits (sends_plugin capabilities) (auth_plugin p)
   pub connect_attributes : Given Fits (sends_attributes capabilities) (connect_attributes p)
 
--- what is left to show of more data at hand
+-- what remains to be shown for given more data
 abbrev pub MoreDataPartsFit : CapabilityFlags → ComChangeUserMoreData → Type 0
 MoreDataPartsFit = MoreFieldsFit GivenFits AreShort
 
@@ -260,12 +259,12 @@ MoreDataFits capabilities p = (character_set p < 2 ^ 16) × MoreFieldsFit GivenF
 abbrev pub SessionMoreDataFits : CapabilityFlags → ComChangeUserMoreData → Type 0
 SessionMoreDataFits capabilities p = (character_set p < 2 ^ 16) × MoreFieldsFit PartFits AttributesFit capabilities p
 
--- where more data is left out, nothing follows
+-- if more data is missing, nothing follows
 abbrev pub MoreFits : (ComChangeUserMoreData → Type 0) → Option ComChangeUserMoreData → List ℕ → Type 0
 MoreFits Fits None rest = rest ≡ []
 MoreFits Fits (Some p) rest = Fits p
 
--- texts that their forms can tell, and more data that fits
+-- texts that their forms can encode, and more data that fits
 pub record ChangeFits (Fits : ComChangeUserMoreData → Type 0) (p : ComChangeUser) (rest : List ℕ) : Type 0 where
   pub user : HasNoZero (user p)
   pub auth_plugin_data : length (auth_plugin_data p) < 2 ^ 8
@@ -278,14 +277,14 @@ ChangeUserFits capabilities = ChangeFits (MoreDataFits capabilities)
 abbrev pub SessionChangeUserFits : CapabilityFlags → ComChangeUser → List ℕ → Type 0
 SessionChangeUserFits capabilities = ChangeFits (SessionMoreDataFits capabilities)
 
--- what is left to show of a change of user at hand
+-- what remains to be shown for a given change of user
 abbrev pub ChangeUserPartsFit : CapabilityFlags → ComChangeUser → List ℕ → Type 0
 ChangeUserPartsFit capabilities = ChangeFits (MoreDataPartsFit capabilities)
 
 abbrev pub SessionChangeUserPartsFit : CapabilityFlags → ComChangeUser → List ℕ → Type 0
 SessionChangeUserPartsFit capabilities = ChangeFits (SessionMoreDataPartsFit capabilities)
 
--- what is left to show of a change of user that was read
+-- what remains to be shown for a change of user that was read
 abbrev pub MoreIsShort : Option ComChangeUserMoreData → List ℕ → Type 0
 MoreIsShort None rest = rest ≡ []
 MoreIsShort (Some p) rest = AreShortIn (connect_attributes p)

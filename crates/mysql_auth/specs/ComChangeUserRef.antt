@@ -1,4 +1,4 @@
--- The change of a session's user, part by part.
+-- The change of a session's user, in parts.
 use Rattle.std.specs.Prelude.{None}
 use Rattle.mysql_wire.specs.Constant.{const_byte}
 use Rattle.mysql_wire.specs.CountedBytes.{u8_string}
@@ -15,7 +15,7 @@ use Rattle.mysql_auth.specs.declared.com_change_user_more_data.ComChangeUserMore
 abbrev pub change_header : Form (ConstU8 InvalidComChangeUserHeader 0x11)
 change_header = const_byte 0x11
 
--- what stands in front of more data: the change without any
+-- the part before more data: the change without it
 abbrev pub before_more_data : Form ComChangeUser
 before_more_data = do
   header ← change_header
@@ -24,7 +24,7 @@ before_more_data = do
   database ← null_string
   give (record { header = header; user = user; auth_plugin_data = auth_plugin_data; database = database; more_data = None })
 
--- what stands in front of the attributes of more data: more data without any
+-- the part before the attributes of more data: more data without them
 abbrev pub before_attributes : CapabilityFlags → Form ComChangeUserMoreData
 before_attributes capabilities = do
   character_set ← le_u16

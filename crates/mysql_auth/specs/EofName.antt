@@ -1,4 +1,4 @@
--- A name that runs to the end, and a zero at its end.
+-- A name that runs to the end of the bytes, maybe with a zero at its end.
 use Rattle.std.specs.Prelude.{◌≡◌, ℕ, ◌+◌, ◌-◌, ◌==◌, ◌&&◌, List, [], ◌∷◌, ◌++◌, length, take, slice_index, nat_lt, if◌then◌else◌, Bool, refl}
 use Rattle.std.proofs.Common.{arith}
 use Rattle.std.proofs.lemmas.Bool.{lt-ltb}
@@ -19,21 +19,21 @@ at-end : (content : List ℕ) → slice_index (content ++ 0 ∷ []) (length cont
 at-end [] = refl
 at-end (b ∷ content) = at-end content
 
--- a zero after a content is taken off
+-- a zero after a content is removed
 pub zero-off : (content : List ℕ) → without_last_zero (content ++ 0 ∷ []) ≡ content
 zero-off content =
     let longer : length (content ++ 0 ∷ []) ≡ length content + 1 = length-append content (0 ∷ []) in
     let before : length content + 1 - 1 ≡ length content = omega arith in
     rw (longer, before, at-end content, lt-ltb 0 (length content + 1) (omega arith), take_at content (0 ∷ []) (length content) refl) refl
 
--- all that is left, without one zero at its end
+-- the rest of the bytes, without one zero at their end
 abbrev pub name_left : Form (List ℕ)
 name_left = map without_last_zero all_left
 
 pub name-again : (content rest : List ℕ) → HasNoZero content × (rest ≡ []) → name_left.Spells content (null_bytes content ++ rest) rest
 name-again content rest h = rw (h.1, before_zero-whole content h.0, append-nil) (content ++ 0 ∷ [], zero-off content, (refl, refl))
 
--- a name to the end, written with a zero after it
+-- a name to the end, written with a terminating zero
 abbrev pub eof_name : {C : Type 0} → Codec C (List ℕ)
 eof_name = record {
   form = λ c. name_left;

@@ -14,7 +14,7 @@ use Rattle.mysql_auth.specs.EofName.{eof_name, without_last_zero}
 use Rattle.mysql_auth.specs.declared.handshake_head.HandshakeHead.{HandshakeHead}
 use Rattle.mysql_auth.specs.declared.handshake.HandshakePacket.{HandshakePacket}
 
--- ---- the packet's values
+-- ---- values
 
 abbrev pub halves : ℕ → ℕ → ℕ
 halves low high = low + high * 0x10000
@@ -38,7 +38,7 @@ protocol_version p = p.head.protocol_version.0
 abbrev pub server_version : HandshakePacket → List ℕ
 server_version p = p.head.server_version
 
--- neither the server's version nor the texts that may be left out have any byte
+-- the server version and the optional texts are all empty
 abbrev pub HasNoTexts : HandshakePacket → Type 0
 HasNoTexts p = (server_version p ≡ []) × (unwrap_or p.scramble_2 [] ≡ []) × (unwrap_or p.auth_plugin_name [] ≡ [])
 
@@ -57,7 +57,7 @@ status_flags p = p.head.status_flags.0
 abbrev pub mariadb_ext_capabilities : HandshakePacket → MariadbCapabilities
 mariadb_ext_capabilities p = p.head.mariadb_capabilities.0
 
--- the handshake with these capabilities of MariaDB's own
+-- the handshake with these MariaDB capabilities
 abbrev pub with_mariadb : MariadbCapabilities → HandshakePacket → HandshakePacket
 with_mariadb capabilities p = record p {
   head = record p.head { mariadb_capabilities = record { 0 = capabilities; 1 = record {} } };
@@ -69,11 +69,11 @@ scramble_2 p = p.scramble_2
 abbrev pub auth_plugin_name : HandshakePacket → Option (List ℕ)
 auth_plugin_name p = p.auth_plugin_name
 
--- the plugin of the name, one zero at its end aside
+-- the plugin with the name; one zero at its end is ignored
 abbrev pub auth_plugin : HandshakePacket → Option AuthPlugin
 auth_plugin p = option_map (λ name. plugin_of (without_last_zero name)) (auth_plugin_name p)
 
--- the bytes, cut to this many or filled with zeros
+-- the bytes, truncated or padded with zeros to this length
 abbrev pub resized : ℕ → List ℕ → List ℕ
 resized n bytes = take n bytes ++ replicate (n - length bytes) 0
 
@@ -81,7 +81,7 @@ resized n bytes = take n bytes ++ replicate (n - length bytes) 0
 abbrev pub nonce : HandshakePacket → List ℕ
 nonce p = resized 20 (scramble_1 p ++ unwrap_or (scramble_2 p) [])
 
--- whether scramble 2 is sent, and whether the plugin's name is
+-- whether scramble 2 is sent, and whether the plugin name is
 abbrev pub has_scramble : ℕ → Bool
 has_scramble capabilities = has capabilities CLIENT_SECURE_CONNECTION
 
@@ -96,13 +96,13 @@ length_of (Some scramble) = 8 + min (length scramble) 247
 unfoldable pub data_length : HandshakePacket → ℕ
 data_length p = if has_name (capabilities p) then length_of (scramble_2 p) else 0
 
--- the bytes of scramble 2 that are read, for the length of both
+-- the bytes of scramble 2 that are read, by the length of both
 abbrev pub scramble_length : ℕ → ℕ
 scramble_length data_length = max 13 (data_length - 8)
 
--- ---- the layout
+-- ---- layout
 
--- the 31 bytes, with what the fields before and after them need: the head, and the length of both scrambles
+-- the 31 bytes, with what neighbouring fields need: the head, and the length of both scrambles
 unfoldable pub handshake_block : RawInt ℕ ℕ → List ℕ → Fields (Unit {0}) HandshakePacket (HandshakeHead × ℕ)
 handshake_block protocol_version server_version = do
   connection_id ← field (λ p. p.head.connection_id) u32
@@ -141,7 +141,7 @@ handshake_head = do
   fixed ← block 31 (handshake_block protocol_version server_version) (λ p. refl)
   give fixed
 
--- The head; scramble 2 of 13 bytes or more under CLIENT_SECURE_CONNECTION; under CLIENT_PLUGIN_AUTH the name, to the end.
+-- The head; scramble 2 of at least 13 bytes under CLIENT_SECURE_CONNECTION; under CLIENT_PLUGIN_AUTH the name, to the end.
 abbrev pub handshake_fields : Fields (Unit {0}) HandshakePacket HandshakePacket
 handshake_fields = do
   head ← handshake_head
@@ -157,26 +157,26 @@ pub size-handshake : (handshake.form tt).size ≡ None
 unfolding handshake
 size-handshake = refl
 
--- ---- when a handshake is read again, in plain words
+-- ---- when a handshake is read back, in plain words
 
--- scramble 2 is there where it is sent: of 13 to 247 bytes, and of 13 without plugins
+-- scramble 2 is present if it is sent: 13 to 247 bytes, and 13 without plugins
 abbrev pub ScrambleFits : Bool → Bool → Option (List ℕ) → Type 0
 ScrambleFits sent named None = sent ≡ false
 ScrambleFits sent true (Some scramble) = (sent ≡ true) × (13 ≤ length scramble) × (length scramble ≤ 247)
 ScrambleFits sent false (Some scramble) = (sent ≡ true) × (length scramble ≡ 13)
 
--- a name is there where it is sent, without a zero, and nothing follows
+-- a name is present if it is sent, contains no zero, and nothing follows
 abbrev pub NameFits : Bool → Option (List ℕ) → List ℕ → Type 0
 NameFits sent None rest = sent ≡ false
 NameFits sent (Some name) rest = (sent ≡ true) × HasNoZero name × (rest ≡ [])
 
--- no zero in the version, and the two above: what is left to show of a handshake at hand
+-- no zero in the version, and the two above: what remains to be shown for a given handshake
 pub record HandshakePartsFit (p : HandshakePacket) (rest : List ℕ) : Type 0 where
   pub server_version : HasNoZero (server_version p)
   pub scramble_2 : ScrambleFits (has_scramble (capabilities p)) (has_name (capabilities p)) (scramble_2 p)
   pub auth_plugin_name : NameFits (has_name (capabilities p)) (auth_plugin_name p) rest
 
--- numbers and arrays that have their widths, as they always have; and these parts
+-- numbers and arrays within their widths, as they always are; and these parts
 pub record HandshakeFits (p : HandshakePacket) (rest : List ℕ) : Type 0 where
   pub protocol_version : protocol_version p < 2 ^ 8
   pub server_version : HasNoZero (server_version p)

@@ -1,4 +1,4 @@
--- The answer to a handshake.
+-- The handshake response.
 use Rattle.std.specs.Prelude.{◌≡◌, ℕ, ◌<◌, ◌^◌, ◌==◌, ◌&&◌, ◌||◌, nat_lt, nat_le, List, [], length, Option, Some, None, Bool, true, false, if◌then◌else◌, refl}
 use Rattle.std.proofs.Common.{arith}
 use Rattle.std.specs.Option.{option_map}
@@ -18,7 +18,7 @@ use Rattle.mysql_auth.specs.declared.auth_plugin.AuthPlugin.{AuthPlugin}
 use Rattle.mysql_auth.specs.declared.handshake_response.HandshakeResponse.{HandshakeResponse}
 use Rattle.mysql_auth.specs.declared.ssl_request.SslRequest.{SslRequest}
 
--- ---- the packet's values
+-- ---- values
 
 abbrev pub capabilities : HandshakeResponse → CapabilityFlags
 capabilities p = ssl.capabilities p.head
@@ -51,14 +51,14 @@ connect_attributes p = p.connect_attributes
 abbrev pub with_each_key_once : HandshakeResponse → HandshakeResponse
 with_each_key_once p = record p { connect_attributes = option_map merged (connect_attributes p) }
 
--- the level of its compression by zstd
+-- the zstd compression level
 abbrev pub zstd_level : HandshakeResponse → Option ℕ
 zstd_level p = option_map (λ level. level.0) p.zstd_level
 
 abbrev pub with_zstd_level : Option ℕ → HandshakeResponse → HandshakeResponse
 with_zstd_level level p = record p { zstd_level = option_map raw_int level }
 
--- the response with these capabilities of MariaDB's own
+-- the response with these MariaDB capabilities
 abbrev pub with_mariadb : MariadbCapabilities → HandshakeResponse → HandshakeResponse
 with_mariadb mariadb p = record p { head = ssl.with_mariadb mariadb p.head }
 
@@ -73,7 +73,7 @@ collation_for version =
     then 45
     else 33
 
--- ---- what is there, by the flags
+-- ---- which parts are present, by the flags
 
 abbrev pub sends_database : SslRequest → Bool
 sends_database head = has (ssl.capabilities head).0 CLIENT_CONNECT_WITH_DB
@@ -93,14 +93,14 @@ counts_by_byte head = has (ssl.capabilities head).0 CLIENT_SECURE_CONNECTION
 abbrev pub sends_zstd_level : SslRequest → Bool
 sends_zstd_level head = has (ssl.capabilities head).0 CLIENT_ZSTD_COMPRESSION_ALGORITHM
 
--- ---- the layout
+-- ---- layout
 
--- Length-encoded under CLIENT_PLUGIN_AUTH_LENENC_CLIENT_DATA; else after a length of one byte under
--- CLIENT_SECURE_CONNECTION; else up to a zero.
+-- Length-encoded under CLIENT_PLUGIN_AUTH_LENENC_CLIENT_DATA; otherwise after a length of one byte under CLIENT_SECURE_CONNECTION;
+-- otherwise terminated by a zero.
 unfoldable pub scramble : SslRequest → Codec (Unit {0}) (List ℕ)
 scramble head = one_of (counts_by_lenenc head) string_lenenc (one_of (counts_by_byte head) string_u8 string_null)
 
--- the database's name, the plugin and the attributes, each where its flag is set
+-- database, plugin and attributes, each under its flag
 unfoldable pub database : SslRequest → Codec (Unit {0}) (Option (List ℕ))
 database head = when (λ c. sends_database head) string_null
 
@@ -110,11 +110,11 @@ plugin head = when (λ c. sends_plugin head) plugin_null_or_eof
 unfoldable pub sent_attributes : SslRequest → Codec (Unit {0}) (Option (List Attribute))
 sent_attributes head = when (λ c. sends_attributes head) attributes
 
--- the attributes as they were sent: a key may come again
+-- the attributes as they were sent: a key may be repeated
 unfoldable pub pairs_as_sent : SslRequest → Codec (Unit {0}) (Option (List Attribute))
 pairs_as_sent head = when (λ c. sends_attributes head) attributes_as_sent
 
--- the level of compression in a byte, where it is sent and a byte is left
+-- the compression level in one byte, if it is sent and a byte is left
 pub some-byte : (level : RawInt ℕ ℕ) → 0 < 1
 some-byte level = omega arith
 
@@ -124,8 +124,8 @@ level_codec sent = one_of sent (if_bytes_left u8 some-byte) (when (λ c. false) 
 unfoldable pub sent_zstd_level : SslRequest → Codec (Unit {0}) (Option (RawInt ℕ ℕ))
 sent_zstd_level head = level_codec (sends_zstd_level head)
 
--- 32 bytes as of a request for TLS; the user; the scramble; the database, the plugin's name, the attributes and the level
--- of compression, each under its flag
+-- 32 bytes as in a request for TLS; the user; the scramble; the database, the plugin name, the attributes and the compression level, each
+-- under its flag
 abbrev pub handshake_response_fields : (SslRequest → Codec (Unit {0}) (Option (List Attribute))) → Fields (Unit {0}) HandshakeResponse HandshakeResponse
 handshake_response_fields given = do
   head ← field (λ p. p.head) ssl_request
@@ -150,15 +150,15 @@ handshake_response_fields given = do
 unfoldable pub handshake_response : Codec (Unit {0}) HandshakeResponse
 handshake_response = packet (handshake_response_fields sent_attributes) (λ p. refl)
 
--- the response as it was sent: a key may come again among its attributes
+-- the response as it was sent: a key may be repeated among its attributes
 unfoldable pub handshake_response_as_sent : Codec (Unit {0}) HandshakeResponse
 handshake_response_as_sent = packet (handshake_response_fields pairs_as_sent) (λ p. refl)
 
--- what is written of a level, where one is given
+-- the bytes of a compression level, if present
 abbrev pub level_bytes : Option (RawInt ℕ ℕ) → List ℕ
 level_bytes level = optional_bytes (λ n. le_bytes 1 n.0) level
 
--- what is written before the attributes
+-- the bytes before the attributes
 abbrev pub before_attributes : HandshakeResponse → List ℕ
 before_attributes p = handshake_response.bytes (record p { connect_attributes = None; zstd_level = None })
 
@@ -170,26 +170,26 @@ pub size-handshake_response_as_sent : (handshake_response_as_sent.form tt).size 
 unfolding handshake_response_as_sent
 size-handshake_response_as_sent = refl
 
--- ---- when a response is read again, in plain words
+-- ---- when a response is read back, in plain words
 
--- a part is there where it is sent, and fits
+-- a part is present if it is sent, and fits
 abbrev pub PartFits : {A : Type 0} → (A → Type 0) → Bool → Option A → Type 0
 PartFits Fits sent None = sent ≡ false
 PartFits Fits sent (Some part) = (sent ≡ true) × Fits part
 
--- a length that its form can tell, or no zero
+-- a length that its form can encode, or no zero
 abbrev pub ScrambleFits : (by_lenenc by_byte : Bool) → List ℕ → Type 0
 ScrambleFits true by_byte scramble = length scramble < 2 ^ 64
 ScrambleFits false true scramble = length scramble < 2 ^ 8
 ScrambleFits false false scramble = HasNoZero scramble
 
--- a level is a byte that is sent; where it is sent and there is none, nothing may follow
+-- a level is sent, and fits in a byte; if it would be sent and is missing, nothing may follow
 abbrev pub LevelFits : (sent : Bool) → Option ℕ → (rest : List ℕ) → Type 0
 LevelFits sent (Some level) rest = (sent ≡ true) × (level < 2 ^ 8)
 LevelFits true None rest = rest ≡ []
 LevelFits false None rest = Unit {0}
 
--- the parts, before this rest: what is left to show of a response at hand
+-- the parts, before this rest: what remains to be shown for a given response
 pub record ResponsePartsFit (p : HandshakeResponse) (rest : List ℕ) : Type 0 where
   pub user : HasNoZero (user p)
   pub scramble_buf : ScrambleFits (counts_by_lenenc p.head) (counts_by_byte p.head) (scramble_buf p)
@@ -198,25 +198,25 @@ pub record ResponsePartsFit (p : HandshakeResponse) (rest : List ℕ) : Type 0 w
   pub connect_attributes : PartFits AreShort (sends_attributes p.head) (connect_attributes p)
   pub zstd_level : LevelFits (sends_zstd_level p.head) (zstd_level p) rest
 
--- a length that its form can tell
+-- a length that its form can encode
 abbrev pub ScrambleIsShort : (by_lenenc by_byte : Bool) → List ℕ → Type 0
 ScrambleIsShort true by_byte scramble = length scramble < 2 ^ 64
 ScrambleIsShort false true scramble = length scramble < 2 ^ 8
 ScrambleIsShort false false scramble = Unit {0}
 
--- a level is a byte; where it is sent and there is none, nothing may follow
+-- a level fits in a byte; if it would be sent and is missing, nothing may follow
 abbrev pub LevelIsByte : (sent : Bool) → Option ℕ → (rest : List ℕ) → Type 0
 LevelIsByte sent (Some level) rest = level < 2 ^ 8
 LevelIsByte true None rest = rest ≡ []
 LevelIsByte false None rest = Unit {0}
 
--- the lengths, before this rest: what is left to show of a response that was read
+-- the lengths, before this rest: what remains to be shown for a response that was read
 pub record ResponseIsShort (p : HandshakeResponse) (rest : List ℕ) : Type 0 where
   pub scramble_buf : ScrambleIsShort (counts_by_lenenc p.head) (counts_by_byte p.head) (scramble_buf p)
   pub connect_attributes : AreShortIn (connect_attributes p)
   pub zstd_level : LevelIsByte (sends_zstd_level p.head) (zstd_level p) rest
 
--- numbers that have their widths, as they always have; and the parts before this rest, of which the attributes have each key once
+-- numbers within their widths, as they always are; and the parts before this rest, whose attributes have each key once
 pub record HandshakeResponseFits (p : HandshakeResponse) (rest : List ℕ) : Type 0 where
   pub capabilities : (capabilities p).0 < 2 ^ 32
   pub max_packet_size : max_packet_size p < 2 ^ 32

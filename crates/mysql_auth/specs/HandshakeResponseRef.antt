@@ -1,4 +1,4 @@
--- The answer to a handshake, part by part.
+-- The handshake response, in parts.
 use Rattle.std.specs.Prelude.{ℕ, List, Option, None}
 use Rattle.mysql_wire.specs.Form.{Form, ◌>>=◌, give}
 use Rattle.mysql_wire.specs.Null.{null_string}
@@ -8,7 +8,7 @@ use Rattle.mysql_auth.specs.HandshakeResponse.{scramble, database, plugin}
 use Rattle.mysql_auth.specs.SslRequest.{ssl_request}
 use Rattle.mysql_auth.specs.declared.handshake_response.HandshakeResponse.{HandshakeResponse}
 
--- what stands in front of the attributes: the response without any, and without a level
+-- the part before the attributes: the response without attributes and compression level
 abbrev pub before_attributes : Form HandshakeResponse
 before_attributes = do
   head ← ssl_request.form tt
@@ -28,6 +28,6 @@ before_attributes = do
       }
       )
 
--- the same response with these attributes, and with this level of compression
+-- the same response with these attributes and this compression level
 abbrev pub with_last : Option (List Attribute) → Option (RawInt ℕ ℕ) → HandshakeResponse → HandshakeResponse
 with_last given level p = record p { connect_attributes = given; zstd_level = level }

@@ -1,4 +1,4 @@
--- What the plugin parsec is sent beside the scramble.
+-- What a server sends for the plugin parsec, apart from the scramble.
 use Rattle.std.specs.Prelude.{ℕ, ◌*◌, ◌^◌, ◌==◌, ◌&&◌, List, Option, Some, None, drop, length, slice_index, nat_lt, if◌then◌else◌}
 
 -- 20 bytes: `P`, a factor of at most 20, and the salt. There are 1024 rounds times two to the power of the factor.

@@ -1,4 +1,4 @@
--- A plugin's name, up to a zero.
+-- A plugin name, terminated by a zero.
 use Rattle.std.specs.Prelude.{◌≡◌, ℕ, zero, suc, List, [], ◌∷◌, ◌++◌, length, Bool, true, false, refl}
 use Rattle.std.proofs.Common.{append_assoc}
 use Rattle.mysql_wire.specs.Codec.{Codec}
@@ -7,12 +7,12 @@ use Rattle.mysql_wire.specs.Null.{HasNoZero, null_string}
 use Rattle.mysql_auth.specs.AuthPlugin.{auth_plugin, plugin_name, plugin_of}
 use Rattle.mysql_auth.specs.declared.auth_plugin.AuthPlugin.{AuthPlugin}
 
--- a plugin that its name tells whole: no zero is in the name, and the plugin is that of the name
+-- a plugin that its name identifies: the name contains no zero, and the plugin is the one with that name
 pub record PluginFits (p : AuthPlugin) : Type 0 where
   pub no_zero : HasNoZero (plugin_name p)
   pub named : plugin_of (plugin_name p) ≡ p
 
--- the plugin of a name that is read so; it is written with a zero after the name
+-- the plugin with a name that is read so; it is written with a terminating zero
 abbrev named : (names : Form (List ℕ)) → ((p : AuthPlugin) (rest : List ℕ) → PluginFits p → (map plugin_of names).Spells p (auth_plugin.bytes p ++ rest) rest) → Codec (Unit {0}) AuthPlugin
 named names again = record {
   form = λ c. map plugin_of names;
@@ -23,24 +23,24 @@ named names again = record {
   again = λ c p rest h. again p rest h;
 }
 
--- ---- up to a zero
+-- ---- with a terminating zero
 
 pub plugin_null-again : (p : AuthPlugin) (rest : List ℕ) → PluginFits p → (map plugin_of null_string).Spells p (auth_plugin.bytes p ++ rest) rest
 unfolding auth_plugin null_string
 plugin_null-again p rest h = (plugin_name p, h.named, (h.no_zero, append_assoc (plugin_name p) (0 ∷ []) rest))
 
--- the plugin of a name that ends in a zero
+-- the plugin with a name that ends in a zero
 unfoldable pub plugin_null : Codec (Unit {0}) AuthPlugin
 plugin_null = named null_string plugin_null-again
 
--- ---- up to a zero, or to the end where there is none
+-- ---- with a terminating zero, or to the end without one
 
 abbrev pub has_zero : List ℕ → Bool
 has_zero [] = false
 has_zero (zero ∷ bytes) = true
 has_zero (suc b ∷ bytes) = has_zero bytes
 
--- the bytes up to a zero, which is taken; where there is none, all that is left
+-- the bytes up to a zero, which is consumed; without one, the rest of the bytes
 abbrev pub name_to_zero_or_end : Form (List ℕ)
 name_to_zero_or_end = looking (λ bytes. either (has_zero bytes) null_string all_left)
 
@@ -54,6 +54,6 @@ unfolding auth_plugin null_string
 plugin_null_or_eof-again p rest h =
     rw (zero-there (plugin_name p) rest) (plugin_name p, h.named, (h.no_zero, append_assoc (plugin_name p) (0 ∷ []) rest))
 
--- the plugin of a name that ends in a zero, or at the end of the bytes
+-- the plugin with a name that ends in a zero or at the end of the bytes
 unfoldable pub plugin_null_or_eof : Codec (Unit {0}) AuthPlugin
 plugin_null_or_eof = named name_to_zero_or_end plugin_null_or_eof-again

@@ -1,4 +1,4 @@
--- What asks a client for a plugin: the switch to it, and the next factor by it.
+-- Requests for a plugin: the switch to it, and the next factor with it.
 use Rattle.std.specs.Prelude.{◌≡◌, ℕ, List, None, Bool, ◌&&◌, nat_eq, refl}
 use Rattle.std.specs.Cmp.{IsPartialEquivalence, IsEquivalence, and_per, on_per, and_equiv, on_equiv, partial_equiv_from_equiv}
 use Rattle.std.specs.Cmp.Lexicographic.{pointwise, nat_list_eq_equiv}
@@ -6,14 +6,14 @@ use Rattle.mysql_wire.specs.Codec.{Codec, Fields}
 use Rattle.mysql_wire.specs.Codecs.{◌>>=◌, give, field, packet, const_u8, string_null, string_eof}
 use Rattle.mysql_auth.specs.declared.plugin_request.PluginRequest.{PluginRequest}
 
--- the plugin's name and its data, as they stand in the packet
+-- the plugin name and data, as they are in the packet
 abbrev pub plugin_name : {T : Type 0} {first : ℕ} → PluginRequest T first → List ℕ
 plugin_name p = p.auth_plugin
 
 abbrev pub plugin_data : {T : Type 0} {first : ℕ} → PluginRequest T first → List ℕ
 plugin_data p = p.plugin_data
 
--- the packet of these
+-- the packet with these fields
 abbrev pub request_of : {T : Type 0} {first : ℕ} → List ℕ → List ℕ → PluginRequest T first
 request_of name content = record { header = record { 0 = record {} }; auth_plugin = name; plugin_data = content }
 
@@ -27,7 +27,7 @@ request_per = let texts = partial_equiv_from_equiv nat_list_eq_equiv in and_per 
 pub request_equiv : {T : Type 0} {first : ℕ} → IsEquivalence (request_eq {T = T} {first = first})
 request_equiv = and_equiv (on_equiv plugin_name nat_list_eq_equiv) (on_equiv plugin_data nat_list_eq_equiv)
 
--- the first byte, the plugin's name with a zero, and its data to the end
+-- the first byte, the plugin name with a zero, and the plugin data to the end
 abbrev pub plugin_request_fields : {T : Type 0} (first : ℕ) → Fields (Unit {0}) (PluginRequest T first) (PluginRequest T first)
 plugin_request_fields first = do
   header ← field (λ p. p.header) (const_u8 first)

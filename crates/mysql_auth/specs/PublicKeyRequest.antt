@@ -1,4 +1,4 @@
--- The request for a server's public key.
+-- The request for the server's public key.
 use Rattle.std.specs.Prelude.{◌≡◌, None, refl}
 use Rattle.mysql_wire.specs.Codec.{Codec, Fields}
 use Rattle.mysql_wire.specs.Codecs.{◌>>=◌, give, field, packet, const_u8}

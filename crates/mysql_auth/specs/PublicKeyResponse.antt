@@ -1,4 +1,4 @@
--- A server's public key.
+-- The server's public key.
 use Rattle.std.specs.Prelude.{◌≡◌, ℕ, List, None, refl}
 use Rattle.mysql_wire.specs.Codec.{Codec, Fields}
 use Rattle.mysql_wire.specs.Codecs.{◌>>=◌, give, field, packet, const_u8, string_eof}
@@ -8,7 +8,7 @@ use Rattle.mysql_auth.specs.declared.public_key_response.PublicKeyResponse.{Publ
 abbrev pub rsa_key : PublicKeyResponse → List ℕ
 rsa_key p = p.rsa_key
 
--- the packet of this key
+-- the packet with this key
 abbrev pub response_of : List ℕ → PublicKeyResponse
 response_of key = record { header = record { 0 = record {} }; rsa_key = key }
 

@@ -21,7 +21,7 @@ character_set p = p.character_set.0
 abbrev pub mariadb_capabilities : SslRequest → MariadbCapabilities
 mariadb_capabilities p = p.mariadb_capabilities.0
 
--- the request of these
+-- the request with these fields
 abbrev pub request_of : CapabilityFlags → ℕ → ℕ → MariadbCapabilities → SslRequest
 request_of capabilities max_packet_size character_set mariadb = record {
   capabilities = record { 0 = capabilities; 1 = record {} };
@@ -40,7 +40,7 @@ with_character_set number p = request_of (capabilities p) (max_packet_size p) nu
 abbrev pub with_capabilities : CapabilityFlags → SslRequest → SslRequest
 with_capabilities capabilities p = request_of capabilities (max_packet_size p) (character_set p) (mariadb_capabilities p)
 
--- CLIENT_SSL, by which a server knows a request for TLS
+-- CLIENT_SSL, by which a server recognizes a request for TLS
 abbrev pub with_client_ssl : ℕ → ℕ
 with_client_ssl bits = bit_or bits CLIENT_SSL
 
@@ -73,7 +73,7 @@ pub size-ssl_request : (ssl_request.form tt).size ≡ Some 32
 unfolding ssl_request
 size-ssl_request = size-block 32 (ssl_request_fields.form tt)
 
--- a request is read again where its numbers have their widths, as they always have
+-- a request is read back if its numbers are within their widths, as they always are
 pub record SslRequestFits (p : SslRequest) : Type 0 where
   pub capabilities : (capabilities p).0 < 2 ^ 32
   pub max_packet_size : max_packet_size p < 2 ^ 32

@@ -1,4 +1,4 @@
--- The versions that stand in a server's version text.
+-- The version numbers in a server's version text.
 use Rattle.std.specs.Prelude.{◌≡◌, ℕ, zero, suc, ◌==◌, ◌<◌, ◌≤◌, List, [], ◌∷◌, ◌++◌, length, take, drop, Bool, true, false, None, Ok, Err, codes, if◌then◌else◌, refl}
 use Rattle.std.proofs.Common.{ap, sym, ◌∙◌, ◌⊎◌, inl, inr, arith}
 use Rattle.std.proofs.lemmas.Bool.{eqb-false, ne_eqb}
@@ -12,7 +12,7 @@ use Rattle.mysql_wire.specs.declared.fault.FaultKind.TheVariants as kind
 use Rattle.mysql_wire.specs.Reading.{Reading, IsTail, guard_ok}
 use Rattle.mysql_wire.specs.Form.{Form, ◌>>=◌, give}
 
--- ---- a number of some digits
+-- ---- a number with some digits
 
 abbrev pub AreDigits : List ℕ → Type 0
 AreDigits [] = Unit {0}
@@ -23,7 +23,7 @@ abbrev pub EndsDigits : List ℕ → Type 0
 EndsDigits [] = Unit {0}
 EndsDigits (b ∷ bytes) = is_ascii_digit b ≡ false
 
--- The digits that stand there write the number: at least one, at most this many, and as many as there are up to that.
+-- The digits at the beginning write the number: at least one, at most this many, and as many as there are up to that.
 pub record Digits (most n : ℕ) (bytes rest : List ℕ) : Type 0 where
   pub digits : List ℕ
   pub parts : bytes ≡ digits ++ rest
@@ -33,7 +33,7 @@ pub record Digits (most n : ℕ) (bytes rest : List ℕ) : Type 0 where
   pub longest : length digits < most → EndsDigits rest
   pub value : digits_value 10 digits ≡ n
 
--- how many digits stand there, up to this many
+-- how many digits the bytes begin with, up to this many
 abbrev pub digit_count : ℕ → List ℕ → ℕ
 digit_count zero bytes = 0
 digit_count (suc most) [] = 0
@@ -67,7 +67,7 @@ counted (suc most) (b ∷ bytes) =
       | inr other ↦ rw other record { few = omega arith; within = omega arith; are_digits = tt; longest = λ lt. other }
     ]
 
--- no other count of digits is the longest
+-- no other number of digits is the longest
 pub count-is : (most : ℕ) (digits rest : List ℕ) → AreDigits digits → length digits ≤ most → (length digits < most → EndsDigits rest) → digit_count most (digits ++ rest) ≡ length digits
 count-is zero [] rest all few longest = refl
 count-is zero (b ∷ digits) rest all few longest = absurd (omega (arith, few))
@@ -119,7 +119,7 @@ number most = record {
   sized = tt;
 }
 
--- ---- a text as it stands
+-- ---- a text
 
 abbrev pub text_reads : List ℕ → List ℕ → Reading (Unit {0})
 text_reads text bytes = if bytes_eq (take (length text) bytes) text then Ok (tt, drop (length text) bytes) else Err kind.InvalidData
@@ -153,7 +153,7 @@ literal text = record {
 
 -- ---- versions
 
--- three numbers with dots between them: two of one or two digits, and one of the first one to three digits that stand there
+-- three numbers separated by dots: two of one or two digits, and one of the first one to three digits
 unfoldable pub version : Form (ℕ × ℕ × ℕ)
 version = do
   major ← number 2
@@ -163,7 +163,7 @@ version = do
   patch ← number 3
   give (major, minor, patch)
 
--- such a version with MariaDB's name right after it
+-- such a version directly followed by MariaDB's name
 unfoldable pub mariadb_version : Form (ℕ × ℕ × ℕ)
 mariadb_version = do
   numbers ← version
@@ -177,10 +177,10 @@ HasVersion text v = (tail : List ℕ) × version.Spells v text tail
 abbrev pub HasMariadbVersion : List ℕ → ℕ × ℕ × ℕ → Type 0
 HasMariadbVersion text v = (tail : List ℕ) × mariadb_version.Spells v text tail
 
--- what MariaDB's servers put in front, for clients that ask for a version of MySQL
+-- MariaDB's prefix for clients that expect a MySQL version
 abbrev pub HasMariadbVersionAfter : List ℕ → ℕ × ℕ × ℕ → Type 0
 HasMariadbVersionAfter text v = (rest : List ℕ) × (text ≡ codes "5.5.5-" ++ rest) × HasMariadbVersion rest v
 
--- a version of MariaDB: after 5.5.5- where one stands there, else at the start
+-- a MariaDB version: after 5.5.5- if present, otherwise at the start
 abbrev pub IsMariadbVersion : List ℕ → ℕ × ℕ × ℕ → Type 0
 IsMariadbVersion text v = HasMariadbVersionAfter text v ⊎ (((w : ℕ × ℕ × ℕ) → HasMariadbVersionAfter text w → ⊥) × HasMariadbVersion text v)

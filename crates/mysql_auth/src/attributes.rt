@@ -54,7 +54,7 @@ fn read_few<'s, 'a>(inside: ParseBuf<'a>) -> Result<Attributes<'a>, FaultOf<'s>>
     requires some { inside ≢ [] }
     ensures value { Answers (is_any (pairs_room (length inside.entry))) result [] (spec.pairs.reads inside.entry) }
 {
-    // (a pair takes two bytes at least)
+    // A pair takes at least two bytes.
     let capacity = min(FEW, inside.len() / 2);
     let mut list = Vec::with_capacity(inside.alloc(), capacity)?;
     let mut rest = inside.rest();

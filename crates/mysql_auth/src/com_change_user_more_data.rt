@@ -82,7 +82,7 @@ impl<'a> ComChangeUserMoreData<'a> {
         connect_attributes: Option<IndexMap<String, String>>,
     ) -> Result<Self, AllocError>
         ensures value { IfOk result (λ p. p ≡ spec.with_connect_attributes (option_map (λ texts. map text_pair texts.entries) connect_attributes) self.entry) }
-        // Without attributes it takes no memory.
+        // Without attributes it doesn't allocate.
         ensures no_memory { option_map_or (λ texts. texts.entries) connect_attributes [] ≡ [] → IsOk result }
     {
         self.connect_attributes = attributes_of(alloc, connect_attributes)?;
@@ -100,7 +100,7 @@ impl<'a> ComChangeUserMoreData<'a> {
     /// Copies all fields, so that they borrow nothing.
     pub fn into_owned(self, alloc: Global) -> Result<ComChangeUserMoreData<'static>, AllocError>
         ensures value { IfOk result (λ owned. owned ≡ self.entry) }
-        // Attributes and the name of a plugin that has no variant of its own alone take memory.
+        // Only attributes, and the name of a plugin without its own variant, take memory.
         ensures no_memory { spec.HasNoTexts self.entry → IsOk result }
     {
         let ComChangeUserMoreData {

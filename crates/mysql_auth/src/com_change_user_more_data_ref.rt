@@ -84,7 +84,7 @@ impl<'a> ComChangeUserMoreDataRef<'a> {
     /// once.
     pub fn to_more_data(&self, alloc: Global) -> Result<ComChangeUserMoreData<'a>, AllocError>
         ensures value { IfOk result (λ more. more ≡ spec.more_with_each_key_once self.now) }
-        // Without attributes it takes no memory.
+        // Without attributes it doesn't allocate.
         ensures no_memory { unwrap_or (spec.connect_attributes self.now) [] ≡ [] → IsOk result }
     {
         Ok(self.with_attributes(attributes_given(&self.connect_attributes, alloc)?))

@@ -100,7 +100,7 @@ impl<'a> ComChangeUserRef<'a> {
     /// Converts to a [`ComChangeUser`], which still borrows the texts. Only the attributes take memory, with each key once.
     pub fn to_change(&self, alloc: Global) -> Result<ComChangeUser<'a>, AllocError>
         ensures value { IfOk result (λ change. change ≡ spec.with_each_key_once self.now) }
-        // Without attributes it takes no memory.
+        // Without attributes it doesn't allocate.
         ensures no_memory { IfSome (spec.more_data_in self.now) (λ more. unwrap_or (spec.connect_attributes more) [] ≡ []) → IsOk result }
     {
         let more_data = match &self.more_data {

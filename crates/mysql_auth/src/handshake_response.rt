@@ -148,7 +148,7 @@ impl<'a> HandshakeResponse<'a> {
         ensures db_name { IfOk result (λ p. spec.db_name p ≡ option_map cow_slice_items db_name.entry) }
         ensures auth_plugin { IfOk result (λ p. spec.auth_plugin p ≡ auth_plugin.entry) }
         ensures connect_attributes { IfOk result (λ p. spec.connect_attributes p ≡ option_map (λ texts. map text_pair texts.entries) connect_attributes) }
-        // Without attributes it takes no memory.
+        // Without attributes it doesn't allocate.
         ensures no_memory { option_map_or (λ texts. texts.entries) connect_attributes [] ≡ [] → IsOk result }
         ensures max_packet_size { IfOk result (λ p. spec.max_packet_size p ≡ max_packet_size) }
         ensures mariadb_ext_capabilities { IfOk result (λ p. (spec.mariadb_ext_capabilities p).0 ≡ 0) }
@@ -288,7 +288,7 @@ impl<'a> HandshakeResponse<'a> {
         ensures value { IfOk result (λ texts. option_map (λ texts. map text_pair texts.entries) texts ≡ option_map lossy_pairs (spec.connect_attributes self.now)) }
         ensures none { spec.connect_attributes self.now ≡ None → result ≡ Ok None }
         ensures no_memory { unwrap_or (spec.connect_attributes self.now) [] ≡ [] → IsOk result }
-        // Each key stands once among the attributes, as reading back asks.
+        // Each key occurs once among the attributes, as reading back requires.
         ensures once { (pairs : List Attribute) → spec.connect_attributes self.now ≡ Some pairs → merged pairs ≡ pairs }
     {
         match &self.connect_attributes {

@@ -193,7 +193,7 @@ impl<'a> HandshakeResponseRef<'a> {
     /// Converts to a [`HandshakeResponse`], which still borrows the texts. Only the attributes take memory, with each key once.
     pub fn to_response(&self, alloc: Global) -> Result<HandshakeResponse<'a>, AllocError>
         ensures value { IfOk result (λ response. response ≡ spec.with_each_key_once self.now) }
-        // Without attributes it takes no memory.
+        // Without attributes it doesn't allocate.
         ensures no_memory { unwrap_or (spec.connect_attributes self.now) [] ≡ [] → IsOk result }
     {
         let attributes = attributes_given(&self.connect_attributes, alloc)?;

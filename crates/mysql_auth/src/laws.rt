@@ -4,7 +4,7 @@
 //! with `this` speak of the value at hand.
 #![tactic(auto, using(mysql_wire::proofs::Packets::packets, crate::proofs::WholePackets::whole_packets, crate::proofs::HandshakeFits::handshakes, crate::proofs::HandshakeResponseFits::responses, crate::proofs::ChangeUserFits::changes))]
 
-ghost use Rattle.std.specs.Prelude.{◌≡◌, ◌++◌, ℕ, List, [], Some, None, true};
+ghost use Rattle.std.specs.Prelude.{◌≡◌, ◌++◌, ℕ, List, [], true};
 ghost use Rattle.mysql_auth.specs.declared.auth_more_data.AuthMoreData.{AuthMoreData};
 ghost use Rattle.mysql_auth.specs.AuthNextFactor.{AuthNextFactor};
 ghost use Rattle.mysql_auth.specs.AuthSwitchRequest.{AuthSwitchRequest};
@@ -155,93 +155,37 @@ pub fn one_version()
     ensures one_mariadb { (text : List ℕ) (v w : ℕ × ℕ × ℕ) → HasMariadbVersion text v → HasMariadbVersion text w → v ≡ w }
 {}
 
-/// A plugin's name has no constant size.
-pub fn auth_plugin_has_no_constant_size() -> Option<usize>
-    ensures value { result ≡ None }
+/// Each packet states its size: a request for TLS takes 32 bytes, a switch to the oldest plugin one, and nothing else has a constant size.
+#[tactic(auto)]
+pub fn each_packet_has_its_size() -> bool
+    ensures value { result ≡ true }
 {
-    <crate::auth_plugin::AuthPlugin<'static> as MyDeserialize>::SIZE
+    login_packets_have_their_sizes() && authentication_packets_have_their_sizes()
 }
 
-/// Further data has no constant size.
-pub fn auth_more_data_has_no_constant_size() -> Option<usize>
-    ensures value { result ≡ None }
+/// The packets of a login and of a change of user.
+#[tactic(auto)]
+fn login_packets_have_their_sizes() -> bool
+    ensures value { result ≡ true }
 {
-    <crate::auth_more_data::AuthMoreData<'static> as MyDeserialize>::SIZE
+    crate::SslRequest::SIZE == Some(32)
+        && crate::HandshakePacket::<'static>::SIZE.is_none()
+        && crate::HandshakeResponse::<'static>::SIZE.is_none()
+        && crate::ComChangeUser::<'static>::SIZE.is_none()
+        && crate::ComChangeUserMoreData::<'static>::SIZE.is_none()
 }
 
-/// A request for a public key states no constant size, though it is one byte.
-pub fn public_key_request_has_no_constant_size() -> Option<usize>
-    ensures value { result ≡ None }
+/// The other packets of an authentication.
+#[tactic(auto)]
+fn authentication_packets_have_their_sizes() -> bool
+    ensures value { result ≡ true }
 {
-    <crate::public_key_request::PublicKeyRequest as MyDeserialize>::SIZE
-}
-
-/// A public key has no constant size.
-pub fn public_key_response_has_no_constant_size() -> Option<usize>
-    ensures value { result ≡ None }
-{
-    <crate::public_key_response::PublicKeyResponse<'static> as MyDeserialize>::SIZE
-}
-
-/// A switch to another plugin has no constant size.
-pub fn auth_switch_request_has_no_constant_size() -> Option<usize>
-    ensures value { result ≡ None }
-{
-    <<crate::auth_switch_request::AuthSwitchRequest<'static> as MyDeserialize>::Size as Width>::SIZE
-}
-
-/// A request for the next factor has no constant size.
-pub fn auth_next_factor_has_no_constant_size() -> Option<usize>
-    ensures value { result ≡ None }
-{
-    <<crate::auth_next_factor::AuthNextFactor<'static> as MyDeserialize>::Size as Width>::SIZE
-}
-
-/// A reply has no constant size.
-pub fn auth_reply_has_no_constant_size() -> Option<usize>
-    ensures value { result ≡ None }
-{
-    <crate::auth_reply::AuthReply<'static> as MyDeserialize>::SIZE
-}
-
-/// A handshake has no constant size.
-pub fn handshake_has_no_constant_size() -> Option<usize>
-    ensures value { result ≡ None }
-{
-    <crate::handshake::HandshakePacket<'static> as MyDeserialize>::SIZE
-}
-
-/// A response to a handshake has no constant size.
-pub fn handshake_response_has_no_constant_size() -> Option<usize>
-    ensures value { result ≡ None }
-{
-    <crate::handshake_response::HandshakeResponse<'static> as MyDeserialize>::SIZE
-}
-
-/// A change of user has no constant size.
-pub fn change_user_has_no_constant_size() -> Option<usize>
-    ensures value { result ≡ None }
-{
-    <crate::com_change_user::ComChangeUser<'static> as MyDeserialize>::SIZE
-}
-
-/// A change of user's more data has no constant size.
-pub fn more_data_has_no_constant_size() -> Option<usize>
-    ensures value { result ≡ None }
-{
-    <crate::com_change_user_more_data::ComChangeUserMoreData<'static> as MyDeserialize>::SIZE
-}
-
-/// A switch to the oldest plugin takes one byte.
-pub fn old_auth_switch_request_size() -> Option<usize>
-    ensures value { result ≡ Some 1 }
-{
-    <crate::old_auth_switch_request::OldAuthSwitchRequest as MyDeserialize>::SIZE
-}
-
-/// A request for TLS takes 32 bytes.
-pub fn ssl_request_size() -> Option<usize>
-    ensures value { result ≡ Some 32 }
-{
-    <crate::ssl_request::SslRequest as MyDeserialize>::SIZE
+    crate::OldAuthSwitchRequest::SIZE == Some(1)
+        && crate::PublicKeyRequest::SIZE.is_none()
+        && crate::PublicKeyResponse::<'static>::SIZE.is_none()
+        && crate::AuthMoreData::<'static>::SIZE.is_none()
+        && crate::AuthReply::<'static>::SIZE.is_none()
+        && crate::AuthPlugin::<'static>::SIZE.is_none()
+        && <<crate::AuthSwitchRequest<'static> as MyDeserialize>::Size as Width>::SIZE.is_none()
+        && <<crate::AuthNextFactor<'static> as MyDeserialize>::Size as Width>::SIZE.is_none()
 }

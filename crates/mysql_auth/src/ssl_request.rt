@@ -132,7 +132,7 @@ impl SslRequest {
     pub(crate) fn for_tls(&self) -> Self
         ensures value { result ≡ spec.for_tls self.now }
     {
-        // (by this flag a server knows a request for TLS)
+        // A server recognizes a request for TLS by this flag.
         let bits = self.capabilities().bits() | CapabilityFlags::CLIENT_SSL.bits();
         self.with_capabilities(CapabilityFlags::from_bits_retain(bits))
     }

@@ -21,25 +21,25 @@ use Rattle.mysql_bulk.specs.Request.{BulkRequest, request_flags, request_bytes}
 use Rattle.mysql_bulk.specs.Row.{contents_of_row, first_length, OneLength, rows_packing}
 use Rattle.mysql_bulk.specs.BuilderRows.{IsFlat, waiting_rows}
 
--- the settings of a builder, and what it holds
+-- the settings of a builder, and its rows
 pub record BuilderState : Type 0 where
   pub stmt_id : ℕ
-  -- the most bytes that a request may have
+  -- the packet limit in bytes
   pub limit : ℕ
-  -- the results of each row are asked for
+  -- each row's results are requested
   pub results : Bool
   pub rule : BulkRule
-  -- the names of the parameters, in the order of the statement
+  -- the parameters' names, in the order of the statement
   pub names : Option (List (Vec ℕ))
-  -- the types of the columns, if they were declared
+  -- the columns' types, if they were declared
   pub columns : Option (List ParamType)
-  -- the length of the rows, once one was accepted or types were declared
+  -- the number of values of a row, once a row was accepted or types were declared
   pub arity : Option ℕ
   -- the next request sends types
   pub types_due : Bool
   pub waiting : List (List Content)
 
--- a builder with these settings, which holds a given number of rows, whose values stand in one list
+-- a builder with these settings and a given number of rows, whose values are in one list
 abbrev pub builder_state : (stmt_id limit : ℕ) (results : Bool) → BulkRule → (names : Option (List (Vec ℕ))) → (columns : Option (List ParamType)) → (arity : Option ℕ) → (types_due : Bool) → (count : ℕ) → List Content → BuilderState
 builder_state stmt_id limit results rule names columns arity types_due count values = record {
   stmt_id = stmt_id;
@@ -53,25 +53,25 @@ builder_state stmt_id limit results rule names columns arity types_due count val
   waiting = waiting_rows arity count values;
 }
 
--- how the requests of rows of a length are measured
+-- how the requests of rows of this length are measured
 abbrev pub packing : BuilderState → ℕ → Packing (List Content)
 packing s arity = rows_packing s.rule s.limit arity
 
--- ---- types are declared
+-- ---- declaring types
 
--- the columns are as many as the types, which are due in the next request; or this is the first type that may not be declared
+-- there are as many columns as types, and the next request sends them; or this is the first type that can't be declared
 abbrev pub Declares : BuilderState → List ParamType → Result BuilderState BulkColumnTypeError → Type 0
 Declares s types (Ok t) = All (λ kind. IsTrue (is_declarable kind)) types × (t ≡ record s { columns = Some types; arity = Some (length types); types_due = true })
 Declares s types (Err e) = position (λ kind. not (is_declarable kind)) types ≡ Some e.place
 
--- ---- a row is offered
+-- ---- adding a row
 
--- a row of this length may come after those that were accepted
+-- a row of this length may follow those that were accepted
 abbrev pub TakesArity : Option ℕ → ℕ → Type 0
 TakesArity None n = Unit {0}
 TakesArity (Some arity) n = n ≡ arity
 
--- a row may come next: it has that length, and the declared types spell its values
+-- a row may be next: it has that length, and the declared types can encode its values
 abbrev pub TakesRow : BuilderState → List Content → Type 0
 TakesRow s row = TakesArity s.arity (length row) × TakesTypes s.columns row
 
@@ -83,7 +83,7 @@ RowFits s row = PartFits (packing s (length row)) s.types_due (s.waiting ++ row 
 abbrev pub after_row : BuilderState → List Content → BuilderState
 after_row s row = record s { arity = Some (length row); waiting = s.waiting ++ row ∷ [] }
 
--- it waits, or is given back since it does not fit with those that wait, or is refused
+-- the row is accepted; or returned, because it doesn't fit with the waiting rows; or refused
 abbrev pub Adds : BuilderState → Vec Value → Result (Option (Vec Value)) BulkExecuteRequestError → BuilderState → Type 0
 Adds s row (Ok None) t = TakesRow s (contents_of_row row) × RowFits s (contents_of_row row) × (t ≡ after_row s (contents_of_row row))
 Adds s row (Ok (Some back)) t = TakesRow s (contents_of_row row) × (RowFits s (contents_of_row row) → ⊥) × (s.waiting ≢ []) × (back ≡ row) × (t ≡ s)
@@ -94,13 +94,13 @@ Adds s row (Err (MemoryRow back)) t = TakesRow s (contents_of_row row) × RowFit
 Adds s row (Err NoParams) t = ⊥
 Adds s row (Err Memory) t = ⊥
 
--- the same, where a refusal is one of parameters or of rows
+-- the same, with an error of parameters or of rows
 abbrev pub AddsRow : BuilderState → Vec Value → Result (Option (Vec Value)) BulkExecuteRequestBuilderError → BuilderState → Type 0
 AddsRow s row (Ok back) t = Adds s row (Ok back) t
 AddsRow s row (Err (refused.Request e)) t = Adds s row (Err e) t
 AddsRow s row (Err (refused.Params e)) t = ⊥
 
--- a copy of a row is offered: it waits, or it does not fit with the rows that wait, or it is refused
+-- a copy of a row is added: it is accepted, or doesn't fit with the waiting rows, or is refused
 abbrev pub AddsCopy : BuilderState → List Content → Result Bool BulkRowError → BuilderState → Type 0
 AddsCopy s row (Ok true) t = TakesRow s row × RowFits s row × (t ≡ after_row s row)
 AddsCopy s row (Ok false) t = TakesRow s row × (RowFits s row → ⊥) × (s.waiting ≢ []) × (t ≡ s)
@@ -109,13 +109,13 @@ AddsCopy s row (Err copy_refused.MixedTypes) t = TakesArity s.arity (length row)
 AddsCopy s row (Err copy_refused.TooLarge) t = TakesRow s row × (RowFits s row → ⊥) × (s.waiting ≡ []) × (t ≡ s)
 AddsCopy s row (Err copy_refused.Memory) t = TakesRow s row × RowFits s row × (t ≡ s)
 
--- parameters are offered: their values are a row, or they are refused
+-- parameters are added: their values form a row, or they are refused
 abbrev pub AddsParams : BuilderState → Params → Result (Option (Vec Value)) BulkExecuteRequestBuilderError → BuilderState → Type 0
 AddsParams s params (Ok back) t = (row : Vec Value) × (given_by.values_of params s.names ≡ Ok (contents_of_row row)) × Adds s row (Ok back) t
 AddsParams s params (Err (refused.Request e)) t = (row : Vec Value) × (given_by.values_of params s.names ≡ Ok (contents_of_row row)) × Adds s row (Err e) t
 AddsParams s params (Err (refused.Params e)) t = given_by.Refuses params s.names e × (t ≡ s)
 
--- ---- a request is asked for
+-- ---- building a request
 
 -- the request of these rows
 pub record IsRequest (s : BuilderState) (rows : List (List Content)) (request : BulkRequest) : Type 0 where
@@ -123,7 +123,7 @@ pub record IsRequest (s : BuilderState) (rows : List (List Content)) (request : 
   pub flags : request.bulk_flags ≡ request_flags s.types_due s.results
   pub types : request.types ≡ (if s.types_due then types_of_rows s.columns rows else [])
   pub values : request.values ≡ map with_indicator (rows_in rows)
-  -- which the declared types spell
+  -- the declared types can encode them
   pub taken : All (TakesTypes s.columns) rows
 
 -- the state after a request
@@ -140,17 +140,17 @@ WaitingFits s = PartFits (packing s (first_length s.waiting)) s.types_due s.wait
 
 -- the request of the waiting rows was built
 pub record BuildsRequest (s : BuilderState) (request : BulkRequest) (t : BuilderState) : Type 0 where
-  -- rows waited
+  -- rows were waiting
   pub some : s.waiting ≢ []
-  -- it holds their values, in order, and the types of their columns where they are due
+  -- it contains their values, in order, and the types of their columns if these are due
   pub is_theirs : IsRequest s s.waiting request
-  -- it writes exactly the bytes that rows of their sizes take, and these are allowed
+  -- its size is that of rows of their sizes, and is allowed
   pub size : length (request_bytes request) ≡ waiting_size s
   pub fits : WaitingFits s
-  -- the rows wait no longer
+  -- no row waits any more
   pub left : t ≡ after_request s
 
--- the waiting rows are asked for as a request. It takes no memory
+-- the request of the waiting rows is built, without allocation
 abbrev pub Builds : BuilderState → Result BulkRequest BulkExecuteRequestError → BuilderState → Type 0
 Builds s (Ok request) t = BuildsRequest s request t
 Builds s (Err NoParams) t = (s.waiting ≡ []) × (t ≡ s)
@@ -160,24 +160,24 @@ Builds s (Err (MixedTypes row)) t = ⊥
 Builds s (Err (RowTooLarge row)) t = ⊥
 Builds s (Err (MemoryRow row)) t = ⊥
 
--- ---- what holds of every builder
+-- ---- the invariant
 
--- the arity after these rows, which are of one length
+-- the length of rows after these rows, which have one length
 abbrev pub arity_after : Option ℕ → List (List Content) → Option ℕ
 arity_after known [] = known
 arity_after known (row ∷ rows) = Some (length row)
 
--- what holds of every builder
+-- the invariant of a builder
 pub record IsConsistent (s : BuilderState) : Type 0 where
-  -- the rows that wait are of one length, which is the arity
+  -- the waiting rows have one length, which the builder knows
   pub one_length : OneLength s.waiting
   pub arity : s.arity ≡ arity_after s.arity s.waiting
-  -- the declared types spell them
+  -- the declared types can encode them
   pub taken : All (TakesTypes s.columns) s.waiting
-  -- and they may be a request
+  -- and they fit in a request
   pub fits : s.waiting ≢ [] → WaitingFits s
 
--- a given number of rows wait, of a given number of bytes: their values stand in one list, and beside it the types of their columns so far
+-- a number of rows wait, with a total size: their values are in one list, and the types of their columns so far in another
 pub record IsStoredAs (s : BuilderState) (count size : ℕ) (values : List Content) (types : List ParamType) : Type 0 where
   pub limit_is : s.limit < 2 ^ 64
   pub rows_is : s.waiting ≡ waiting_rows s.arity count values

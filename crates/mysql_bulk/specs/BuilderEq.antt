@@ -17,7 +17,7 @@ name_eq a b = pointwise nat_eq a.items b.items
 abbrev pub names_eq : Option (List (Vec ℕ)) → Option (List (Vec ℕ)) → Bool
 names_eq = option_eq (pointwise name_eq)
 
--- rows whose values hold the same
+-- rows whose values have the same contents
 abbrev pub rows_eq : List (List Content) → List (List Content) → Bool
 rows_eq = pointwise (pointwise content_eq)
 
@@ -46,7 +46,7 @@ abbrev pub columns_eq : (ParamType → ParamType → Bool) → BuilderState → 
 columns_eq type_eq a b = names_eq a.names b.names && option_eq (pointwise type_eq) a.columns b.columns
 
 module _ (rule_eq : BulkRule → BulkRule → Bool) (type_eq : ParamType → ParamType → Bool) where
-  -- the same settings, and waiting rows whose values hold the same
+  -- the same settings, and waiting rows whose values have the same contents
   abbrev pub builder_eq : BuilderState → BuilderState → Bool
   builder_eq a b =
       nat_eq a.stmt_id b.stmt_id

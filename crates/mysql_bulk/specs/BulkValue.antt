@@ -1,4 +1,4 @@
--- Values of a row as a client sends them: a value, DEFAULT or IGNORE, under the declared type of its column.
+-- Values of a row as a client sends them: a value, DEFAULT or IGNORE, under the column's declared type.
 use Rattle.std.specs.Prelude.{ℕ, ◌++◌, Bool, true, false, ◌&&◌, is_some, List, [], ◌∷◌, length, Option, Some, unwrap_or}
 use Rattle.std.specs.Option.{option_map}
 use Rattle.mysql_wire.specs.declared.codes.mariadb_bulk_indicator.MariadbBulkIndicator.{MariadbBulkIndicator}
@@ -12,7 +12,7 @@ use Rattle.mysql_values.specs.ValueRef.{ref_content}
 use Rattle.mysql_bulk.specs.declared.bulk_value.BulkValue.{BulkValue}
 use Rattle.mysql_bulk.specs.declared.bulk_value.BulkValue.TheVariants as bulk
 
--- what stands in a column of a row
+-- the content of a column in a row
 pub data Cell : Type 0 where
   Given : Content → Cell
   Default : Cell
@@ -23,12 +23,12 @@ cell_of (bulk.Value value) = Given (ref_content value)
 cell_of bulk.Default = Default
 cell_of bulk.Ignore = Ignore
 
--- ---- the bytes
+-- ---- bytes
 
 abbrev pub indicator_bytes : MariadbBulkIndicator → List ℕ
 indicator_bytes indicator = le_bytes 1 (mariadb_bulk_indicator_code indicator)
 
--- the indicator, and where one follows, the value under the declared type; none where the type does not spell it
+-- the indicator, and the value under the declared type if one follows; none if the type can't encode it
 abbrev pub cell_spelled : ParamType → Cell → Option (List ℕ)
 cell_spelled t (Given NULL) = Some (indicator_bytes BULK_INDICATOR_NULL)
 cell_spelled t (Given value) = option_map (λ bytes. indicator_bytes BULK_INDICATOR_NONE ++ bytes) (spelled t value)
@@ -41,7 +41,7 @@ spells_cell t cell = is_some (cell_spelled t cell)
 abbrev pub cell_bytes : ParamType → Cell → List ℕ
 cell_bytes t cell = unwrap_or (cell_spelled t cell) []
 
--- the row has one cell for each type, which spells it
+-- the row has one cell for each type, which can encode it
 abbrev pub spells_cells : List ParamType → List Cell → Bool
 spells_cells [] [] = true
 spells_cells [] (cell ∷ row) = false
@@ -54,6 +54,6 @@ cells_bytes [] row = []
 cells_bytes (t ∷ types) [] = []
 cells_bytes (t ∷ types) (cell ∷ row) = cell_bytes t cell ++ cells_bytes types row
 
--- how many they are, by the declared widths
+-- the size, by the declared widths
 abbrev pub cells_size : List ParamType → List Cell → ℕ
 cells_size types row = length (cells_bytes types row)

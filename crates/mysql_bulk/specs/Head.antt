@@ -1,4 +1,4 @@
--- What stands before the values of a bulk request.
+-- What precedes the values of a bulk request.
 use Rattle.std.specs.Prelude.{ℕ, Bool, if◌then◌else◌, List, length, map, refl}
 use Rattle.mysql_wire.specs.FlagMasks.{SEND_TYPES_TO_SERVER, UNSIGNED, UNSIGNED_FLAG}
 use Rattle.mysql_wire.specs.declared.little_endian.LeU16.{LeU16}
@@ -20,7 +20,7 @@ pub record BulkHead : Type 0 where
 abbrev pub sends_types : StmtBulkExecuteFlags → Bool
 sends_types flags = has flags.0 SEND_TYPES_TO_SERVER
 
--- the types of a given number of columns, where they are sent
+-- the types of this many columns, if they are sent
 abbrev pub column_types : Bool → Codec ℕ (List ParamType)
 column_types sent = record {
   form = λ count. types_block sent count;
@@ -39,14 +39,14 @@ head_fields = do
   types ← field (λ h. h.types) (column_types (sends_types bulk_flags.0))
   give (record { stmt_id = stmt_id.0; bulk_flags = bulk_flags.0; types = types })
 
--- fa, the statement's number, the flags, and with SEND_TYPES_TO_SERVER the type of each column; the reader is passed how many there are
+-- fa, the statement's number, the flags, and with SEND_TYPES_TO_SERVER the type of each column, whose number the reader gets
 unfoldable pub head : Codec ℕ BulkHead
 head = packet head_fields (λ h. refl)
 
--- the column that a type tells of: it has no flag but the one for unsigned numbers
+-- the column that a type describes: its only flag is that for unsigned numbers
 abbrev pub column_of_type : ParamType → BulkColumn
 column_of_type t = (t.column_type, record { 0 = if has t.flags.0 UNSIGNED then UNSIGNED_FLAG else 0; 1 = record {} })
 
--- the columns of the values: those that the types tell of where they are sent, else those handed in
+-- the columns of the values: those of the types if they are sent, otherwise the caller's
 abbrev pub value_columns : List BulkColumn → BulkHead → List BulkColumn
 value_columns columns h = if sends_types h.bulk_flags then map column_of_type h.types else columns

@@ -1,4 +1,4 @@
--- The types of the columns of a bulk request, in its bytes.
+-- The column types of a bulk request, in its bytes.
 use Rattle.std.specs.Prelude.{◌≡◌, ℕ, ◌*◌, ◌++◌, ◌<◌, ◌^◌, Bool, true, false, List, [], ◌∷◌, length, refl}
 use Rattle.std.specs.List.{All, flat_map}
 use Rattle.std.proofs.Common.{ap, ◌∙◌, subst, arith, length-append}
@@ -11,19 +11,19 @@ use Rattle.mysql_wire.specs.Writing.{le_bytes}
 use Rattle.mysql_values.specs.declared.param_type.ParamType.{ParamType}
 use Rattle.mysql_values.specs.ParamType.{param_type}
 
--- two bytes for each type, in a block: fewer bytes are missing before a type is looked at
+-- two bytes for each type, in a block: missing bytes are an error before any type is checked
 abbrev pub types_block : Bool → ℕ → Form (List ParamType)
 types_block sent count = either sent (block (2 * count) (seq (give count) (param_type.form tt))) (give [])
 
 abbrev pub types_bytes : List ParamType → List ℕ
 types_bytes types = flat_map param_type.bytes types
 
--- a type for each of a given number of columns, if they are sent
+-- a type for each of this many columns, if they are sent
 abbrev pub TypesFor : Bool → ℕ → List ParamType → Type 0
 TypesFor true count types = (length types ≡ count) × All (λ t. t.flags.0 < 2 ^ 8) types
 TypesFor false count types = types ≡ []
 
--- ---- what is written of them is read again
+-- ---- what is written is read back
 
 pub length-param_type : (t : ParamType) → length (param_type.bytes t) ≡ 2
 unfolding param_type le_bytes

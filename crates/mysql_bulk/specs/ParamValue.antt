@@ -16,7 +16,7 @@ pub record ParamValue : Type 0 where
   pub indicator : MariadbBulkIndicator
   pub content : Content
 
--- how a value is given: NULL needs no value after its indicator
+-- how a value is sent: NULL has no value after its indicator
 abbrev pub indicator_of : Content → MariadbBulkIndicator
 indicator_of NULL = BULK_INDICATOR_NULL
 indicator_of _ = BULK_INDICATOR_NONE
@@ -28,21 +28,21 @@ with_indicator value = record { indicator = indicator_of value; content = value 
 abbrev pub contents : List ParamValue → List Content
 contents values = map (λ v. v.content) values
 
--- ---- in the bytes
+-- ---- bytes
 
--- a value stands after the indicator
+-- a value follows the indicator
 abbrev pub value_follows : MariadbBulkIndicator → Bool
 value_follows BULK_INDICATOR_NONE = true
 value_follows _ = false
 
--- the indicator, and where a value stands after it, that of the column's type
+-- the indicator, and, if a value follows it, a value of the column's type
 abbrev pub param_value : ColumnType → Bool → Form ParamValue
 param_value column is_unsigned = do
   indicator ← mariadb_bulk_indicator
   content ← either (value_follows indicator.0) (bin_value column is_unsigned) (give NULL)
   give (record { indicator = indicator.0; content = content })
 
--- a string of at least one byte stands after the indicator: this alone takes memory
+-- a string that is not empty follows the indicator: only this allocates
 abbrev pub param_has_bytes : Reading ParamValue → Bool
 param_has_bytes (Ok x) = has_bytes x.0.content
 param_has_bytes (Err e) = false

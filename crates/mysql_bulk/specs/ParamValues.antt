@@ -11,7 +11,7 @@ use Rattle.mysql_bulk.specs.ParamValue.{ParamValue, param_value}
 abbrev pub BulkColumn : Type 0
 BulkColumn = ColumnType × ColumnFlags
 
--- a value of a column, wherever that stands
+-- a value of a column
 abbrev pub value_of_column : ℕ → BulkColumn → Form ParamValue
 value_of_column place column = param_value column.0 (has column.1.0 UNSIGNED_FLAG)
 
@@ -19,7 +19,7 @@ value_of_column place column = param_value column.0 (has column.1.0 UNSIGNED_FLA
 abbrev pub values_of_columns : List BulkColumn → Form (List ParamValue)
 values_of_columns columns = each value_of_column 0 columns
 
--- there is a column, and a value of the first one can be read: it is kept in a list
+-- there is a column, and the first one's value can be read: it is kept in a list
 abbrev pub reads_first : List BulkColumn → List ℕ → Bool
 reads_first [] bytes = false
 reads_first (column ∷ columns) bytes = is_ok ((value_of_column 0 column).reads bytes)

@@ -11,7 +11,7 @@ use Rattle.mysql_values.specs.Value.{Content, contents_of}
 use Rattle.mysql_bulk.specs.ParamValues.{BulkColumn, value_of_column}
 use Rattle.mysql_bulk.specs.Head.{head, value_columns}
 
--- what the value of a column holds, without its indicator
+-- the content of a column's value, without its indicator
 abbrev pub content_of_column : ℕ → BulkColumn → Form Content
 content_of_column place column = form.map (λ v. v.content) (value_of_column place column)
 
@@ -19,13 +19,13 @@ content_of_column place column = form.map (λ v. v.content) (value_of_column pla
 abbrev pub row_of_columns : List BulkColumn → Form (List Content)
 row_of_columns columns = each content_of_column 0 columns
 
--- the head, and then rows until the bytes end
+-- the head, and then rows up to the end
 abbrev pub bulk_rows : List BulkColumn → Form (List (List Content))
 bulk_rows columns = do
   h ← head.form (length columns)
   many (row_of_columns (value_columns columns h))
 
--- what the values that were read hold
+-- what the values that were read contain
 abbrev pub row_read : Result (Vec Value) FaultOf → Result (List Content) FaultOf
 row_read (Ok row) = Ok (contents_of row.items)
 row_read (Err e) = Err e

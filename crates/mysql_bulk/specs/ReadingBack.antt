@@ -1,4 +1,4 @@
--- Which rows are read again from the bytes of a request.
+-- Which rows are read back from a request's bytes.
 use Rattle.std.specs.Prelude.{◌≡◌, ◌≢◌, ◌<◌, ◌^◌, Bool, if◌then◌else◌, pos, IsTrue, IfSome, List, [], ◌∷◌, length, map, Some}
 use Rattle.std.specs.List.{All, AllZip}
 use Rattle.mysql_wire.specs.FlagMasks.{UNSIGNED_FLAG}
@@ -19,22 +19,22 @@ use Rattle.mysql_bulk.specs.HeadTypes.{TypesFor}
 use Rattle.mysql_bulk.specs.Request.{BulkRequest, head_of}
 use Rattle.mysql_bulk.specs.Builder.{BuilderState}
 
--- as many values as columns, each of which agrees with its column's type
+-- as many values as columns, each of which matches its column's type
 abbrev pub AgreesWith : List BulkColumn → List Content → Type 0
 AgreesWith columns row = AllZip (λ column value. Agrees column.0 (has column.1.0 UNSIGNED_FLAG) value) columns row
 
--- what stands after the value's indicator, if anything, is read as the value, whatever follows
+-- what follows the value's indicator, if anything, is read as the value, whatever comes after it
 abbrev pub ParamValueAgrees : BulkColumn → ParamValue → Type 0
 ParamValueAgrees column v = IsSpelling (either (value_follows v.indicator) (bin_value column.0 (has column.1.0 UNSIGNED_FLAG)) (give NULL)) v.content (bin v.content)
 
--- the request has one value for each column that it tells of, or that is handed in, which agrees with it
+-- the request has one matching value for each column of its types or of the caller's
 pub record RequestFits (columns : List BulkColumn) (request : BulkRequest) : Type 0 where
   pub stmt_id : request.stmt_id < 2 ^ 32
   pub bulk_flags : request.bulk_flags.0 < 2 ^ 16
   pub types : TypesFor (sends_types request.bulk_flags) (length columns) request.types
   pub values : AllZip ParamValueAgrees (value_columns columns (head_of request)) request.values
 
--- the request has the values of these rows, which agree with the columns that it tells of, or that are handed in
+-- the request has the values of these rows, which match its columns or the caller's
 pub record RowsFit (columns : List BulkColumn) (request : BulkRequest) (rows : List (List Content)) : Type 0 where
   pub stmt_id : request.stmt_id < 2 ^ 32
   pub bulk_flags : request.bulk_flags.0 < 2 ^ 16
@@ -43,22 +43,22 @@ pub record RowsFit (columns : List BulkColumn) (request : BulkRequest) (rows : L
   pub values : request.values ≡ map with_indicator (rows_in rows)
   pub agree : All (AgreesWith (value_columns columns (head_of request))) rows
 
--- the columns by which a request of these rows is read, that a builder in this state builds
+-- the columns by which a request of these rows, built in this state, is read
 abbrev pub columns_read_by : BuilderState → List BulkColumn → List (List Content) → List BulkColumn
 columns_read_by s columns rows = if s.types_due then map column_of_type (types_of_rows s.columns rows) else columns
 
--- rows of one length that is not 0, whose values agree with these columns
+-- rows of one length, not 0, whose values match these columns
 pub record PartAgrees (s : BuilderState) (columns : List BulkColumn) (rows : List (List Content)) : Type 0 where
   pub stmt_id : s.stmt_id < 2 ^ 32
   pub some : columns ≢ []
   pub long : length columns ≡ first_length rows
-  -- types that were declared may be
+  -- declared types are valid
   pub declarable : IfSome s.columns (λ types. All (λ kind. IsTrue (is_declarable kind)) types)
   pub agree : All (AgreesWith (columns_read_by s columns rows)) rows
 
--- ---- under types that a caller declared
+-- ---- under declared types
 
--- a number is read as a signed or unsigned one, as its type is
+-- a number is read as signed or unsigned, like its type
 abbrev pub as_signed : Bool → Content → Content
 as_signed is_unsigned (Int (pos n)) = if is_unsigned then UInt n else Int (pos n)
 as_signed is_unsigned (UInt n) = if is_unsigned then UInt n else Int (pos n)
@@ -70,7 +70,7 @@ row_under [] row = row
 row_under (t ∷ types) [] = []
 row_under (t ∷ types) (value ∷ row) = as_signed (is_unsigned t) value ∷ row_under types row
 
--- rows of at least one column for a builder for which these types were declared; their numbers have their widths
+-- rows with at least one column, for a builder with these declared types; numbers within their widths
 pub record IsDeclaredPart (s : BuilderState) (types : List ParamType) (rows : List (List Content)) : Type 0 where
   pub stmt_id : s.stmt_id < 2 ^ 32
   pub columns : s.columns ≡ Some types

@@ -7,7 +7,7 @@ use Rattle.mysql_bulk.specs.Head.{BulkHead, head}
 use Rattle.mysql_bulk.specs.ParamValue.{ParamValue, contents, values_bytes}
 use Rattle.mysql_bulk.specs.Row.{row_size}
 
--- what a request holds
+-- the fields of a request
 pub record BulkRequest : Type 0 where
   pub stmt_id : ℕ
   pub bulk_flags : StmtBulkExecuteFlags
@@ -16,18 +16,18 @@ pub record BulkRequest : Type 0 where
   -- the values, row after row
   pub values : List ParamValue
 
--- SEND_TYPES_TO_SERVER where types are sent, SEND_UNIT_RESULTS where the results of each row are asked for
+-- SEND_TYPES_TO_SERVER if types are sent, SEND_UNIT_RESULTS if each row's results are requested
 abbrev pub request_flags : Bool → Bool → StmtBulkExecuteFlags
 request_flags types results = record { 0 = (if types then SEND_TYPES_TO_SERVER else 0) + (if results then SEND_UNIT_RESULTS else 0); 1 = record {} }
 
--- what stands before the values of a request
+-- what precedes the values of a request
 abbrev pub head_of : BulkRequest → BulkHead
 head_of r = record { stmt_id = r.stmt_id; bulk_flags = r.bulk_flags; types = r.types }
 
--- how many bytes a request is written as: its head, two for each type, and those of its values
+-- the size of a request: its head, two bytes for each type, and its values
 abbrev pub written_size : BulkRequest → ℕ
 written_size r = 7 + 2 * length r.types + row_size (contents r.values)
 
--- the head, and the values row after row
+-- the head, and the values row by row
 abbrev pub request_bytes : BulkRequest → List ℕ
 request_bytes r = head.bytes (head_of r) ++ (values_bytes r.values ++ [])

@@ -11,7 +11,7 @@ use Rattle.mysql_bulk.specs.ParamValue.{with_indicator}
 use Rattle.mysql_bulk.specs.Request.{BulkRequest}
 use Rattle.mysql_bulk.specs.Row.{OneLength}
 
--- the request of these rows, with the declared types of their columns where they are sent
+-- the request of these rows, with the declared types of their columns if types are sent
 abbrev pub request_of : ℕ → StmtBulkExecuteFlags → List (List Content) → BulkRequest
 request_of stmt_id bulk_flags rows = record {
   stmt_id = stmt_id;
@@ -20,7 +20,7 @@ request_of stmt_id bulk_flags rows = record {
   values = map with_indicator (rows_in rows);
 }
 
--- what comes of the rows
+-- the result for the rows
 abbrev pub MakesRequest : ℕ → StmtBulkExecuteFlags → List (List Content) → Result BulkRequest BulkExecuteRequestError → Type 0
 MakesRequest stmt_id bulk_flags rows (Ok request) = (rows ≢ []) × OneLength rows × (request ≡ request_of stmt_id bulk_flags rows)
 MakesRequest stmt_id bulk_flags rows (Err NoParams) = rows ≡ []

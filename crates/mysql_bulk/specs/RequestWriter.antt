@@ -1,4 +1,4 @@
--- A writer of bulk requests: a builder whose waiting rows stand in the bytes of their request.
+-- A writer of bulk requests: a builder that keeps its rows as the bytes of their request.
 use Rattle.std.specs.Prelude.{◌≡◌, ◌≢◌, ℕ, ◌+◌, ◌*◌, ◌^◌, ◌<◌, ◌≤◌, ◌==◌, Bool, true, false, if◌then◌else◌, List, [], ◌∷◌, ◌++◌, length, Some, None, Result, Ok, Err, map, All, sum_by}
 use Rattle.std.specs.List.{flat_map}
 use Rattle.mysql_cuts.specs.declared.rule.BulkRule.{BulkRule}
@@ -20,19 +20,19 @@ use Rattle.mysql_bulk.specs.Row.{row_size}
 -- the settings of a writer, and what was written
 pub record WriterState : Type 0 where
   pub stmt_id : ℕ
-  -- the most bytes that a request may have
+  -- the packet limit in bytes
   pub limit : ℕ
-  -- the results of each row are asked for
+  -- each row's results are requested
   pub results : Bool
   pub rule : BulkRule
-  -- the declared types of the columns
+  -- the columns' declared types
   pub types : List ParamType
   -- the next request sends types
   pub types_due : Bool
-  -- how many rows were written, and their bytes in the request
+  -- the number of rows written, and their bytes in the request
   pub count : ℕ
   pub size : ℕ
-  -- the request so far, and how many bytes the buffer has memory for
+  -- the request so far, and the buffer's capacity
   pub bytes : List ℕ
   pub capacity : ℕ
 
@@ -50,7 +50,7 @@ as_builder w rows = record {
   waiting = rows;
 }
 
--- the request that a builder makes of rows
+-- the request that a builder makes of the rows
 abbrev pub request_of : BuilderState → List (List Content) → BulkRequest
 request_of s rows = record {
   stmt_id = s.stmt_id;
@@ -59,24 +59,24 @@ request_of s rows = record {
   values = map with_indicator (rows_in rows);
 }
 
--- the bytes of a request of these rows: none before the first one
+-- the bytes of a request of these rows: none before the first row
 abbrev pub bytes_so_far : BuilderState → List (List Content) → List ℕ
 bytes_so_far s [] = []
 bytes_so_far s (row ∷ rows) = request_bytes (request_of s (row ∷ rows))
 
--- these rows were written, and no more
+-- exactly these rows were written
 pub record Holds (w : WriterState) (rows : List (List Content)) : Type 0 where
   pub count : w.count ≡ length rows
   pub size : w.size ≡ sum_by row_size rows
   -- the bytes are those of the request that a builder makes of them
   pub bytes : w.bytes ≡ bytes_so_far (as_builder w rows) rows
-  -- the declared types spell them, and they may be a request
+  -- the declared types can encode them, and they fit in a request
   pub taken : All (TakesTypes (Some w.types)) rows
   pub fits : rows ≢ [] → PartFits (packing (as_builder w rows) (length w.types)) w.types_due rows
 
 -- ---- its steps are those of the builder
 
--- the builder that is made with a limit, before types are declared
+-- a new builder with a limit, before types are declared
 abbrev pub new_builder : ℕ → ℕ → BuilderState
 new_builder stmt_id limit = record {
   stmt_id = stmt_id;
@@ -90,12 +90,12 @@ new_builder stmt_id limit = record {
   waiting = [];
 }
 
--- a writer is made where a new builder takes the types
+-- a writer can be created if a new builder accepts the types
 abbrev pub StartsAsBuilder : ℕ → ℕ → List ParamType → Result WriterState BulkColumnTypeError → Type 0
 StartsAsBuilder stmt_id limit types (Ok w) = Holds w [] × Declares (new_builder stmt_id limit) types (Ok (as_builder w []))
 StartsAsBuilder stmt_id limit types (Err e) = Declares (new_builder stmt_id limit) types (Err e)
 
--- a row is offered: the answer is what the builder answers of a copy, and the writer then has written the rows that wait there
+-- a row is offered: the answer is the builder's answer for a copy, and the writer then contains the builder's rows
 abbrev pub AddsAsBuilder : WriterState → List Content → Result Bool BulkRowError → WriterState → Type 0
 AddsAsBuilder w row result u =
     (rows : List (List Content)) → Holds w rows → (later : List (List Content)) × Holds u later × AddsCopy (as_builder w rows) row result (as_builder u later)
@@ -104,32 +104,32 @@ AddsAsBuilder w row result u =
 abbrev pub IsBuilt : BuilderState → List ℕ → Type 0
 IsBuilt s bytes = (request : BulkRequest) × BuildsRequest s request (after_request s) × (bytes ≡ request_bytes request)
 
--- the request is done with: the writer is left as the builder is, of which the request was asked for
+-- the request is finished: the writer is in the builder's state after building it
 abbrev pub FinishesAsBuilder : WriterState → WriterState → Type 0
 FinishesAsBuilder w u =
     (rows : List (List Content)) → Holds w rows → (result : Result BulkRequest BulkExecuteRequestError) × Holds u [] × Builds (as_builder w rows) result (as_builder u [])
 
--- ---- what is written of a row
+-- ---- the bytes of a row
 
 abbrev pub cells_bytes : List ValueRef → List ℕ
 cells_bytes row = flat_map (λ v. cell (ref_content v)) row
 
--- what stands before the values
+-- what precedes the values
 abbrev pub head_bytes : WriterState → List ℕ
 head_bytes w = head.bytes (record { stmt_id = w.stmt_id; bulk_flags = request_flags w.types_due w.results; types = if w.types_due then w.types else [] })
 
--- one more row, which is these bytes, was written after those before it, where the rows have a given number of bytes now, and the buffer has this capacity
+-- one more row, with these bytes, was written after the others; the rows have this total size, and the buffer this capacity
 abbrev pub with_row : WriterState → (before : List ℕ) → (size capacity : ℕ) → (row : List ℕ) → WriterState
 with_row w before size capacity row = record w { count = w.count + 1; size = size; bytes = before ++ row; capacity = capacity }
 
--- how many bytes the head of the next request takes
+-- the size of the next request's head
 abbrev pub head_size : WriterState → ℕ
 head_size w = 7 + (if w.types_due then 2 * length w.types else 0)
 
--- how many bytes are written for a row: before the first one, the head too
+-- the bytes written for a row: with the head before the first one
 abbrev pub bytes_more : WriterState → List Content → ℕ
 bytes_more w row = if w.count == 0 then head_size w + (w.size + row_size row) else row_size row
 
--- the buffer has the memory for a row, and the rows can be counted
+-- the buffer has capacity for a row, and the rows can be counted
 abbrev pub HasRoom : WriterState → List Content → Type 0
 HasRoom w row = (length w.bytes + bytes_more w row ≤ w.capacity) × (w.count + 1 < 2 ^ 64)

@@ -1,4 +1,4 @@
--- A caller's own loop over a run: calls of `next` up to the first that gives no request.
+-- A caller's own loop over a run: calls of `next` up to the first that returns no request.
 use Rattle.std.specs.Prelude.{◌≡◌, false, ℕ, List, [], ◌∷◌, ◌++◌, Option, Some, None, Result, Ok, Err}
 use Rattle.std.specs.Global.{Vec}
 use Rattle.std.specs.Iterator.{Yields, YieldsThen}
@@ -17,18 +17,18 @@ use Rattle.mysql_bulk.specs.Row.{contents_of_row, contents_of_rows}
 use Rattle.mysql_bulk.specs.Run.{RunState, NextRow}
 use Rattle.mysql_bulk.specs.WholeRun.{RunGives}
 
--- what a call answers that gives no request: that there is none, or a refusal
+-- the answers without a request: the end, or an error
 abbrev pub last_answer : Option BulkExecuteRequestBuilderError → Option (Result BulkRequest BulkExecuteRequestBuilderError)
 last_answer None = None
 last_answer (Some e) = Some (Err e)
 
 module _ {S : Type 0} (next : RunState S → Option (Result BulkRequest BulkExecuteRequestBuilderError) → RunState S → Type 0) where
-  -- calls gave these requests
+  -- calls returned these requests
   abbrev pub GivesRequests : RunState S → List BulkRequest → RunState S → Type 0
   GivesRequests s [] t = s ≡ t
   GivesRequests s (request ∷ requests) t = (u : RunState S) × next s (Some (Ok request)) u × GivesRequests u requests t
 
-  -- from a run that begins, calls gave these requests, and the next one none
+  -- from the beginning of a run, calls returned these requests, and the next call none
   pub record WholeLoop (s : RunState S) (requests : List BulkRequest) (refusal : Option BulkExecuteRequestBuilderError) (u : RunState S) : Type 0 where
     pub consistent : IsConsistent s.builder
     pub carried : s.carried ≡ None
@@ -38,14 +38,14 @@ module _ {S : Type 0} (next : RunState S → Option (Result BulkRequest BulkExec
     pub ends : next last (last_answer refusal) u
 
 module _ {S : Type 0} (steps : S → Option (Vec Value) → S → Type 0) where
-  -- the input gave these rows up to its end, and the run gave all that `build_all` gives of them
+  -- the input had exactly these rows, and the run returned everything that `build_all` returns for them
   pub record SentAllRows (s : RunState S) (requests : List BulkRequest) (u : RunState S) : Type 0 where
     pub rows : List (Vec Value)
     pub came : YieldsThen (NextRow steps) (None, s.rows) rows None (None, u.rows)
     pub ends : List ℕ
     pub gives : RunGives s.builder (s.builder.waiting ++ contents_of_rows rows) requests ends None u.builder
 
-  -- the input gave these rows, and then one that was refused: so are all lists of rows that begin with them
+  -- the input had these rows, and then one that was refused: so is every list of rows that begins with them
   pub record RefusedRow (s : RunState S) (requests : List BulkRequest) (e : BulkExecuteRequestError) (u : RunState S) : Type 0 where
     pub rows : List (Vec Value)
     pub row : Vec Value
@@ -54,7 +54,7 @@ module _ {S : Type 0} (steps : S → Option (Vec Value) → S → Type 0) where
         → (ends : List ℕ) × RunGives s.builder (s.builder.waiting ++ (contents_of_rows rows ++ contents_of_row row ∷ later)) requests ends (Some (variant.Request e)) u.builder
 
 module _ {S : Type 0} (steps : S → Option Params → S → Type 0) (names : Names) where
-  -- the parameters that the input gave had these rows, and the next ones none
+  -- the parameters from the input had these rows, and the next ones had no values
   pub record RefusedParams (s : RunState S) (requests : List BulkRequest) (e : ParamsError) (u : RunState S) : Type 0 where
     pub rows : List (Vec Value)
     pub before : S

@@ -8,15 +8,15 @@ use Rattle.mysql_bulk.specs.Builder.{BuilderState, packing, TakesArity, arity_af
 use Rattle.mysql_bulk.specs.ColumnTypes.{takes_types, TakesTypes}
 use Rattle.mysql_bulk.specs.Row.{contents_of_row, first_length}
 
--- the longest beginning in which all rows are as long as the first, and the declared types spell them
+-- the longest prefix in which all rows have the first row's length, and the declared types can encode them
 abbrev pub taken_front : BuilderState → List (List Content) → List (List Content)
 taken_front s rows = take_while (λ row. nat_eq (length row) (first_length rows) && takes_types s.columns row) rows
 
--- how the rows of a list are measured by a builder with these settings
+-- how a builder with these settings measures the rows of a list
 abbrev pub measure : BuilderState → List (List Content) → Packing (List Content)
 measure s rows = packing s (first_length rows)
 
--- each beginning of that beginning has a fitting cut
+-- each prefix of that prefix has a fitting cut
 abbrev pub EachFrontFits : BuilderState → List (List Content) → Type 0
 EachFrontFits s rows = (n : ℕ) → HasFittingCut (measure s rows) (take n (taken_front s rows))
 
@@ -24,19 +24,19 @@ EachFrontFits s rows = (n : ℕ) → HasFittingCut (measure s rows) (take n (tak
 abbrev pub IsNextAfterFront : BuilderState → List (List Content) → List Content → Type 0
 IsNextAfterFront s rows row = slice_get rows (length (taken_front s rows)) ≡ Some row
 
--- the row has the length of the rows of that beginning, or of the declared types
+-- the row has the length of that prefix's rows, or of the declared types
 abbrev pub FrontTakesArity : BuilderState → List (List Content) → List Content → Type 0
 FrontTakesArity s rows row = TakesArity (arity_after s.arity (taken_front s rows)) (length row)
 
--- a row of another length comes after that beginning
+-- a row with another length follows that prefix
 abbrev pub RefusesArity : BuilderState → List (List Content) → List Content → Type 0
 RefusesArity s rows row = EachFrontFits s rows × IsNextAfterFront s rows row × (FrontTakesArity s rows row → ⊥)
 
--- a row of that length comes after it, which the declared types do not spell
+-- a row with that length follows it, which the declared types can't encode
 abbrev pub RefusesTypes : BuilderState → List (List Content) → List Content → Type 0
 RefusesTypes s rows row = EachFrontFits s rows × IsNextAfterFront s rows row × FrontTakesArity s rows row × (TakesTypes s.columns row → ⊥)
 
--- the least beginning without a fitting cut ends with the row
+-- the shortest prefix without a fitting cut ends with the row
 abbrev pub RefusesSize : BuilderState → List (List Content) → List Content → Type 0
 RefusesSize s rows row =
     (n : ℕ)

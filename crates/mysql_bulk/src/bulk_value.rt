@@ -131,8 +131,7 @@ pub(crate) fn values_len(types: &[ParamType], row: &[BulkValue<'_>]) -> Option<u
 }
 
 /// Writes a row with a cell for each type, for which there is capacity.
-// (the buffer is moved to a local one, whose place in memory no write to its bytes can change: so those of a number are one
-// store)
+// A local buffer: writes to its bytes can't alias the buffer itself, so each number is one store.
 pub(crate) fn append_values<O: Buffer>(out: &mut O, types: &[ParamType], row: &[BulkValue<'_>])
     requires lengths { length types.now ≡ length row.now }
     requires capacity { length (O.held out.old) + spec.cells_size types.now (map spec.cell_of row.now) ≤ O.capacity out.old }

@@ -8,8 +8,7 @@ use crate::row_value::RowValue;
 use mysql_wire::Buffer;
 
 /// Writes values, each after its indicator, for which there is capacity.
-// (the buffer is moved to a local one, whose place in memory no write to its bytes can change: so those of a number are one
-// store)
+// A local buffer: writes to its bytes can't alias the buffer itself, so each number is one store.
 #[inline(always)]
 #[tactic(auto, using(mysql_wire::proofs::After::after))]
 pub(crate) fn append_cells<V: RowValue, O: Buffer>(out: &mut O, values: &[V])

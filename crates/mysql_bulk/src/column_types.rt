@@ -59,7 +59,7 @@ pub(crate) fn first_refused(types: &[ParamType]) -> Option<usize>
 }
 
 /// Whether a value has the same encoding under the type as under its own.
-// (the types of what most rows hold are matched themselves, since the compiler makes one more choice of their kinds)
+// The most common types are matched by themselves: the compiler makes another jump for their kinds.
 #[inline]
 pub fn can_encode(kind: ParamType, value: &ValueRef<'_>) -> bool
     ensures { result ≡ spec.can_encode kind (ref_content value.now) }

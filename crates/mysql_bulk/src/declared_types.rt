@@ -8,7 +8,7 @@ use mysql_values::ParamType;
 use mysql_wire::{ColumnType, StmtExecuteParamFlags};
 
 /// Joins a value to the type of its column so far.
-// (a type is written where it changes alone)
+// A type is written only when it changes.
 #[inline]
 fn join_value<V: RowValue>(kind: &mut ParamType, value: &V)
     ensures { kind.new ≡ type_with kind.old (V.content value.now) }

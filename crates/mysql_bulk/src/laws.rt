@@ -65,7 +65,7 @@ pub fn fewest_cut_is_named_by_its_ends()
         IsFewest (rows_packing rule limit (first_length rows)) rows cut → NamesFewest (weights rule limit (first_length rows)) (map row_size rows) (ends_after 0 cut) }
 {}
 
-// ---- a caller's own loop of `next`
+// ---- a caller's own loop over `next`
 
 /// A new builder is as every builder is.
 pub fn new_builder_is_consistent()
@@ -147,7 +147,7 @@ pub fn streamed_rows_are_sent_in_the_fewest_requests()
         Holds w [] → Streams w rows requests u → AddsAsBuilder u row (Err e) v → StreamEndsRefused w rows requests row later e u }
 {}
 
-// ---- what is written is read again
+// ---- what is written is read back
 
 /// A value is read back, whatever bytes follow, where it agrees with its column's type.
 pub fn param_value_round_trips()

@@ -158,7 +158,7 @@ impl ComStmtBulkExecuteRequest {
         rows: Vec<Vec<Value>>,
     ) -> Result<Self, BulkExecuteRequestError>
         ensures makes { MakesRequest stmt_id bulk_flags (contents_of_rows rows.items) result }
-        // Rows without values take no memory.
+        // Rows without values don't allocate.
         ensures no_memory { EqualLengths 0 (contents_of_rows rows.items) → result ≢ Err BulkExecuteRequestError.Memory }
     {
         if rows.is_empty() {
@@ -291,7 +291,7 @@ impl<'de> MyDeserialize<'de> for ComStmtBulkExecuteRequest {
         let mut rest = buf.rest();
         let count = columns.len();
         let head = read_head(count, &mut rest)?;
-        // (for no column no memory is taken)
+        // Without columns nothing is allocated.
         if count == 0 {
             *buf = rest;
             return Ok(with_head(head, Vec::new(buf.alloc()), Vec::new(buf.alloc())));

@@ -194,7 +194,7 @@ impl<'a> BulkRequestWriter<'a> {
     /// }
     /// let Some(bytes) = writer.request() else {
     /// ```
-    // (inlined: a loop that offers rows of a known length is faster then)
+    // Inlined: a loop over rows of a known length is faster then.
     #[inline(always)]
     pub fn add_row_refs(&mut self, row: &[ValueRef<'_>]) -> Result<bool, BulkRowError>
         ensures adds { AddsAsBuilder self.old (map ref_content row.now) result self.new }

@@ -109,7 +109,7 @@ impl RowValue for Value {
         parts!(sent_value(), *self).append(out);
     }
 
-    // (each kind is pushed where it is known: one value for all kinds would be taken apart again)
+    // Each kind is pushed where it is known: a common value would be matched again.
     #[inline(always)]
     fn push_copy(&self, alloc: Global, values: &mut Vec<Value>, most: u64) -> Option<u64> {
         match self {

@@ -128,8 +128,7 @@ impl<'a> MySerialize for SentValues<'a> {
         sent_len(self.values)
     }
 
-    // (the buffer is moved to a local one, whose place in memory no write to its bytes can change: so those of a number
-    // are one store)
+    // A local buffer: writes to its bytes can't alias the buffer itself, so each number is one store.
     fn append<O: Buffer>(&self, out: &mut O) {
         if self.indicators.is_empty() {
             append_cells(out, self.values);

@@ -1,4 +1,4 @@
--- What stands after a command's byte.
+-- What follows a command's code.
 use Rattle.std.specs.Prelude.{ℕ, List, [], ◌++◌, length, Option, refl}
 use Rattle.std.proofs.Common.{append_assoc, arith}
 use Rattle.mysql_wire.specs.Codec.{Codec}
@@ -11,11 +11,11 @@ use Rattle.mysql_wire.specs.declared.codes.server_command.ServerCommand.{ServerC
 use Rattle.mysql_wire.specs.declared.int.RawInt.{RawInt}
 use Rattle.mysql_wire.specs.declared.little_endian.LeU32.{LeU32}
 
--- the command's byte, which tells that this form is read, and then the body
+-- the code that selects this form, and then the body
 abbrev pub after_form : {A : Type 0} → form.Form A → form.Form A
 after_form body = form.◌>>=◌ server_command (λ command. body)
 
--- a command's byte
+-- a command's code
 unfoldable pub code_bytes : ServerCommand → List ℕ
 code_bytes command = le_bytes 1 (server_command_code command)
 
@@ -45,15 +45,15 @@ nothing = record {
   again = λ c a rest h. (refl, refl);
 }
 
--- a command that is its byte alone
+-- a command that consists of its code
 abbrev pub fixed : {C : Type 0} → ServerCommand → Codec C (Unit {0})
 fixed command = after command nothing
 
--- a command of one text
+-- a command with one text
 abbrev pub text : {C : Type 0} → ServerCommand → Codec C (List ℕ)
 text command = after command string_eof
 
--- a command of one byte, of one that may be left out, and of a number of four bytes
+-- a command with one byte, with an optional byte, and with a number of four bytes
 abbrev pub one_byte : {C : Type 0} → ServerCommand → Codec C (RawInt ℕ ℕ)
 one_byte command = after command u8
 
@@ -63,6 +63,6 @@ optional_byte = if_bytes_left u8 (λ n. omega arith)
 abbrev pub one_number : {C : Type 0} → ServerCommand → Codec C (RawInt LeU32 ℕ)
 one_number command = after command u32
 
--- a byte, where one is left
+-- a byte, if one is left
 abbrev pub byte_left : form.Form (Option (RawInt ℕ ℕ))
 byte_left = (optional_byte {C = Unit {0}}).form tt

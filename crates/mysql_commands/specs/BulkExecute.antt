@@ -1,4 +1,4 @@
--- A bulk execution: its head, and the rest as it stands.
+-- A bulk execution: its head, and the rest as bytes.
 use Rattle.std.specs.Prelude.{ℕ, List, refl}
 use Rattle.mysql_wire.specs.Codecs.{Codec, Fields, ◌>>=◌, give, field, packet, const_u8, u32, flags, string_eof, raw_int}
 use Rattle.mysql_wire.specs.ConstantValue.{const_of}
@@ -19,7 +19,7 @@ rows p = p.rows
 abbrev pub bulk_execute_of : ℕ → StmtBulkExecuteFlags → List ℕ → ComStmtBulkExecuteRef
 bulk_execute_of stmt_id bulk_flags rows = record { stmt_id = stmt_id; bulk_flags = bulk_flags; rows = rows }
 
--- fa, the statement's number, the flags; and to the end the types, where they are sent, and the rows
+-- fa, the statement's number, the flags, and to the end the types, if they are sent, and the rows
 abbrev pub bulk_execute_fields : Fields (Unit {0}) ComStmtBulkExecuteRef ComStmtBulkExecuteRef
 bulk_execute_fields = do
   header ← field (λ p. record { 0 = record {} }) (const_u8 {T = InvalidComStmtBulkExecuteHeader} 0xfa)

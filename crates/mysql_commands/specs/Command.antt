@@ -28,9 +28,9 @@ use Rattle.mysql_commands.specs.Unknown.{unknown_command}
 use Rattle.mysql_commands.specs.declared.command.Command.{Command}
 use Rattle.mysql_commands.specs.declared.command.Command.TheVariants as variant
 
--- ---- how a command is read: its first byte chooses
+-- ---- reading: the first byte selects the form
 
--- a command that the codec's value is
+-- a command from the codec's value
 abbrev pub reads_as : {C A : Type 0} → Codec C A → C → (A → Command) → Form Command
 reads_as f c make = map make (f.form c)
 
@@ -64,18 +64,18 @@ command_named c (Some name.COM_RESET_CONNECTION) = reads_as (fixed name.COM_RESE
 command_named c (Some name.COM_STMT_BULK_EXECUTE) = reads_as (without_context bulk_execute) c variant.StmtBulkExecute
 command_named c other = reads_as unknown_command c variant.Unknown
 
--- no byte is no command: its first byte is missing
+-- no byte is no command: the code is missing
 abbrev pub command_at : CapabilityFlags → List ℕ → Form Command
 command_at c [] = command_named c None
 command_at c (code ∷ rest) = command_named c (server_command_of code)
 
--- the flags are those that both sides have
+-- the flags that both sides set
 unfoldable pub command : CapabilityFlags → Form Command
 command c = looking (command_at c)
 
--- ---- how a command is written
+-- ---- writing
 
--- what a command is written of: a codec, and the value that it writes
+-- a command as a codec and the value that it writes
 pub record Written : Type 1 where
   pub Value : Type 0
   pub codec : Codec CapabilityFlags Value
@@ -118,6 +118,6 @@ written (variant.Unknown p) = written_by unknown_command p
 unfoldable pub command_bytes : Command → List ℕ
 command_bytes v = (written v).codec.bytes (written v).value
 
--- when they are read again
+-- when they are read back
 unfoldable pub CommandFits : CapabilityFlags → Command → List ℕ → Type 0
 CommandFits c v rest = (written v).codec.fits c (written v).value rest

@@ -13,7 +13,7 @@ wildcard p = p.wildcard
 abbrev pub field_list_of : (table wildcard : List ℕ) → ComFieldListRef
 field_list_of table wildcard = record { table = table; wildcard = wildcard }
 
--- 04, the table's name, which ends in a zero, and to the end which columns
+-- 04, the table's name, terminated by a zero, and to the end a pattern for the columns
 abbrev pub field_list_fields : Fields (Unit {0}) ComFieldListRef ComFieldListRef
 field_list_fields = do
   header ← field (λ p. record { 0 = record {} }) (const_u8 {T = InvalidComFieldListHeader} 0x04)

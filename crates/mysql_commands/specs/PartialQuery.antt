@@ -1,4 +1,4 @@
--- A query, as far as the values of its attributes.
+-- A query, up to the values of its attributes.
 use Rattle.std.specs.Prelude.{◌≡◌, ℕ, true, false, List, Result, Ok, Err}
 use Rattle.mysql_wire.specs.Constant.{const_byte}
 use Rattle.mysql_wire.specs.Form.{Form, ◌>>=◌, give}
@@ -10,7 +10,7 @@ use Rattle.mysql_commands.specs.QueryAttributes.{lenenc_int}
 use Rattle.mysql_commands.specs.declared.query.InvalidComQueryHeader.{InvalidComQueryHeader}
 use Rattle.mysql_commands.specs.declared.query_attributes.InvalidParameterSetCount.{InvalidParameterSetCount}
 
--- 03, how many attributes there are, and how many sets of them, always one
+-- 03, the number of attributes, and the number of sets of them, which is always 1
 abbrev pub attribute_count : Form ℕ
 attribute_count = do
   header ← const_byte {T = InvalidComQueryHeader} 0x03
@@ -18,7 +18,7 @@ attribute_count = do
   sets ← const_byte {T = InvalidParameterSetCount} 1
   give count.0
 
--- the attributes that stand after it, as far as their types; or the first fault up to there
+-- the attributes that follow, up to their types; or the first fault up to there
 abbrev pub AttributesAt : List ℕ → Result AttributesLeft FaultOf → Type 0
 AttributesAt p (Ok view) = (count : ℕ) × (after : List ℕ) × (attribute_count.reads p ≡ Ok (count, after)) × AttributesThere count after (Ok view)
 AttributesAt p (Err e) = Faults false e ((attribute_count >>= (λ count. bind_front true count 0)).reads p)

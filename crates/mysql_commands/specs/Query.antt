@@ -19,7 +19,7 @@ sent_attributes p = p.attributes
 abbrev pub query_of : Option (WithRawBytes (List Attribute)) → List ℕ → ComQueryRef
 query_of attributes text = record { attributes = attributes; text = text }
 
--- attributes stand before the text
+-- attributes precede the text
 abbrev pub sends_attributes : CapabilityFlags → Bool
 sends_attributes capabilities = has capabilities.0 CLIENT_QUERY_ATTRIBUTES
 

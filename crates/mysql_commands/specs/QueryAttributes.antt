@@ -14,8 +14,8 @@ use Rattle.mysql_commands.specs.declared.query_attributes.InvalidParameterSetCou
 abbrev pub lenenc_int : Form (RawInt LenEnc ℕ)
 lenenc_int = raw lenenc
 
--- how many there are, and how many sets of them, always one; they are bound as an execution binds those of a statement without
--- parameters: nothing more where there are none
+-- the number of attributes, and the number of sets of them, which is always 1; then they are sent like the parameters of an execution:
+-- nothing if there are none
 abbrev pub query_attributes : Form (List Attribute)
 query_attributes = do
   count ← lenenc_int

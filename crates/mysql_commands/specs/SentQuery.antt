@@ -19,13 +19,13 @@ use Rattle.mysql_commands.specs.Query.{query_of, sends_attributes}
 use Rattle.mysql_commands.specs.declared.with_raw_bytes.WithRawBytes.{WithRawBytes}
 use Rattle.mysql_commands.specs.declared.query.ComQueryRef.{ComQueryRef}
 
--- ---- as what it is read
+-- ---- the query as it is read
 
--- the bytes of attributes: how many there are, one set of them, and where there are any, they
+-- the bytes of attributes: their number, one set of them, and then, if there are any, the attributes
 abbrev pub attributes_bytes : List QueryAttribute → List ℕ
 attributes_bytes l = lenenc_bytes (length l) ++ le_bytes 1 1 ++ where_some l (some_bytes (sent_attributes l))
 
--- each attribute with its name and its type, and its value as it is read under the type
+-- each attribute with its name and type, and its value as read under that type
 abbrev pub attributes_read : Option (List QueryAttribute) → Option (WithRawBytes (List Attribute))
 attributes_read attributes = option_map (λ l. sent_of (map attribute_read l) (attributes_bytes l)) attributes
 
@@ -36,14 +36,14 @@ sent_bytes q = query_bytes attribute_param attribute_type q
 abbrev pub query_read : ComQuery QueryAttribute → ComQueryRef
 query_read q = query_of (attributes_read (sent.attributes q)) (sent.text q)
 
--- ---- which ones are
+-- ---- conditions
 
--- numbers have their widths, and each type spells its value, as in a query that was made
+-- numbers within their widths, and each type can encode its value, as in a query that was built
 abbrev pub AttributesFit : Option (List QueryAttribute) → Type 0
 AttributesFit None = Unit {0}
 AttributesFit (Some l) = (length l < 2 ^ 64) × All SentFits (sent_attributes l)
 
--- it has attributes, maybe none, exactly where both sides have CLIENT_QUERY_ATTRIBUTES
+-- it has attributes, maybe 0 of them, exactly if both sides set CLIENT_QUERY_ATTRIBUTES
 pub record SentQueryFits (c : CapabilityFlags) (q : ComQuery QueryAttribute) : Type 0 where
   pub agreed : sends_attributes c ≡ is_some (sent.attributes q)
   pub attributes : AttributesFit (sent.attributes q)

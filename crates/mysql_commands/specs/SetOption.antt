@@ -1,4 +1,4 @@
--- The choice of an option.
+-- The setting of an option.
 use Rattle.std.specs.Prelude.{ℕ, ◌==◌, if◌then◌else◌, Option, Some, None, refl}
 use Rattle.mysql_wire.specs.Codecs.{Codec, Fields, ◌>>=◌, give, field, block, packet, const_u8, u16, raw_int}
 use Rattle.mysql_commands.specs.declared.set_option.ComSetOption.{ComSetOption}
@@ -11,7 +11,7 @@ abbrev pub option_code : ServerOption → ℕ
 option_code option.MultiStatementsOn = 0
 option_code option.MultiStatementsOff = 1
 
--- the option of that number
+-- the option with this number
 abbrev pub option_of : ℕ → Option ServerOption
 option_of n = if n == 0 then Some option.MultiStatementsOn else if n == 1 then Some option.MultiStatementsOff else None
 

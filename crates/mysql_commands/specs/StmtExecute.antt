@@ -1,4 +1,4 @@
--- An execution: its head, and the rest as it stands.
+-- An execution: its head, and the rest as bytes.
 use Rattle.std.specs.Prelude.{List, ℕ, refl}
 use Rattle.mysql_wire.specs.Codecs.{Codec, Fields, ◌>>=◌, give, field, packet, string_eof}
 use Rattle.mysql_prepared.specs.ExecuteHead.{execute_head}
@@ -14,7 +14,7 @@ params p = p.params
 abbrev pub stmt_execute_of : ComStmtExecuteHead → List ℕ → ComStmtExecuteRef
 stmt_execute_of head params = record { head = head; params = params }
 
--- the head, and to the end the parameters
+-- the head, and the parameters to the end
 abbrev pub stmt_execute_fields : Fields (Unit {0}) ComStmtExecuteRef ComStmtExecuteRef
 stmt_execute_fields = do
   head ← field head execute_head

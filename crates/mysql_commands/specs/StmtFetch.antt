@@ -4,7 +4,7 @@ use Rattle.mysql_wire.specs.Codecs.{Codec, Fields, ◌>>=◌, give, field, block
 use Rattle.mysql_commands.specs.declared.stmt_fetch.ComStmtFetch.{ComStmtFetch}
 use Rattle.mysql_commands.specs.declared.stmt_fetch.InvalidComStmtFetchHeader.{InvalidComStmtFetchHeader}
 
--- 1c, the statement's number, and how many rows
+-- 1c, the statement's number, and the number of rows
 abbrev pub stmt_fetch_fields : Fields (Unit {0}) ComStmtFetch ComStmtFetch
 stmt_fetch_fields = do
   header ← field (λ p. record { 0 = record {} }) (const_u8 {T = InvalidComStmtFetchHeader} 0x1c)

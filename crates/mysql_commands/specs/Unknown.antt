@@ -1,4 +1,4 @@
--- A command that has no record: its first byte, and the rest as it stands.
+-- A command without a record: its code, and the rest as bytes.
 use Rattle.std.specs.Prelude.{◌≡◌, ℕ, List, Bool, true, false, Option, Some, None, refl}
 use Rattle.mysql_wire.specs.Codecs.{Codec, Fields, ◌>>=◌, give, field, packet, u8, string_eof, raw_int}
 use Rattle.mysql_wire.specs.Flags.{CapabilityFlags}
@@ -16,7 +16,7 @@ content p = p.content
 abbrev pub unknown_of : ℕ → List ℕ → UnknownCommand
 unknown_of code content = record { code = code; content = content }
 
--- any byte, and all that is left
+-- any byte, and the rest
 abbrev pub unknown_fields : Fields (Unit {0}) UnknownCommand UnknownCommand
 unknown_fields = do
   code ← field (λ p. raw_int (code p)) u8
@@ -26,7 +26,7 @@ unknown_fields = do
 unfoldable pub unknown : Codec (Unit {0}) UnknownCommand
 unknown = packet unknown_fields (λ p. refl)
 
--- whether a command of that code has a record
+-- whether the command with this code has a record
 abbrev pub has_record : Option ServerCommand → Bool
 has_record None = false
 has_record (Some name.COM_SLEEP) = false
@@ -43,7 +43,7 @@ has_record (Some name.COM_SLAVE_SQL) = false
 has_record (Some name.COM_MULTI) = false
 has_record (Some other) = true
 
--- the same, which fits where its code is of no command that has a record
+-- the same codec, which fits if no command with this code has a record
 abbrev pub unknown_command : Codec CapabilityFlags UnknownCommand
 unknown_command = record {
   form = λ c. unknown.form tt;

@@ -1,4 +1,4 @@
--- A value with the bytes that spell it, as they were sent.
+-- A value with the bytes that encode it, as they were sent.
 use Rattle.std.specs.Prelude.{◌≡◌, ℕ, ◌-◌, List, ◌∷◌, ◌++◌, length, take, None, Ok, refl}
 use Rattle.std.proofs.Common.{ap, ◌∙◌, arith}
 use Rattle.std.proofs.lemmas.List.{take_at, length-append}
@@ -30,7 +30,7 @@ module _ {T : Type 0} where
   sent_of v bytes = record { value = v; bytes = bytes }
 
 module _ {T : Type 0} (f : Form T) where
-  -- the bytes spell the value, and they are these in front of the rest
+  -- the bytes encode the value, and precede the rest
   abbrev pub as_sent_Spells : WithRawBytes T → List ℕ → List ℕ → Type 0
   as_sent_Spells p bytes rest = f.Spells p.value bytes rest × (bytes ≡ p.bytes ++ rest)
 
@@ -69,7 +69,7 @@ as_sent_form f = record {
   sized = tt;
 }
 
--- The same, which is written as it was sent: it fits where the bytes spell the value with what follows, as they do once they were read.
+-- The same, written as it was sent: it fits if the bytes encode the value, whatever follows, as they do after they were read.
 abbrev pub as_sent : {C T : Type 0} → (C → Form T) → Codec C (WithRawBytes T)
 as_sent form = record {
   form = λ c. as_sent_form (form c);
@@ -80,11 +80,11 @@ as_sent form = record {
   again = λ c p rest h. (h, refl);
 }
 
--- the bytes begin with a command's byte
+-- the bytes begin with a command's code
 abbrev pub BeginsWith : ServerCommand → List ℕ → Type 0
 BeginsWith command bytes = (more : List ℕ) × (bytes ≡ server_command_code command ∷ more)
 
--- a whole command: its bytes begin with its own
+-- a whole command: its bytes begin with its own code
 abbrev pub command_as_sent : {C T : Type 0} → ServerCommand → (C → Form T) → Codec C (WithRawBytes T)
 command_as_sent command form = record {
   form = λ c. as_sent_form (form c);

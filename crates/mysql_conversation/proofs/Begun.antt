@@ -12,7 +12,7 @@ use Rattle.mysql_conversation.specs.Machine.{entrance, step, client_step, serve,
 use Rattle.mysql_conversation.proofs.Runs.{join, part, once}
 use Rattle.mysql_conversation.specs.Taken.{packet}
 use Rattle.mysql_conversation.proofs.Classes.{chosen, some_is, reply_means}
-use Rattle.mysql_conversation.proofs.States.{which_rests, due_of, due_runs, reports_of, reports_parts, entrance_listens, entrance_login, step_listens, step_login, may_shut, failed_is, failed_no_report, error_ends}
+use Rattle.mysql_conversation.proofs.States.{which_rests, due_of, due_runs, reports_parts, entrance_listens, entrance_login, step_listens, step_login, may_shut, failed_is, failed_no_report, error_ends}
 use Rattle.mysql_conversation.proofs.Ends.{to_come, short_report}
 use Rattle.mysql_conversation.proofs.Leads.{RunsOut, conversation_runs, inside_runs}
 use Rattle.mysql_conversation.proofs.Tails.{tail_of, authenticating, serving, many_more, many_none}
@@ -75,10 +75,6 @@ opened a state.Text items h = h
 opened a state.Fields items h = h
 opened a state.Events items h = h
 opened a state.SessionError items h = h
-
-not_none : (front : List Packet) (x : Packet) (more : List Packet) → front ++ x ∷ more ≡ [] → ⊥
-not_none [] x more e = absurd cc
-not_none (y ∷ front) x more e = absurd cc
 
 -- ---- a packet before what comes
 

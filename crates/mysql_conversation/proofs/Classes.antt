@@ -187,9 +187,3 @@ old_end_means a status p h = elim (chosen (looks_like_end false p) _ _ _ h) [
   | inl e ↦ (e.0, old_end_status_is a status p e.1)
   | inr e ↦ absurd cc
 ]
-
-pub eqb_is : (x y : ℕ) → (x == y) ≡ true → x ≡ y
-eqb_is x y h = eqb-true x y h
-
-pub eqb_refl : (x : ℕ) → (x == x) ≡ true
-eqb_refl x = eq-eqb x x refl

@@ -29,28 +29,12 @@ only (Err w) why h f e = f w h (cc e)
 
 -- ---- a command that comes early
 
-pub full_of : (n last : ℕ) (q : List Waiting) (c : Option Command) (command : Command) → c ≡ Some command → quits q ≡ false → (n ≤ length q) ⊎ (last ≡ 2 ^ 64 - 1) → IsFullOf n last q c
-full_of n last q c command e g h = (command, e, g, h)
-
 pub no_command : (n last : ℕ) (q : List Waiting) (c : Option Command) → c ≡ None → IsFullOf n last q c → ⊥
 no_command n last q c e h = let no : None ≡ Some h.0 = sym e ∙ h.1 in absurd cc
 
 pub has_place : (n last : ℕ) (q : List Waiting) (c : Option Command) → length q < n → last + 1 < 2 ^ 64 → IsFullOf n last q c → ⊥
 has_place n last q c a b (command, e, g, inl h) = omega arith
 has_place n last q c a b (command, e, g, inr h) = omega arith
-
--- after COM_QUIT none comes
-pub quit_has_no_place : (n last : ℕ) (q : List Waiting) (c : Option Command) → quits q ≡ true → IsFullOf n last q c → ⊥
-quit_has_no_place n last q c e h = let no : true ≡ false = sym e ∙ h.2 in absurd cc
-
-pub early_full : (c : Pipeline) (p : List ℕ) → is_due c.state ≡ true → IsFullOf c.limit c.last c.waiting.items (command_of p) → IsFull c Client p
-early_full c p m (command, e, g, inl h) = ((refl, command, e), inl ((m, g), h))
-early_full c p m (command, e, g, inr h) = ((refl, command, e), inr (inl (m, g), h))
-
-pub full_early : (c : Pipeline) (p : List ℕ) → is_due c.state ≡ true → IsFull c Client p → IsFullOf c.limit c.last c.waiting.items (command_of p)
-full_early c p m (k, inl h) = (k.1, k.2, h.0.1, inl h.1)
-full_early c p m (k, inr (inl h, n)) = (k.1, k.2, h.1, inr n)
-full_early c p m (k, inr (inr h, n)) = let no : is_due c.state ≡ false = ap is_due (idle_is c.state h) in absurd cc
 
 -- what the client says while the server is to speak, and is no command, is not full
 pub aside_has_place : (c : Pipeline) (p : List ℕ) (k : PacketKind) (m : State) → is_due c.state ≡ true → take_step c.agreed c.state Client p ≡ Some (k, m) → IsFull c Client p → ⊥
@@ -77,17 +61,6 @@ pub refused_has_place : (c : Pipeline) (p : List ℕ) → is_due c.state ≡ fal
 refused_has_place c p d e (k, inl h) = let no : true ≡ false = sym h.0.0 ∙ d in absurd cc
 refused_has_place c p d e (k, inr (inl h, n)) = let no : true ≡ false = sym h.0 ∙ d in absurd cc
 refused_has_place c p d e (k, inr (inr h, n)) = idle_step c.agreed p k.1 k.2 (subst (λ s. take_step c.agreed s Client p ≡ None) (idle_is c.state h) e)
-
--- what is no command's turn
-pub running_has_place : (c : Pipeline) (p : List ℕ) → is_due c.state ≡ false → is_rest c.state ≡ false → IsFull c Client p → ⊥
-running_has_place c p d i (k, inl h) = let no : true ≡ false = sym h.0.0 ∙ d in absurd cc
-running_has_place c p d i (k, inr (inl h, n)) = let no : true ≡ false = sym h.0 ∙ d in absurd cc
-running_has_place c p d i (k, inr (inr h, n)) = let no : true ≡ false = sym h ∙ i in absurd cc
-
--- it is counted
-pub counted_has_place : (c : Pipeline) (p : List ℕ) → is_due c.state ≡ false → c.last + 1 < 2 ^ 64 → IsFull c Client p → ⊥
-counted_has_place c p d b (k, inl h) = let no : true ≡ false = sym h.0.0 ∙ d in absurd cc
-counted_has_place c p d b (k, inr (w, n)) = omega arith
 
 -- ---- the server's packets
 

@@ -35,10 +35,6 @@ same_in (phase.Commands p) = (p, refl, (refl, refl, refl, refl))
 pub is_same : (s t : Session) → t ≡ s → IsSame s t
 is_same s t e = subst (λ t. IsSame s t) (sym e) (same_in s.phase)
 
--- what it was, by its phase
-pub is_same_at : (s t u : Session) → t ≡ u → s.phase ≡ u.phase → IsSame s t
-is_same_at s t u e p = subst (λ (t : Session). IsSameIn s.phase t.phase) (sym e) (subst (λ ph. IsSameIn s.phase ph) p (same_in s.phase))
-
 pub on_err : {A E P Q : Type 0} (r : Result A E) → (P → Q) → OnErr r P → OnErr r Q
 on_err (Ok x) f h = tt
 on_err (Err e) f h = f h
@@ -51,18 +47,6 @@ same_commands ph p q e a o l s = subst (λ ph. IsSameIn ph (phase.Commands q)) (
 pub ok_always : {A E Q : Type 0} (r : Result A E) → Q → IfOk r (λ x. Q)
 ok_always (Ok x) q = q
 ok_always (Err e) q = tt
-
-pub unexpected_encrypted : (e : SessionError) → e ≡ refusal.UnexpectedPacket → e ≡ refusal.Encrypted → ⊥
-unexpected_encrypted e h g = absurd cc
-
-pub unexpected_compressed : (e : SessionError) → e ≡ refusal.UnexpectedPacket → e ≡ refusal.Compressed → ⊥
-unexpected_compressed e h g = absurd cc
-
-pub compressed_encrypted : (e : SessionError) → e ≡ refusal.Compressed → e ≡ refusal.Encrypted → ⊥
-compressed_encrypted e h g = absurd cc
-
-pub compressed_full : (e : SessionError) → e ≡ refusal.Compressed → e ≡ refusal.Full → ⊥
-compressed_full e h g = absurd cc
 
 -- ---- what a phase says
 
@@ -88,12 +72,6 @@ no_compression s side p n h = let no : false ≡ true = sym n ∙ at_login s h.1
 
 pub no_tls : (s : Session) (side : Side) (p : List ℕ) → is_plain s.phase ≡ false → AsksForTls s side p → ⊥
 no_tls s side p n h = let no : false ≡ true = sym n ∙ ap is_plain h.3 in absurd cc
-
-pub no_commands : (s : Session) (side : Side) (p : List ℕ) → is_commands s.phase ≡ false → (q : Pipeline) × Continues s q × pipe.IsFull q side p → ⊥
-no_commands s side p n h = let no : false ≡ true = sym n ∙ ap is_commands h.1 in absurd cc
-
-pub server_agrees_on_nothing : (s : Session) (side : Side) (p : List ℕ) → side ≡ Server → AgreesOnCompression s side p → ⊥
-server_agrees_on_nothing s side p e h = let no : Client ≡ Server = sym h.0 ∙ e in absurd cc
 
 -- no other phase is the conversation
 pub commands_is : (ph : Phase) → is_commands ph ≡ true → ((p : Pipeline) → ph ≡ phase.Commands p → ⊥) → ⊥
@@ -220,28 +198,16 @@ commands_full s p side payload r e h = (
 
 -- ---- a login that does not agree on compression
 
-pub compressed_none : (server : Agreed) (tls : Bool) (p : List ℕ) → login_at p ≡ None → CompressedBy server tls p → ⊥
-compressed_none server tls p e h = let no : None ≡ Some h.0 = sym e ∙ h.1 in absurd cc
-
 pub compressed_asks : (server : Agreed) (tls : Bool) (p : List ℕ) (r : SslRequest) → login_at p ≡ Some r → (not tls && asks_tls r) ≡ true → CompressedBy server tls p → ⊥
 compressed_asks server true p r e a h = absurd cc
 compressed_asks server false p r e a h =
     let same : h.0 ≡ r = some_is (sym h.1 ∙ e) in
     let no : false ≡ true = sym h.2 ∙ ap asks_tls same ∙ a in absurd cc
 
-pub compressed_unended : (server : Agreed) (tls : Bool) (p : List ℕ) → ends_name p ≡ false → CompressedBy server tls p → ⊥
-compressed_unended server tls p e h = let no : true ≡ false = sym h.4 ∙ e in absurd cc
-
 pub compressed_open : (server : Agreed) (tls : Bool) (p : List ℕ) (r : SslRequest) → login_at p ≡ Some r → compresses (agreed_on server (client_of r)) ≡ false → CompressedBy server tls p → ⊥
 compressed_open server tls p r e c h =
     let same : h.0 ≡ r = some_is (sym h.1 ∙ e) in
     let no : true ≡ false = sym h.3 ∙ ap (λ r. compresses (agreed_on server (client_of r))) same ∙ c in absurd cc
-
-pub none_read : (tls : Bool) (p : List ℕ) → login_at p ≡ None → IsNoLoginAt tls p (login_at p)
-none_read tls p e = subst (λ o. IsNoLoginAt tls p o) (sym e) tt
-
-pub none_ends : (tls : Bool) (p : List ℕ) (r : SslRequest) → login_at p ≡ Some r → MayLogIn tls r → ends_name p ≡ false → IsNoLoginAt tls p (login_at p)
-none_ends tls p r e m n = subst (λ o. IsNoLoginAt tls p o) (sym e) (m, n)
 
 pub ok_is_no_error : {A E : Type 0} (x : A) (e : E) → Ok x ≡ Err e → ⊥
 ok_is_no_error x e h = absurd cc

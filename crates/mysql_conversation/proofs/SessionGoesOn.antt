@@ -78,12 +78,6 @@ greeting_goes_on side n items e = (
 
 -- ---- after an error
 
-pub nothing_goes_on : (side : Side) (n : PacketKindTag) (items : List Numbered) → TakenIn phase.Refused items → GoesOn side n items → ⊥
-nothing_goes_on side n items t h =
-    let y = place side h.0 h.1 h.2 in
-    let b = h.4 in
-    nothing_after items y b.0 t (subst (λ xs. IsSession xs) (append_assoc items (y ∷ []) b.0) b.1)
-
 -- ---- after what is no login
 
 login_error_comes : (items : List Numbered) → TakenIn phase.NoLogin items → GoesOn Server name.Error items

@@ -62,10 +62,6 @@ client_once b d s t x g h =
     let e : g.1 ≡ h.1 = some_is (sym (login_at_of g.1 x.packet.payload g.2) ∙ login_at_of h.1 x.packet.payload h.2) in
     sym g.4 ∙ ap client_of e ∙ h.4
 
--- of which kind the parts are
-greeting_kind : (s : Agreed) (x : Numbered) → IsGreeting s x → x.packet.kind ≡ kind.Handshake
-greeting_kind s x g = g.0.1
-
 -- ---- what a session is made of is one thing
 
 pub head_is : (x y : Numbered) (xs ys : List Numbered) → x ∷ xs ≡ y ∷ ys → (x ≡ y) × (xs ≡ ys)
@@ -495,7 +491,3 @@ sent_refused ph p k n items h taken b = at_beginning ph h taken (subst (λ xs. I
 pub may_log_in : (b : Bool) (r : SslRequest) → (not b && asks_tls r) ≡ false → MayLogIn b r
 may_log_in true r h = tt
 may_log_in false r h = h
-
-pub asks_for_tls : (b : Bool) (r : SslRequest) → (not b && asks_tls r) ≡ true → (b ≡ false) × (asks_tls r ≡ true)
-asks_for_tls true r h = absurd cc
-asks_for_tls false r h = (refl, h)

@@ -117,9 +117,6 @@ not_true false h = refl
 pub reports_parts : (s : State) → reports s ≡ true → (is_due s ≡ true) × (is_login s ≡ false)
 reports_parts s h = let b = and_parts (is_due s) (not (is_login s)) h in (b.0, not_true (is_login s) b.1)
 
-pub reports_of : (s : State) → is_due s ≡ true → is_login s ≡ false → reports s ≡ true
-reports_of s d l = ap (λ b. b && not (is_login s)) d ∙ ap not l
-
 pub entrance_login : (o : InitialPhase) → is_login (entrance o) ≡ begins_with_login o
 entrance_login opened_at.Login = refl
 entrance_login opened_at.Commands = refl

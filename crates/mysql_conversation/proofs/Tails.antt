@@ -126,10 +126,6 @@ answered_columns a f n items mid rest x (inl h) = ended_rows h.2.2
 answered_columns a f n items mid rest x (inr (inl h)) = more_results a f items h.0 rest (inr (inr (inr (opening a f (deprecates_eof a) true n items mid h.0 x h.1)))) h.2
 answered_columns a f n items mid rest x (inr (inr h)) = last_result a f items rest (inr (inr (inr (opening a f (deprecates_eof a) false n items mid rest x h))))
 
--- what follows definitions
-rest_end : (a : Agreed) (d : Bool) (items rest : List Packet) → following_all a d after.Rest items rest → c.definitions_end a d items rest
-rest_end a d items rest h = h
-
 pub entered : (a : Agreed) (b : After) (items rest : List Packet) → tail_of a (enter b) items rest → following a b items rest
 entered a (after.Rows f) items rest h = h
 entered a (after.Columns zero) items rest h = (items, refl, h)

@@ -1,4 +1,4 @@
--- Which packets are a conversation: the pages of the protocol, as a grammar of whole lists of packets.
+-- Which packets form a conversation: the protocol's pages as a grammar of lists of packets.
 use Rattle.std.specs.Prelude.{◌≡◌, ◌≢◌, ◌⊎◌, ℕ, zero, suc, List, [], ◌∷◌, ◌++◌, Bool, true, false, not, Option, Some, None, ◌==◌, ◌&&◌, if◌then◌else◌}
 use Rattle.mysql_wire.specs.Flags.{StatusFlags}
 use Rattle.mysql_conversation.specs.Agreements.{Agreed, deprecates_eof, asks_factors}
@@ -17,7 +17,7 @@ use Rattle.mysql_conversation.specs.declared.packet_kind.InitialPhase.TheVariant
 use Rattle.mysql_conversation.specs.declared.packet_kind.Side.{Side}
 use Rattle.mysql_conversation.specs.declared.packet_kind.Side.TheVariants.{Client, Server}
 
--- a packet: who sent it, its payload, and which packet it is
+-- a packet: its sender, its payload, and its kind
 pub record Packet : Type 0 where
   pub from : Side
   pub payload : List ℕ
@@ -27,11 +27,11 @@ pub record Packet : Type 0 where
 abbrev pub Part : Type 1
 Part = List Packet → List Packet → Type 0
 
--- a packet of the client of this kind, whose payload is such
+-- a packet of the client with this kind, whose payload satisfies the predicate
 abbrev pub sent : PacketKind → (List ℕ → Type 0) → Part
 sent kind P = one (λ x. (x.from ≡ Client) × (x.kind ≡ kind) × P x.payload)
 
--- a packet of the server of this kind, which is no error, and whose payload is such
+-- a packet of the server with this kind, not an error, whose payload satisfies the predicate
 abbrev pub served : PacketKind → (List ℕ → Type 0) → Part
 served kind P = one (λ x. (x.from ≡ Server) × (x.kind ≡ kind) × (first_is 0xff x.payload ≡ false) × P x.payload)
 
@@ -46,7 +46,7 @@ ok a more = served kind.Ok (IsOk a more)
 abbrev pub row : Agreed → RowFormat → Part
 row a format = served (kind.Row format) (IsRow a format)
 
--- how an end is spelled
+-- the form of an end
 abbrev pub ending : Bool → PacketKind
 ending true = kind.OkTerminator
 ending false = kind.Eof
@@ -72,20 +72,20 @@ definition = served kind.Column (λ p. Unit {0})
 abbrev pub prepared_ok : Agreed → ℕ → ℕ → Bool → Part
 prepared_ok a columns params follow = served (kind.PrepareOk columns params follow) (IsPrepared a columns params follow)
 
--- the definition of a field with its default value, which begins as no end does
+-- the definition of a field with its default value; it can't be mistaken for an end
 abbrev pub field : Agreed → Part
 field a = served kind.FieldListColumn (IsRow a Text)
 
 abbrev pub text : Part
 text = served kind.Statistics (λ p. Unit {0})
 
--- a packet of either side, in the protocol of the clone plugin
+-- a packet of either side in the clone plugin's protocol
 abbrev pub clone : Part
 clone = one (λ x. x.kind ≡ kind.Clone)
 
 -- ---- results
 
--- how the rows that are asked for are spelled
+-- the form of the requested rows
 abbrev pub format_of : Request → RowFormat
 format_of Query = Text
 format_of Execution = Binary
@@ -94,33 +94,33 @@ format_of Cursor = Binary
 abbrev pub eof : Agreed → Part
 eof a = served kind.Eof (λ p. (status : StatusFlags) × IsOldEnd a status p)
 
--- the EOF packet after definitions, where it isn't deprecated
+-- the EOF packet after definitions, unless it is deprecated
 abbrev pub definitions_end : Agreed → Bool → Part
 definitions_end a true = nothing
 definitions_end a false = eof a
 
--- the same of a result whose rows follow: no cursor is open, or none was asked for
+-- the EOF packet after the definitions of a result whose rows follow: no cursor is open, or none was requested
 abbrev pub columns_end : Agreed → Request → Bool → Part
 columns_end a Query deprecates = definitions_end a deprecates
 columns_end a Execution deprecates = definitions_end a deprecates
 columns_end a Cursor true = nothing
 columns_end a Cursor false = served kind.Eof (λ p. (status : StatusFlags) × IsOldEnd a status p × (opens_cursor status ≡ false))
 
--- the end of the definitions of a given number of columns or parameters; of none there is none
+-- the end of a given number of definitions of columns or parameters; there is none after 0 definitions
 abbrev pub definitions_end_of : Agreed → Bool → ℕ → Part
 definitions_end_of a deprecates zero = nothing
 definitions_end_of a deprecates (suc n) = definitions_end a deprecates
 
--- definitions of a given number of columns or parameters, and their end; where the definitions are left out, the end alone
+-- a given number of definitions of columns or parameters, and their end; if the definitions are left out, only the end
 abbrev pub definitions : Agreed → Bool → ℕ → Part
 definitions a true n = times n definition followed_by definitions_end_of a (deprecates_eof a) n
 definitions a false n = definitions_end_of a (deprecates_eof a) n
 
--- a local file: the server asks for it, the client sends it, and then an empty packet
+-- a local file: the server requests it, the client sends it, and then an empty packet
 abbrev pub loaded : Part
 loaded = infile_request followed_by many infile_content followed_by infile_end
 
--- a count of columns, and their definitions where it says that they follow
+-- a column count, and the definitions if it says that they follow
 abbrev pub columns : Agreed → ℕ → Part
 columns a n = (count a n true followed_by times n definition) or count a n false
 
@@ -129,7 +129,7 @@ abbrev pub rows : Agreed → Request → Bool → Part
 rows a request more =
     for_some (λ n. columns a n followed_by columns_end a request (deprecates_eof a) followed_by many (row a (format_of request)) followed_by end a more)
 
--- Columns, and no rows: the cursor that was asked for is open. Where EOF packets are deprecated, these are rows of which there are none.
+-- Columns without rows: the requested cursor is open. If EOF packets are deprecated, this is a result with no rows.
 abbrev pub opened : Agreed → Request → Bool → Bool → Part
 opened a Query deprecates more = never
 opened a Execution deprecates more = never
@@ -138,17 +138,17 @@ opened a Cursor false more =
     for_some (λ n. columns a n
     followed_by served kind.Eof (λ p. (status : StatusFlags) × IsOldEnd a status p × (opens_cursor status ≡ true) × (has_more status ≡ more)))
 
--- a result, whose last packet says whether more come
+-- a result, whose last packet says whether more follow
 abbrev pub result : Agreed → Request → Bool → Part
 result a request more = ok a more or (loaded followed_by ok a more) or rows a request more or opened a request (deprecates_eof a) more
 
--- results, of which only the last says that no more come
+-- results, of which only the last one says that none follow
 abbrev pub results : Agreed → Request → Part
 results a request = many (result a request true) followed_by result a request false
 
--- ---- the other answers
+-- ---- other answers
 
--- a prepared statement, and the definitions of its parameters and of its columns, which follow or are left out
+-- a prepared statement, and the definitions of its parameters and columns, which follow or are left out
 abbrev pub statement : Agreed → ℕ → ℕ → Bool → Part
 statement a columns params follow = prepared_ok a columns params follow followed_by definitions a follow params followed_by definitions a follow columns
 
@@ -158,15 +158,15 @@ prepared a = for_some (λ columns. for_some (λ params. statement a columns para
 abbrev pub any_end : Agreed → Part
 any_end a = end a true or end a false
 
--- an OK packet, or an end where the server may say so (`my_eof` in MySQL's `dispatch_command`)
+-- an OK packet, or an end if the server may send one (`my_eof` in MySQL's `dispatch_command`)
 abbrev pub acknowledged : Agreed → Bool → Part
 acknowledged a true = ok a false or end a false
 acknowledged a false = ok a false
 
 -- ---- authentication
 
--- what the server says before it is done, by the first byte: a switch of the plugin, or of fe alone to the old one, more data, a
--- next factor where these are agreed on, and else what its plugin says
+-- what the server sends before the OK packet, by the first byte: a switch to another plugin (fe alone: to the old one), more data, a next
+-- factor if agreed on, or else data of its plugin
 abbrev pub authentication_kind : Agreed → List ℕ → PacketKind
 authentication_kind a p =
     if first_is 0xfe p then (if is_one_byte p then kind.OldAuthSwitch else kind.AuthSwitch)
@@ -177,11 +177,11 @@ authentication_kind a p =
 abbrev pub asked : Agreed → Part
 asked a = one (λ x. (x.from ≡ Server) × (x.kind ≡ authentication_kind a x.payload) × (first_is 0xff x.payload ≡ false) × (first_is 0 x.payload ≡ false))
 
--- what the client answers, in its plugin's words
+-- the client's answer, in the plugin's format
 abbrev pub auth_data : Part
 auth_data = sent kind.AuthData (λ p. Unit {0})
 
--- the server speaks, and the client may answer, until an OK packet
+-- the server sends a request, and the client may answer, until the OK packet
 abbrev pub authentication : Agreed → Part
 authentication a = many (asked a followed_by (nothing or auth_data)) followed_by ok a false
 
@@ -193,18 +193,18 @@ event = served kind.BinlogEvent (λ p. first_is 0 p ≡ true)
 abbrev pub ack : Part
 ack = sent kind.SemiSyncAck (λ p. first_is 0xef p ≡ true)
 
--- The last is an EOF packet under any capabilities: CLIENT_DEPRECATE_EOF doesn't change a stream of events.
+-- The last packet is an EOF packet under any capabilities: CLIENT_DEPRECATE_EOF doesn't change a stream of events.
 abbrev pub events : Agreed → Part
 events a = many (event or ack) followed_by eof a
 
 -- ---- commands
 
--- what asks for the results of an execution
+-- what requests the results of an execution
 abbrev pub execution : Bool → Request
 execution true = Cursor
 execution false = Execution
 
--- what answers a command with this first byte, if it is one
+-- the answer to a command with this code, if it is a command's
 abbrev pub answering : ℕ → Bool → Option Answer
 answering code cursor =
     if code == 0x03 then Some (answer.Results Query)  -- COM_QUERY
@@ -237,7 +237,7 @@ answering code cursor =
     else (if code == 0xef then None  -- an acknowledgement of an event
     else Some answer.SessionError)))))))))))))))))))))))))))
 
--- the first byte; a server takes an empty packet for COM_SLEEP (`Protocol_classic::get_command` in MySQL, `do_command` in MariaDB)
+-- the command code; a server takes an empty packet for COM_SLEEP (`Protocol_classic::get_command` in MySQL, `do_command` in MariaDB)
 abbrev pub code_of : List ℕ → ℕ
 code_of [] = 0
 code_of (code ∷ bytes) = code
@@ -260,7 +260,7 @@ answered a (Some answer.Quit) = never
 answered a (Some answer.Clone) = error a
 answered a (Some answer.SessionError) = error a
 
--- a command and all that answers it
+-- a command and its whole answer
 abbrev pub exchange_of : Agreed → ℕ → Bool → Part
 exchange_of a code cursor = command code cursor followed_by answered a (answering code cursor)
 
@@ -273,7 +273,7 @@ abbrev pub commands : PacketKind → Bool
 commands (kind.Command code) = true
 commands _ = false
 
--- a packet inside of an exchange
+-- a packet inside an exchange
 abbrev pub inside : PacketKind → Bool
 inside (kind.Command code) = false
 inside kind.UnsolicitedError = false
@@ -283,7 +283,7 @@ inside _ = true
 abbrev pub IsInside : Packet → Type 0
 IsInside x = inside x.kind ≡ true
 
--- in place of any packet inside of it there may be an error, which ends the part
+-- in place of any packet inside the part there may be an error, which ends it
 abbrev pub unless_broken : Agreed → Part → Part
 unless_broken a part = part or broken part IsInside (error a)
 
@@ -294,7 +294,7 @@ unsolicited_error a = one (λ x. (x.from ≡ Server) × (x.kind ≡ kind.Unsolic
 abbrev pub exchanges : Agreed → Part
 exchanges a = many (unless_broken a (exchange a))
 
--- a command that is answered so
+-- a command with this answer
 abbrev pub commanding : Answer → Part
 commanding r = one (λ x. (x.from ≡ Client) × (x.kind ≡ kind.Command (code_of x.payload)) × (answering (code_of x.payload) (asks_cursor x.payload) ≡ Some r))
 
@@ -302,11 +302,11 @@ commanding r = one (λ x. (x.from ≡ Client) × (x.kind ≡ kind.Command (code_
 abbrev pub quit : Agreed → Part
 quit a = commanding answer.Quit followed_by (nothing or unsolicited_error a)
 
--- COM_CLONE, and the clone plugin's own protocol up to the end of the connection
+-- COM_CLONE, and the clone plugin's own protocol until the connection ends
 abbrev pub cloned : Agreed → Part
 cloned a = commanding answer.Clone followed_by ok a false followed_by many clone
 
--- what ends the connection, after which no packet comes
+-- what ends the connection: no packet follows
 abbrev pub last : Agreed → Part
 last a = nothing or quit a or unsolicited_error a or cloned a
 
@@ -326,7 +326,7 @@ conversation a opened_at.Commands items = commanded a items []
 abbrev pub IsReport : Agreed → Packet → Type 0
 IsReport a x = (x.from ≡ Server) × (x.kind ≡ kind.ProgressReport) × (is_report a x.payload ≡ true)
 
--- the client may answer a packet of this kind by one that is no command
+-- the client may answer a packet of this kind with one that is no command
 abbrev pub asks : PacketKind → Bool
 asks kind.AuthSwitch = true
 asks kind.OldAuthSwitch = true
@@ -337,19 +337,19 @@ asks kind.LocalInfile = true
 asks kind.InfileContent = true
 asks _ = false
 
--- a packet inside of an exchange comes next
+-- the next packet is inside an exchange
 abbrev pub InsideIsNext : List Packet → Type 0
 InsideIsNext [] = ⊥
 InsideIsNext (x ∷ xs) = IsInside x
 
--- a login is over after a packet of this kind
+-- a packet of this kind ends the login
 abbrev pub ends_login : PacketKind → Bool
 ends_login kind.Ok = true
 ends_login kind.Error = true
 ends_login _ = false
 
--- The packets are these others, and reports of progress, each inside of the answer to a command, where the client is not asked. A login
--- has none.
+-- The packets are these others with progress reports among them, each inside the answer to a command, while the client isn't asked for
+-- anything. There are none in a login.
 abbrev pub Reported : Agreed → (is_login is_asked : Bool) → List Packet → List Packet → Type 0
 Reported a is_login is_asked [] others = others ≡ []
 Reported a is_login is_asked (x ∷ items) others =

@@ -1,4 +1,4 @@
--- Where a conversation stands, in plain numbers.
+-- The state of a conversation, as plain numbers.
 use Rattle.std.specs.Prelude.{◌≡◌, ℕ, ◌==◌, List, Bool, true, false, Option, Some, None, if◌then◌else◌}
 use Rattle.std.specs.Option.{IsSome, option_map}
 use Rattle.mysql_conversation.specs.Agreements.{Agreed}
@@ -13,11 +13,11 @@ use Rattle.mysql_conversation.specs.declared.state.Request.TheVariants.{Query, E
 use Rattle.mysql_conversation.specs.declared.state.State.{State}
 use Rattle.mysql_conversation.specs.declared.state.State.TheVariants as state
 
--- a place at which nothing is counted
+-- a state that counts nothing
 abbrev pub at : InitialPhase → ℕ → ℕ → ConversationState
 at opening place request = record { opening = opening; place = place; request = request; after = 0; definitions = 0; columns = 0 }
 
--- the numbers of each state, and those that are not needed are 0
+-- the numbers of each state; unused ones are 0
 abbrev pub number_of : Request → ℕ
 number_of Query = 0
 number_of Execution = 1
@@ -33,7 +33,7 @@ abbrev pub number_if : Bool → ℕ
 number_if false = 0
 number_if true = 1
 
--- of a change of user, or of a login
+-- a change of user, or a login
 abbrev pub asked_number : Bool → Bool → ℕ
 asked_number false is_asked = number_if is_asked
 asked_number true false = 2
@@ -74,7 +74,7 @@ authentication_at n =
     else (if n == 3 then Some (state.Authentication true true)
     else None)))
 
--- what follows definitions
+-- what follows the definitions
 abbrev pub after_at : ConversationState → Option After
 after_at s =
     if s.after == 0 then Some after.Rest
@@ -83,7 +83,7 @@ after_at s =
     else (if s.after == 3 then Some after.End
     else None)))
 
--- the state of these numbers, where they are of one
+-- the state with these numbers, if there is one
 abbrev pub state_at : ConversationState → Option State
 state_at s =
     if s.place == 0 then Some state.Rest
@@ -107,10 +107,10 @@ state_at s =
     else (if s.place == 18 then Some state.Quit
     else None))))))))))))))))))
 
--- the numbers are of a state
+-- the numbers are those of a state
 abbrev pub IsState : ConversationState → Type 0
 IsState s = IsSome (state_at s)
 
--- a conversation that stands there has taken these packets, of these kinds
+-- a conversation in this state has taken these packets, with these kinds
 abbrev pub TakenAt : Agreed → ConversationState → List Packet → Type 0
 TakenAt agreed s items = (m : State) × (state_at s ≡ Some m) × Takes agreed (entrance s.opening) items m

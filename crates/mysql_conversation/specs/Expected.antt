@@ -13,7 +13,7 @@ use Rattle.mysql_conversation.specs.declared.state.Request.TheVariants.{Query, E
 use Rattle.mysql_conversation.specs.declared.state.State.{State}
 use Rattle.mysql_conversation.specs.declared.state.State.TheVariants as state
 
--- of the client
+-- from the client
 abbrev pub sent_names : State → List PacketKindTag
 sent_names state.Rest = name.Command ∷ []
 sent_names (state.Authentication login true) = name.AuthData ∷ []
@@ -36,7 +36,7 @@ sent_names state.Clone = name.Clone ∷ []
 sent_names state.Quit = []
 sent_names state.Over = []
 
--- how an end is named
+-- the kind of an end
 abbrev pub end_name : Bool → PacketKindTag
 end_name true = name.OkTerminator
 end_name false = name.Eof
@@ -46,12 +46,12 @@ row_name Query = name.TextRow
 row_name Execution = name.BinaryRow
 row_name Cursor = name.BinaryRow
 
--- what a server says before it is done
+-- the server's packets before the authentication ends
 abbrev pub asked_names : Bool → List PacketKindTag
 asked_names true = name.AuthSwitch ∷ name.OldAuthSwitch ∷ name.AuthMoreData ∷ name.AuthNextFactor ∷ name.AuthPluginData ∷ []
 asked_names false = name.AuthSwitch ∷ name.OldAuthSwitch ∷ name.AuthMoreData ∷ name.AuthPluginData ∷ []
 
--- of the server, where it is neither an error nor a report of progress
+-- from the server, except for an error or a progress report
 abbrev pub served_names : Agreed → State → List PacketKindTag
 served_names a state.Rest = []
 served_names a (state.Authentication login is_asked) = name.Ok ∷ asked_names (asks_factors a)
@@ -74,7 +74,7 @@ served_names a state.Clone = name.Clone ∷ []
 served_names a state.Quit = []
 served_names a state.Over = []
 
--- of what begins with ff, and is no report
+-- packets that begin with ff, except for a report
 abbrev pub error_names : State → List PacketKindTag
 error_names state.Rest = name.UnsolicitedError ∷ []
 error_names state.Clone = name.Clone ∷ []
@@ -86,7 +86,7 @@ abbrev pub reported : Bool → List PacketKindTag → List PacketKindTag
 reported true names = name.ProgressReport ∷ names
 reported false names = names
 
--- an error may come at any time before the end, and a report of progress while a command is answered
+-- an error may come at any time before the end, and a progress report during the answer to a command
 abbrev pub names : Agreed → State → Side → List PacketKindTag
 names a s Client = sent_names s
 names a s Server = error_names s ++ reported (reports_progress a && reports s) (served_names a s)
@@ -94,11 +94,11 @@ names a s Server = error_names s ++ reported (reports_progress a && reports s) (
 abbrev pub may_receive : Agreed → State → Side → PacketKindTag → Bool
 may_receive a s side n = is_in n (names a s side)
 
--- after which the client may answer by a packet that is no command
+-- the client may answer with a packet that is no command
 abbrev pub asking_names : List PacketKindTag
 asking_names = name.AuthSwitch ∷ name.OldAuthSwitch ∷ name.AuthMoreData ∷ name.AuthNextFactor ∷ name.AuthPluginData ∷ name.LocalInfile ∷ name.InfileContent ∷ []
 
--- after which no command comes any more
+-- no command follows
 abbrev pub shutting_names : State → List PacketKindTag
 shutting_names state.Rest = name.UnsolicitedError ∷ []
 shutting_names (state.Authentication true is_asked) = name.Error ∷ []
@@ -107,20 +107,20 @@ shutting_names state.Clone = name.Clone ∷ []
 shutting_names state.Quit = name.UnsolicitedError ∷ []
 shutting_names _ = []
 
--- Where commands may come early: a command where the server is to speak and COM_QUIT doesn't wait, and another packet of the client where
--- no command waits. Where commands wait, the server asks the client for nothing, and doesn't end the connection.
+-- Where commands may be pipelined: a command if it is the server's turn and no COM_QUIT waits, and another packet of the client if no
+-- command waits. While commands wait, the server asks the client for nothing, and doesn't end the connection.
 abbrev pub pipe_expects : Agreed → Standing → Side → PacketKindTag → Bool
 pipe_expects a w Client n =
     if is_due w.state then (may_receive a w.state Client n && not (waits w.waiting)) || (index n == index name.Command && not (quits w.waiting))
     else may_receive a w.state Client n
 pipe_expects a w Server n = may_receive a w.state Server n && not (waits w.waiting && (is_in n asking_names || is_in n (shutting_names w.state)))
 
--- what a session begins with, and what answers the greeting, in TLS or not
+-- the first packet of a session, and the answer to the greeting, in TLS or not
 abbrev pub greeting_names : Side → List PacketKindTag
 greeting_names Client = []
 greeting_names Server = name.Handshake ∷ name.UnsolicitedError ∷ []
 
--- what answers what is no login
+-- the answer to a packet that is no login
 abbrev pub login_error_names : Side → List PacketKindTag
 login_error_names Client = []
 login_error_names Server = name.Error ∷ []

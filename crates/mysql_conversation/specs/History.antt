@@ -13,21 +13,21 @@ use Rattle.mysql_conversation.specs.declared.packet_kind_tag.PacketKindTag.{Pack
 use Rattle.mysql_conversation.specs.declared.conversation.Conversation.{Conversation}
 use Rattle.mysql_conversation.specs.declared.conversation_state.ConversationState.{ConversationState}
 
--- what both sides agreed on, and where it began
+-- what both sides agreed on, and the initial phase
 abbrev pub agreed : Conversation → Agreed
 agreed c = c.agreed
 
 abbrev pub opening : Conversation → InitialPhase
 opening c = c.opening
 
--- where it stands, in plain numbers
+-- the state, as plain numbers
 abbrev pub numbers : Conversation → ConversationState
 numbers c = numbers_of c.opening c.state
 
--- these packets, of these kinds, are what it has taken
+-- these packets, with these kinds, are those it has taken
 abbrev pub Taken : Conversation → List Packet → Type 0
 Taken c items = Takes c.agreed (entrance c.opening) items c.state
 
--- some packet of this side, of a kind with this name, goes on with these packets
+-- some packet from this side, of a kind with this name, continues these packets
 abbrev pub GoesOn : Conversation → Side → PacketKindTag → List Packet → Type 0
 GoesOn c side name items = (payload : List ℕ) × (kind : PacketKind) × (name_of kind ≡ name) × IsBeginning c.agreed c.opening (items ++ packet side payload kind ∷ [])

@@ -1,4 +1,4 @@
--- Where a session stands before its conversation, in plain numbers.
+-- The state of a session before its conversation, as plain numbers.
 use Rattle.std.specs.Prelude.{◌≡◌, ℕ, ◌==◌, List, Option, Some, None, if◌then◌else◌}
 use Rattle.std.specs.Option.{IsSome}
 use Rattle.mysql_conversation.specs.Pipelined.{Numbered}
@@ -8,7 +8,7 @@ use Rattle.mysql_conversation.specs.declared.session.Phase.{Phase}
 use Rattle.mysql_conversation.specs.declared.session.Phase.TheVariants as phase
 use Rattle.mysql_conversation.specs.declared.session.Session.{Session}
 
--- the phase of these numbers, where they are of one
+-- the phase with these numbers, if there is one
 abbrev pub phase_at : LoginState → Option Phase
 phase_at s =
     if s.place == 0 then Some phase.Greeting
@@ -18,14 +18,14 @@ phase_at s =
     else (if s.place == 4 then Some phase.Refused
     else None))))
 
--- the numbers are of a phase
+-- the numbers are those of a phase
 abbrev pub IsState : LoginState → Type 0
 IsState s = IsSome (phase_at s)
 
--- a session that stands there has taken these packets, of these kinds and numbers
+-- a session in this state has taken these packets, with these kinds and numbers
 abbrev pub LoginTaken : LoginState → List Numbered → Type 0
 LoginTaken s items = (p : Phase) × (phase_at s ≡ Some p) × TakenIn p items
 
--- the session stands there
+-- the session is in this state
 abbrev pub StandsAt : LoginState → Session → Type 0
 StandsAt s session = phase_at s ≡ Some session.phase

@@ -1,4 +1,4 @@
--- The machine: what each packet is in each state, and the state after it.
+-- The machine: the kind of each packet in each state, and the next state.
 use Rattle.std.specs.Prelude.{◌≡◌, ℕ, zero, suc, List, [], ◌∷◌, Bool, true, false, Option, Some, None, Ok, Err, nat_lt, not, ◌&&◌, ◌||◌, if◌then◌else◌}
 use Rattle.mysql_wire.specs.Flags.{StatusFlags}
 use Rattle.mysql_wire.specs.Reading.{Reading}
@@ -34,9 +34,9 @@ use Rattle.mysql_conversation.specs.declared.packet_kind.InitialPhase.TheVariant
 use Rattle.mysql_conversation.specs.declared.packet_kind.Side.{Side}
 use Rattle.mysql_conversation.specs.declared.packet_kind.Side.TheVariants.{Client, Server}
 
--- ---- what a payload is
+-- ---- payloads
 
--- the status of a packet that was read
+-- the status of a packet that was parsed
 abbrev pub status_in : {T : Type 0} → Reading (OkPacketDeserializer T) → Option StatusFlags
 status_in (Ok x) = Some (status_flags x.0.0)
 status_in (Err e) = None
@@ -79,7 +79,7 @@ abbrev pub end_of : Option StatusFlags → Option Line
 end_of None = None
 end_of (Some status) = Some (line.End (has_more status))
 
--- what a row may be, and no end is
+-- what may be a row, and can't be an end
 abbrev pub row_of : RowFormat → List ℕ → Option Line
 row_of Text p = Some line.Row
 row_of Binary p = if first_is 0 p then Some line.Row else None
@@ -101,12 +101,12 @@ statement_at a p = statement_in ((stmt_with_metadata.form a.mysql).reads p)
 
 -- ---- the states
 
--- where a conversation begins
+-- the initial state
 abbrev pub entrance : InitialPhase → State
 entrance opened_at.Login = state.Authentication true false
 entrance opened_at.Commands = state.Rest
 
--- after definitions
+-- the state after definitions
 abbrev pub enter : After → State
 enter (after.Rows r) = state.Rows r
 enter (after.Columns zero) = state.Rest
@@ -114,27 +114,27 @@ enter (after.Columns (suc n)) = state.Definitions n after.Rest
 enter after.End = state.DefinitionsEnd after.Rest
 enter after.Rest = state.Rest
 
--- after the last of some definitions
+-- the state after the last definitions
 abbrev pub defined : Bool → After → State
 defined true b = enter b
 defined false b = state.DefinitionsEnd b
 
--- after a definition after which this many come
+-- the state after a definition; this many follow
 abbrev pub less : Bool → ℕ → After → State
 less deprecates zero b = defined deprecates b
 less deprecates (suc n) b = state.Definitions n b
 
--- where a given number of definitions come
+-- the state before a given number of definitions
 abbrev pub define : ℕ → After → State
 define zero b = enter b
 define (suc n) b = state.Definitions n b
 
--- where a result ends
+-- the state at the end of a result
 abbrev pub ended : Request → Bool → State
 ended r true = state.Reply r
 ended r false = state.Rest
 
--- where an answer begins
+-- the state at the beginning of an answer
 abbrev pub answers : Answer → State
 answers (answer.Results r) = state.Reply r
 answers answer.Prepared = state.Prepared
@@ -190,13 +190,13 @@ client_step state.Clone p = Some (kind.Clone, state.Clone)
 client_step state.Quit p = None
 client_step state.Over p = None
 
--- an event, or the EOF packet after the last
+-- an event, or the EOF packet after the last one
 abbrev pub event_step : Bool → Option StatusFlags → Option (PacketKind × State)
 event_step true status = Some (kind.BinlogEvent, state.Events)
 event_step false None = None
 event_step false (Some status) = Some (kind.Eof, state.Rest)
 
--- after a count
+-- the state after a column count
 abbrev pub counted : Bool → ℕ → Bool → After → State
 counted deprecates n true b = define n b
 counted deprecates n false b = defined deprecates b
@@ -222,7 +222,7 @@ infile_reply_step r (Some (reply.Ok more)) = Some (kind.Ok, ended r more)
 infile_reply_step r (Some reply.Infile) = None
 infile_reply_step r (Some (reply.Columns n follow)) = None
 
--- after the EOF packet of a result's definitions: the rows, or nothing of it where the cursor that was asked for is open
+-- the state after the EOF packet of a result's definitions: rows follow, unless the requested cursor is open
 abbrev pub columns_step : StatusFlags → Request → Option (PacketKind × State)
 columns_step status Query = Some (kind.Eof, state.Rows Query)
 columns_step status Execution = Some (kind.Eof, state.Rows Execution)
@@ -240,24 +240,24 @@ line_step deprecates r None = None
 line_step deprecates r (Some line.Row) = Some (kind.Row (format_of r), state.Rows r)
 line_step deprecates r (Some (line.End more)) = Some (ending deprecates, ended r more)
 
--- a packet of this kind and what goes on in this state, or the end
+-- a packet of this kind that continues this state, or the end
 abbrev pub last_step : Bool → PacketKind → State → Option Line → Option (PacketKind × State)
 last_step deprecates k s None = None
 last_step deprecates k s (Some line.Row) = Some (k, s)
 last_step deprecates k s (Some (line.End more)) = Some (ending deprecates, state.Rest)
 
--- where the definitions of a given number of columns are left out: the EOF packet after them is not
+-- the definitions of a given number of columns are left out, but not the EOF packet after them
 abbrev pub column_end : ℕ → State
 column_end zero = state.Rest
 column_end (suc n) = state.DefinitionsEnd after.Rest
 
--- and those of a given number of parameters before them
+-- the definitions of a given number of parameters, before them
 abbrev pub param_end : (params columns : ℕ) → State
 param_end zero columns = column_end columns
 param_end (suc n) zero = state.DefinitionsEnd after.Rest
 param_end (suc n) (suc m) = state.DefinitionsEnd after.End
 
--- where the definitions of a statement follow, or do not; where EOF packets are deprecated, nothing comes in their place
+-- whether the definitions of a statement follow; if they are left out and EOF packets are deprecated, nothing comes in their place
 abbrev pub prepared_by : Bool → Bool → ℕ → ℕ → State
 prepared_by deprecates true columns params = define params (after.Columns columns)
 prepared_by true false columns params = state.Rest
@@ -271,14 +271,14 @@ prepared_step deprecates (Some s) =
       prepared_by deprecates (definitions_follow s) (num_columns (packet_of s)) (num_params (packet_of s)),
     )
 
--- an OK packet, after which no more results come
+-- an OK packet, after which no results follow
 abbrev pub last_ok : State → Option Reply → Option (PacketKind × State)
 last_ok m (Some (reply.Ok more)) = if more then None else Some (kind.Ok, m)
 last_ok m (Some reply.Infile) = None
 last_ok m (Some (reply.Columns n follow)) = None
 last_ok m None = None
 
--- an end, where the server may say so
+-- an end, if the server may send one
 abbrev pub last_end : Bool → Bool → Bool → Option (PacketKind × State)
 last_end deprecates may_end more = if more || not may_end then None else Some (ending deprecates, state.Rest)
 
@@ -309,21 +309,21 @@ serve a state.Clone p = Some (kind.Clone, state.Clone)
 serve a state.Quit p = None
 serve a state.Over p = None
 
--- ---- whose turn it is
+-- ---- turns
 
--- no exchange runs, and a command may come
+-- no exchange is open, and a command may come
 abbrev pub is_rest : State → Bool
 is_rest state.Rest = true
 is_rest _ = false
 
--- no command comes any more
+-- no command follows any more
 abbrev pub is_shut : State → Bool
 is_shut state.Clone = true
 is_shut state.Quit = true
 is_shut state.Over = true
 is_shut _ = false
 
--- no exchange runs
+-- no exchange is open
 abbrev pub rests : State → Bool
 rests state.Rest = true
 rests state.Clone = true
@@ -331,13 +331,13 @@ rests state.Quit = true
 rests state.Over = true
 rests _ = false
 
--- the client may answer by a packet that is no command
+-- the client may answer with a packet that is no command
 abbrev pub listens : State → Bool
 listens (state.Authentication login is_asked) = is_asked
 listens (state.Infile r) = true
 listens _ = false
 
--- the server is to speak, and a packet of the client is not its answer
+-- it is the server's turn, and a packet of the client would not be its answer
 abbrev pub is_due : State → Bool
 is_due state.Rest = false
 is_due (state.Authentication login true) = false
@@ -348,16 +348,16 @@ is_due state.Quit = false
 is_due state.Over = false
 is_due _ = true
 
--- a login runs
+-- a login is in progress
 abbrev pub is_login : State → Bool
 is_login (state.Authentication true is_asked) = true
 is_login _ = false
 
--- a report of progress may come
+-- a progress report may come
 abbrev pub reports : State → Bool
 reports s = is_due s && not (is_login s)
 
--- an error: in an exchange, of a login, which ends the connection, or in none, which does too
+-- an error: inside an exchange; of a login, which ends the connection; or unsolicited, which ends it too
 abbrev pub error_step : State → Option (PacketKind × State)
 error_step state.Rest = Some (kind.UnsolicitedError, state.Over)
 error_step (state.Authentication true is_asked) = Some (kind.Error, state.Over)
@@ -366,30 +366,30 @@ error_step state.Over = None
 error_step state.Clone = Some (kind.Clone, state.Clone)
 error_step _ = Some (kind.Error, state.Rest)
 
--- what begins with ff and is no report that may come: the clone plugin's protocol is its own
+-- what begins with ff and is no report that may come; the clone plugin has its own protocol
 abbrev pub failed : Bool → State → Option (PacketKind × State)
 failed is_report state.Clone = Some (kind.Clone, state.Clone)
 failed true s = None
 failed false s = error_step s
 
--- which packet it is, if it is no report of progress, and the state after it
+-- the kind of a packet that is no progress report, and the next state
 abbrev pub step : Agreed → State → Side → List ℕ → Option (PacketKind × State)
 step a s Client p = client_step s p
 step a s Server p = if first_is 0xff p then failed (is_report a p) s else serve a s p
 
--- from a state the machine takes these packets, answers their kinds, and is in this state then
+-- from this state the machine takes these packets, returns their kinds, and reaches that state
 abbrev pub StepsTo : Agreed → State → Packet → State → Type 0
 StepsTo a s x m = step a s x.from x.payload ≡ Some (x.kind, m)
 
 abbrev pub Run : Agreed → State → List Packet → State → Type 0
 Run a s items t = Runs (StepsTo a) s items t
 
--- which packet it is, and the state after it
+-- the kind of a packet, and the next state
 abbrev pub take_step : Agreed → State → Side → List ℕ → Option (PacketKind × State)
 take_step a s Client p = step a s Client p
 take_step a s Server p = if is_report a p && reports s then Some (kind.ProgressReport, s) else step a s Server p
 
--- the same of packets among which may be reports
+-- `runs`, with progress reports among the packets
 abbrev pub TakesOne : Agreed → State → Packet → State → Type 0
 TakesOne a s x m = take_step a s x.from x.payload ≡ Some (x.kind, m)
 

@@ -1,4 +1,4 @@
--- The names of kinds.
+-- The names of packet kinds.
 use Rattle.std.specs.Prelude.{ℕ, List, codes, Bool, false, ◌==◌, ◌||◌, [], ◌∷◌}
 use Rattle.mysql_conversation.specs.declared.packet_kind.RowFormat.TheVariants.{Text, Binary}
 use Rattle.mysql_conversation.specs.declared.packet_kind.PacketKind.{PacketKind}
@@ -6,7 +6,7 @@ use Rattle.mysql_conversation.specs.declared.packet_kind.PacketKind.TheVariants 
 use Rattle.mysql_conversation.specs.declared.packet_kind_tag.PacketKindTag.{PacketKindTag}
 use Rattle.mysql_conversation.specs.declared.packet_kind_tag.PacketKindTag.TheVariants as name
 
--- a kind without what the packet says of itself
+-- a kind without its fields
 abbrev pub name_of : PacketKind → PacketKindTag
 name_of kind.Handshake = name.Handshake
 name_of kind.SslRequest = name.SslRequest
@@ -38,7 +38,7 @@ name_of kind.BinlogEvent = name.BinlogEvent
 name_of kind.SemiSyncAck = name.SemiSyncAck
 name_of kind.Clone = name.Clone
 
--- how a name is written
+-- the text of a name
 abbrev pub text_of : PacketKindTag → List ℕ
 text_of name.Handshake = codes "handshake"
 text_of name.SslRequest = codes "ssl_request"
@@ -70,7 +70,7 @@ text_of name.BinlogEvent = codes "binlog_event"
 text_of name.SemiSyncAck = codes "semi_sync_ack"
 text_of name.Clone = codes "clone"
 
--- the names, numbered
+-- the names, by number
 abbrev pub index : PacketKindTag → ℕ
 index name.Handshake = 0
 index name.SslRequest = 1
@@ -102,7 +102,7 @@ index name.BinlogEvent = 26
 index name.SemiSyncAck = 27
 index name.Clone = 28
 
--- it is one of these
+-- the name is in the list
 abbrev pub is_in : PacketKindTag → List PacketKindTag → Bool
 is_in n [] = false
 is_in n (x ∷ xs) = index n == index x || is_in n xs

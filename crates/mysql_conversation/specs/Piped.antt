@@ -1,4 +1,4 @@
--- What a pipelined conversation has taken.
+-- The packets that a pipeline has taken.
 use Rattle.std.specs.Prelude.{◌≡◌, ◌⊎◌, ◌≤◌, ◌-◌, ◌^◌, ◌++◌, ◌∷◌, [], ℕ, List, length, true, false, Some}
 use Rattle.std.specs.VecDeque.{deque_capacity, deque_len}
 use Rattle.mysql_conversation.specs.Agreements.{Agreed}
@@ -21,11 +21,11 @@ place side payload kind n = record { packet = packet side payload kind; number =
 abbrev pub stands : Pipeline → Standing
 stands c = standing c.state c.number c.last c.waiting.items
 
--- these packets, of these kinds and numbers, are what it has taken
+-- these packets, with these kinds and numbers, are those it has taken
 abbrev pub PipeTaken : Pipeline → List Numbered → Type 0
 PipeTaken c items = PipeRun c.agreed (start c.opening) items (stands c)
 
--- what both sides agreed on, where it began, how many commands may wait, and how many do
+-- what both sides agreed on, the initial phase, how many commands may wait, and how many do
 abbrev pub agreed : Pipeline → Agreed
 agreed c = c.agreed
 
@@ -38,15 +38,15 @@ limit c = c.limit
 abbrev pub waiting : Pipeline → ℕ
 waiting c = length c.waiting.items
 
--- the server is to speak, so that a command that comes has to wait; after COM_QUIT none comes
+-- it is the server's turn, so a new command has to wait; after COM_QUIT none may come
 abbrev pub MustWait : Pipeline → Type 0
 MustWait c = (is_due c.state ≡ true) × (quits c.waiting.items ≡ false)
 
--- as many commands came as a number of eight bytes counts
+-- 2^64 - 1 commands have been counted
 abbrev pub CountsNoMore : Pipeline → Type 0
 CountsNoMore c = c.last ≡ 2 ^ 64 - 1
 
--- no exchange runs, so that a command that comes is answered next
+-- no exchange is open, so the next command is answered next
 abbrev pub IsIdle : Pipeline → Type 0
 IsIdle c = is_rest c.state ≡ true
 
@@ -54,26 +54,26 @@ IsIdle c = is_rest c.state ≡ true
 abbrev pub IsCommand : Side → List ℕ → Type 0
 IsCommand side p = (side ≡ Client) × (command : Command) × (command_of p ≡ Some command)
 
--- a command comes that has to wait, while as many wait as may; or one that can't be counted
+-- a command that has to wait while the limit is reached, or that can't be counted
 abbrev pub IsFull : Pipeline → Side → List ℕ → Type 0
 IsFull c side p = IsCommand side p × ((MustWait c × (limit c ≤ waiting c)) ⊎ ((MustWait c ⊎ IsIdle c) × CountsNoMore c))
 
--- for how many commands that wait there is memory
+-- the number of waiting commands for which memory is allocated
 abbrev pub capacity : Pipeline → ℕ
 capacity c = deque_capacity c.waiting
 
--- the memory for commands that wait is full
+-- the memory for waiting commands is full
 abbrev pub HasNoCapacity : Pipeline → Type 0
 HasNoCapacity c = deque_capacity c.waiting ≤ deque_len c.waiting
 
--- nothing of it is changed, except for how many commands there is memory
+-- it is unchanged, except for the capacity for commands
 abbrev pub IsSame : Pipeline → Pipeline → Type 0
 IsSame c d = (d.agreed ≡ c.agreed) × (d.opening ≡ c.opening) × (d.limit ≡ c.limit) × (stands d ≡ stands c)
 
--- after what was taken the packet comes, of some kind and number
+-- the packet, with some kind and number, continues what was taken
 abbrev pub Comes : Pipeline → Side → List ℕ → Type 0
 Comes c side p = (items : List Numbered) → PipeTaken c items → (k : PacketKind) × (n : ℕ) × IsPipelinedBeginning c.agreed c.opening (items ++ place side p k n ∷ [])
 
--- some packet of this side, of a kind with this name, goes on with these packets
+-- some packet from this side, of a kind with this name, continues these packets
 abbrev pub GoesOn : Pipeline → Side → PacketKindTag → List Numbered → Type 0
 GoesOn c side name items = (payload : List ℕ) × (kind : PacketKind) × (number : ℕ) × (name_of kind ≡ name) × IsPipelinedBeginning c.agreed c.opening (items ++ place side payload kind number ∷ [])

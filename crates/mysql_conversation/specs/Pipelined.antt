@@ -1,4 +1,4 @@
--- Conversations in which commands come before the answers to earlier ones.
+-- Conversations with pipelined commands, which come before the answers to earlier ones.
 use Rattle.mysql_conversation.specs.Agreements.{Agreed}
 use Rattle.std.specs.Prelude.{◌≡◌, ◌⊎◌, ℕ, ◌+◌, List, [], ◌∷◌, ◌++◌, Bool, true, false, not, ◌&&◌, if◌then◌else◌}
 use Rattle.mysql_conversation.specs.Conversation.{Packet, IsConversation, commands, inside, asks}
@@ -7,7 +7,7 @@ use Rattle.mysql_conversation.specs.declared.packet_kind.PacketKind.{PacketKind}
 use Rattle.mysql_conversation.specs.declared.packet_kind.Side.{Side}
 use Rattle.mysql_conversation.specs.declared.packet_kind.Side.TheVariants.{Client, Server}
 
--- a packet, and the number of the command whose exchange it belongs to
+-- a packet, and the number of the command of its exchange
 pub record Numbered : Type 0 where
   pub packet : Packet
   pub number : ℕ
@@ -23,7 +23,7 @@ is_client Server = false
 abbrev pub is_command : Packet → Bool
 is_command x = is_client x.from && commands x.kind
 
--- the commands up to a packet, where there were n before it
+-- the commands up to a packet, after n others
 abbrev pub counted : ℕ → Packet → ℕ
 counted n x = if is_command x then n + 1 else n
 
@@ -32,7 +32,7 @@ abbrev pub AreNumbered : ℕ → List Numbered → Type 0
 AreNumbered n [] = Unit {0}
 AreNumbered n (x ∷ xs) = (x.number ≡ counted n x.packet) × AreNumbered (counted n x.packet) xs
 
--- a packet of the server before which a later command may come: it asks the client for nothing, and is inside of an exchange
+-- a packet of the server before which a later command may come: it asks the client for nothing, and is inside an exchange
 abbrev pub passes : PacketKind → Bool
 passes k = not (asks k) && inside k
 
@@ -40,8 +40,8 @@ abbrev pub ArePassed : List Numbered → Type 0
 ArePassed [] = Unit {0}
 ArePassed (x ∷ xs) = (x.packet.from ≡ Server) × (passes x.packet.kind ≡ true) × ArePassed xs
 
--- These are the others, of which commands may come early, where the client is not asked for anything: each is the next that is left of
--- the others, or a command before which only packets of the server are left.
+-- A reordering in which commands may come early, while the client isn't asked for anything: each packet is the first remaining one, or a
+-- command that only packets of the server precede.
 abbrev pub Early : Bool → List Numbered → List Numbered → Type 0
 Early is_asked [] others = others ≡ []
 Early is_asked (x ∷ items) others =
@@ -49,7 +49,7 @@ Early is_asked (x ∷ items) others =
     ⊎ ((front : List Numbered) × (back : List Numbered) × (is_command x.packet ≡ true) × ArePassed front × (others ≡ front ++ x ∷ back)
     × Early false items (front ++ back) × (is_asked ≡ false))
 
--- a conversation, of which commands may come early
+-- a conversation in which commands may be pipelined
 abbrev pub IsPipelined : Agreed → InitialPhase → List Numbered → Type 0
 IsPipelined a o items = (others : List Numbered) × IsConversation a o (packets others) × AreNumbered 0 others × Early false items others
 

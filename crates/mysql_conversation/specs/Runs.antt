@@ -1,4 +1,4 @@
--- Runs: what leads from a state to another, one step after another.
+-- Runs of the machine from one state to another, step by step.
 use Rattle.std.specs.Prelude.{◌≡◌, List, [], ◌∷◌}
 
 abbrev pub Runs : {S X : Type 0} → (S → X → S → Type 0) → S → List X → S → Type 0

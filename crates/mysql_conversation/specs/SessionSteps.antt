@@ -1,4 +1,4 @@
--- What the packets before a conversation say of themselves, and what a session does with them.
+-- What the packets before a conversation say by themselves, and the session's step for each.
 use Rattle.std.specs.Prelude.{◌≡◌, ◌⊎◌, ℕ, List, [], Bool, true, false, Option, Some, None, Ok, Err, if◌then◌else◌}
 use Rattle.mysql_wire.specs.Reading.{Reading}
 use Rattle.mysql_auth.specs.Handshake.{handshake}
@@ -33,7 +33,7 @@ login_at p = login_in ((ssl_request.form tt).reads p)
 abbrev pub IsNewPipeline : Agreed → Phase → Type 0
 IsNewPipeline a next = (q : Pipeline) × (next ≡ phase.Commands q) × (q.agreed ≡ a) × (q.opening ≡ Login) × PipeTaken q []
 
--- both sides agree on compression by the login of a client
+-- both sides agree on compression by the client's login
 abbrev pub CompressedBy : Agreed → Bool → List ℕ → Type 0
 CompressedBy server tls p = (r : SslRequest) × (login_at p ≡ Some r) × MayLogIn tls r × (compresses (agreed_on server (client_of r)) ≡ true) × (ends_name p ≡ true)
 
@@ -49,7 +49,7 @@ AnsweredAs server tls p k next =
     ⊎ (MayLogIn tls r × (compresses (agreed_on server (client_of r)) ≡ false) × (k ≡ kind.Login) × IsNewPipeline (agreed_on server (client_of r)) next × (ends_name p ≡ true))))
     ⊎ (IsNoLoginAt tls p (login_at p) × (k ≡ kind.Login) × (next ≡ phase.NoLogin))
 
--- ---- what a session does with a packet before the conversation
+-- ---- the session's step for a packet before the conversation
 
 -- an error, after which nothing comes
 abbrev pub refused_by : Bool → PacketKind → Option (PacketKind × Phase)
@@ -70,31 +70,31 @@ served_before (phase.InTls server) p = refused_by (first_is 0xff p) kind.Unsolic
 served_before phase.NoLogin p = refused_by (first_is 0xff p) kind.Error
 served_before (phase.Commands q) p = None
 
--- a packet of the client is taken as this kind, and this phase follows
+-- a packet of the client is taken with this kind, and this phase follows
 abbrev pub SentBefore : Phase → List ℕ → PacketKind → Phase → Type 0
 SentBefore (phase.Login server) p k next = AnsweredAs server false p k next
 SentBefore (phase.InTls server) p k next = AnsweredAs server true p k next
 SentBefore ph p k next = ⊥
 
--- both agree on compression by a packet of the client
+-- both sides agree on compression by a packet of the client
 abbrev pub CompressedAt : Phase → List ℕ → Type 0
 CompressedAt (phase.Login server) p = CompressedBy server false p
 CompressedAt (phase.InTls server) p = CompressedBy server true p
 CompressedAt ph p = ⊥
 
--- no packet of the client comes
+-- no packet of the client may come
 abbrev pub sends_none : Phase → Bool
 sends_none phase.Greeting = true
 sends_none phase.Refused = true
 sends_none phase.NoLogin = true
 sends_none ph = false
 
--- a request to go on in TLS came, and nothing says that what comes is deciphered
+-- TLS was requested, and the payloads that follow aren't decrypted
 abbrev pub is_encrypted : Phase → Bool
 is_encrypted (phase.Encrypted server) = true
 is_encrypted ph = false
 
--- the conversation goes on
+-- the conversation continues
 abbrev pub is_commands : Phase → Bool
 is_commands (phase.Commands q) = true
 is_commands ph = false

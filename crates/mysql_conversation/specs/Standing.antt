@@ -1,4 +1,4 @@
--- The machine with commands that wait.
+-- The machine with waiting commands.
 use Rattle.mysql_conversation.specs.Runs.{Runs}
 use Rattle.mysql_conversation.specs.Agreements.{Agreed}
 use Rattle.std.specs.Prelude.{◌≡◌, ◌⊎◌, ◌≤◌, ℕ, ◌+◌, ◌-◌, ◌^◌, List, [], ◌∷◌, ◌++◌, length, Bool, true, false, Option, Some, None, ◌&&◌, ◌||◌, if◌then◌else◌}
@@ -17,7 +17,7 @@ use Rattle.mysql_conversation.specs.declared.state.Answer.{Answer}
 use Rattle.mysql_conversation.specs.declared.state.Answer.TheVariants as answer
 use Rattle.mysql_conversation.specs.declared.pipeline.Waiting.{Waiting}
 
--- the state of the exchange that runs, its number, that of the last command, and the commands that wait
+-- the state of the current exchange, its number, the number of the last command, and the waiting commands
 pub record Standing : Type 0 where
   pub state : State
   pub number : ℕ
@@ -33,7 +33,7 @@ abbrev pub known : ℕ → Option Answer → Option Command
 known code None = None
 known code (Some answer) = Some (record { code = code; answer = answer })
 
--- the command that a payload is, if it is one
+-- the command in a payload, if it is one
 abbrev pub command_of : List ℕ → Option Command
 command_of p = known (code_of p) (answering (code_of p) (asks_cursor p))
 
@@ -50,18 +50,18 @@ abbrev pub waits : List Waiting → Bool
 waits [] = false
 waits (n ∷ q) = true
 
--- it is COM_QUIT, after which the client says no more
+-- COM_QUIT, after which the client sends nothing
 abbrev pub is_quit : Answer → Bool
 is_quit answer.Quit = true
 is_quit _ = false
 
--- the last that waits is
+-- the last waiting command is COM_QUIT
 abbrev pub quits : List Waiting → Bool
 quits [] = false
 quits (n ∷ []) = is_quit n.command.answer
 quits (n ∷ m ∷ q) = quits (m ∷ q)
 
--- where an exchange is over, the next begins that waits
+-- when an exchange is over, that of the next waiting command begins
 abbrev pub settle : State → ℕ → ℕ → List Waiting → Standing
 settle s i l [] = standing s i l []
 settle s i l (n ∷ q) = if is_rest s then settle (begin n.command) n.number l q else standing s i l (n ∷ q)
@@ -75,11 +75,11 @@ abbrev pub early : Standing → Option Command → Option (PacketKind × ℕ × 
 early w None = None
 early w (Some c) = if quits w.waiting then None else Some (kind_of c, w.last + 1, push w c)
 
--- there is a command that may come, for which there is no place
+-- the command may come, but the limit of waiting commands is reached
 abbrev pub IsFullOf : (limit : ℕ) (last : ℕ) → List Waiting → Option Command → Type 0
 IsFullOf limit last q c = (command : Command) × (c ≡ Some command) × (quits q ≡ false) × ((limit ≤ length q) ⊎ (last ≡ 2 ^ 64 - 1))
 
--- a packet that is no command stands after all commands that came
+-- a packet that is no command comes after all commands so far
 abbrev pub aside : Standing → Option (PacketKind × State) → Option Command → Option (PacketKind × ℕ × Standing)
 aside w None c = early w c
 aside w (Some (k, m)) c = if waits w.waiting then None else Some (k, w.number, standing m w.number w.last w.waiting)
@@ -90,12 +90,12 @@ in_turn w (Some (k, m)) =
     if is_rest w.state then Some (k, w.last + 1, standing m (w.last + 1) (w.last + 1) w.waiting)
     else Some (k, w.number, standing m w.number w.last w.waiting)
 
--- nothing is asked of the client where its next packets are commands that came, and the connection doesn't end before they are answered
+-- the client isn't asked for anything while its commands wait, and the connection doesn't end before they are answered
 abbrev pub served : Standing → Option (PacketKind × State) → Option (PacketKind × ℕ × Standing)
 served w None = None
 served w (Some (k, m)) = if (listens m || is_shut m) && waits w.waiting then None else Some (k, w.number, settle m w.number w.last w.waiting)
 
--- which packet it is, the number of its exchange, and how it stands after it
+-- the kind of a packet, the number of its exchange, and the next state
 abbrev pub pipe_step : Agreed → Standing → Side → List ℕ → Option (PacketKind × ℕ × Standing)
 pipe_step a w Client p = if is_due w.state then aside w (take_step a w.state Client p) (command_of p) else in_turn w (take_step a w.state Client p)
 pipe_step a w Server p = served w (take_step a w.state Server p)

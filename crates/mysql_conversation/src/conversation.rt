@@ -77,7 +77,7 @@ impl Conversation {
         ensures taken { (items : List Packet) → Taken self.now items → TakenAt (history.agreed self.now) result items }
         ensures opening { result.opening ≡ history.opening self.now }
         ensures state { IsState result }
-        // Of one state they are always the same.
+        // Equal states have equal numbers.
         ensures value { result ≡ history.numbers self.now }
     {
         numbers_of(self.opening, self.state)
@@ -100,9 +100,9 @@ impl Conversation {
     /// Returns the payload's kind. An error changes nothing.
     #[inline]
     pub fn next(&mut self, from: Side, payload: &[u8]) -> Result<PacketKind, UnexpectedPacket>
-        // What was taken has now this packet, of this kind, at its end.
+        // The packet, with this kind, is appended to what was taken.
         ensures taken { IfOk result (λ kind. (items : List Packet) → Taken self.old items → Taken self.new (items ++ packet from payload.now kind ∷ [])) }
-        // Of no kind does the packet go on with what was taken.
+        // With no kind does the packet continue what was taken.
         ensures refused { OnErr result ((items : List Packet) (kind : declared.PacketKind) → Taken self.old items → IsBeginning (history.agreed self.old) (history.opening self.old) (items ++ packet from payload.now kind ∷ []) → ⊥) }
         ensures err { OnErr result (self.new ≡ self.old) }
         ensures agreed { history.agreed self.new ≡ history.agreed self.old }

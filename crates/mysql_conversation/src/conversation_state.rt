@@ -46,7 +46,7 @@ impl ConversationState {
         ensures taken { IfSome result (λ kind. (items : List Packet) → TakenAt agreed self.now items → TakenAt agreed self.now (items ++ packet side.Server payload.now kind ∷ [])) }
         ensures state { IfSome result (λ _. IsState self.now) }
     {
-        // (the place of rows, as `state_at` has it)
+        // The state in a row, as in `state_at`.
         if self.place != 7 {
             return None;
         }

@@ -293,7 +293,7 @@ fn answering(code: u8, cursor: bool) -> Option<Answer>
         | com::COM_REFRESH
         | com::COM_PROCESS_KILL
         | com::COM_REGISTER_SLAVE => Some(Answer::Acknowledgement(false)),
-        // (`my_eof` in MySQL's `dispatch_command`)
+        // See `my_eof` in MySQL's `dispatch_command`.
         com::COM_SET_OPTION | com::COM_SHUTDOWN | com::COM_DEBUG => {
             Some(Answer::Acknowledgement(true))
         }

@@ -18,6 +18,7 @@ use crate::step::{
 use mysql_replies::SessionCapabilities;
 use std::alloc::Global;
 use std::collections::VecDeque;
+use thiserror::Error;
 
 /// A command that waits, and its number.
 #[derive(Clone, Copy, Debug, PartialEq, Eq)]
@@ -27,17 +28,22 @@ pub(crate) struct Waiting {
 }
 
 /// The error of a session or a pipeline: the packet is not taken, and the state is unchanged.
-#[derive(Clone, Copy, Debug, PartialEq, Eq)]
+#[derive(Clone, Copy, Debug, PartialEq, Eq, Error)]
 pub enum SessionError {
     /// The packet may not come next.
+    #[error("unexpected packet")]
     UnexpectedPacket,
     /// The command would have to wait, and the limit of waiting commands is reached.
+    #[error("too many pipelined commands")]
     Full,
     /// An allocation for a command that has to wait failed.
+    #[error("out of memory for a pipelined command")]
     Memory,
     /// The connection continues in TLS, and the payload is not decrypted. Only a session returns it.
+    #[error("the connection is encrypted")]
     Encrypted,
     /// Both sides agreed on compression, so the bytes after the login are compressed packets. Only a session returns it.
+    #[error("the connection is compressed")]
     Compressed,
 }
 
@@ -192,22 +198,22 @@ impl Pipeline {
     /// Returns the payload's kind and the number of the command whose exchange it belongs to: the first is 1.
     #[inline]
     pub fn next(&mut self, from: Side, payload: &[u8]) -> Result<(PacketKind, u64), SessionError>
-        // What was taken has now this packet, of this kind and number, at its end.
+        // The packet, with this kind and number, is appended to what was taken.
         ensures taken { IfOk result (λ x. (items : List Numbered) → PipeTaken self.old items → PipeTaken self.new (items ++ place from payload.now x.0 x.1 ∷ [])) }
-        // Of no kind and number does the packet go on with what was taken.
+        // With no kind and number does the packet continue what was taken.
         ensures refused { IfErr result (λ why. (items : List Numbered) (kind : declared.PacketKind) (number : ℕ) → why ≡ refusal.UnexpectedPacket → PipeTaken self.old items
             → IsPipelinedBeginning (piped.agreed self.old) (piped.opening self.old) (items ++ place from payload.now kind number ∷ []) → ⊥) }
-        // Exactly where a command comes that would have to wait, and as many wait as may; or where 2^64 - 1 commands came.
+        // Exactly if a command would have to wait, and the limit is reached; or if 2^64 - 1 commands were counted.
         ensures full { (result ≡ Err refusal.Full) ↔ piped.IsFull self.old from payload.now }
-        // The packet would have to wait, as it may, and there is no capacity for it.
+        // The packet would have to wait, and may, but there is no capacity for it.
         ensures memory { IfErr result (λ why. why ≡ refusal.Memory → (from ≡ side.Client) × piped.MustWait self.old × (piped.waiting self.old < piped.limit self.old) × piped.HasNoCapacity self.old) }
-        // (only a command has to wait)
+        // Only a command has to wait.
         ensures asked { IfErr result (λ why. why ≡ refusal.Memory → piped.IsCommand from payload.now) }
-        // Where as many commands wait as may, no memory is taken.
+        // If the limit is reached, no memory is requested.
         ensures capacity { piped.limit self.old ≤ piped.waiting self.old → piped.capacity self.new ≡ piped.capacity self.old }
-        // What is refused as full, or for memory, comes here.
+        // A packet refused as full, or for memory, may come next.
         ensures comes { IfErr result (λ why. why ≢ refusal.UnexpectedPacket → piped.Comes self.old from payload.now) }
-        // (the others are of a session alone)
+        // The other errors are those of a session.
         ensures ours { IfErr result (λ why. (why ≢ refusal.Encrypted) × (why ≢ refusal.Compressed)) }
         ensures err { OnErr result (stands self.new ≡ stands self.old) }
         ensures agreed { piped.agreed self.new ≡ piped.agreed self.old }
@@ -332,7 +338,7 @@ impl Pipeline {
     }
 
     /// A packet of the server, whichever it is.
-    // (a call, which a row doesn't pay for)
+    // Not inlined, so that a row doesn't pay for it.
     #[inline(never)]
     fn take_any_served(&mut self, payload: &[u8]) -> Result<(PacketKind, u64), SessionError>
         ensures taken { IfOk result (λ x. spec.pipe_step self.old.agreed (stands self.old) side.Server payload.now ≡ Some (x.0, x.1, stands self.new)) }

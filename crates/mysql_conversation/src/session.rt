@@ -224,25 +224,24 @@ impl Session {
     /// Returns the payload's kind and the number of the command whose exchange it belongs to: 0 before the first command.
     #[inline]
     pub fn next(&mut self, from: Side, payload: &[u8]) -> Result<(PacketKind, u64), SessionError>
-        // What was taken has now this packet, of this kind and number, at its end.
+        // The packet, with this kind and number, is appended to what was taken.
         ensures taken { IfOk result (λ x. (items : List Numbered) → SessionTaken self.old items → SessionTaken self.new (items ++ place from payload.now x.0 x.1 ∷ [])) }
-        // Of no kind and number does the packet go on with what was taken.
+        // With no kind and number does the packet continue what was taken.
         ensures refused { IfErr result (λ why. (items : List Numbered) (kind : declared.PacketKind) (number : ℕ) → why ≡ refusal.UnexpectedPacket → SessionTaken self.old items
             → IsSessionBeginning (items ++ place from payload.now kind number ∷ []) → ⊥) }
-        // Exactly where a request to go on in TLS came, and nothing says that what comes is deciphered: except for an error that the
-        // server sends in clear.
+        // Exactly after a request for TLS, until `tls_established` is called: except for an error that the server sends in clear.
         ensures encrypted { (result ≡ Err refusal.Encrypted) ↔ IsHidden self.old from payload.now }
         ensures tls { IfOk result (λ _. IsEncrypted self.new ↔ AsksForTls self.old from payload.now) }
-        // Exactly of a login by which both sides agree on compression.
+        // Exactly for a login by which both sides agree on compression.
         ensures compressed { (result ≡ Err refusal.Compressed) ↔ AgreesOnCompression self.old from payload.now }
-        // As a pipeline's.
+        // As for a pipeline.
         ensures full { (result ≡ Err refusal.Full) ↔ ((p : pipe.Pipeline) × Continues self.old p × piped.IsFull p from payload.now) }
         ensures asked { IfErr result (λ why. why ≡ refusal.Memory → piped.IsCommand from payload.now) }
         ensures memory { IfErr result (λ why. why ≡ refusal.Memory → (p : pipe.Pipeline) × Continues self.old p × (from ≡ side.Client) × piped.MustWait p × (piped.waiting p < piped.limit p) × piped.HasNoCapacity p) }
-        // What is refused as full, or for memory, comes here.
+        // A packet refused as full, or for memory, may come next.
         ensures comes { IfErr result (λ why. (why ≡ refusal.Full) ⊎ (why ≡ refusal.Memory) → Comes self.old from payload.now) }
         ensures err { OnErr result ((items : List Numbered) → SessionTaken self.old items → SessionTaken self.new items) }
-        // After an error nothing is changed.
+        // An error changes nothing.
         ensures same { OnErr result (IsSame self.old self.new) }
         ensures limit { sessions.limit self.new ≡ sessions.limit self.old }
     {
@@ -254,7 +253,7 @@ impl Session {
         }
         match &mut self.phase {
             Phase::Commands(pipeline) => pipeline.next(from, payload),
-            // (there is no other)
+            // There is no other packet.
             _ => Err(SessionError::UnexpectedPacket),
         }
     }

@@ -321,7 +321,7 @@ fn server_step(
 }
 
 /// Classifies a packet of the server, and moves to the state after it.
-// (a call, which a row doesn't pay for)
+// Not inlined, so that a row doesn't pay for it.
 #[inline(never)]
 pub(crate) fn take_served(
     alloc: Global,

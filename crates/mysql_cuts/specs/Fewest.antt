@@ -1,4 +1,4 @@
--- Cuts of rows of which only the weights are known, named by the numbers of rows where their parts end.
+-- Cuts of rows of which only the weights are known, given by the numbers of rows at which their parts end.
 use Rattle.std.specs.Prelude.{◌≡◌, ℕ, ◌+◌, ◌<◌, Bool, List, Option, MatchOption}
 use Rattle.mysql_cuts.specs.declared.rule.BulkRule.{BulkRule}
 use Rattle.mysql_cuts.specs.Cut.{Packing, request_size, IsFittingCut, IsFewest, ends_after}
@@ -13,7 +13,7 @@ weights rule limit arity = record {
   max_rows = rule.max_rows;
 }
 
--- requests over rows, of which only the weights are looked at
+-- requests over rows, measured by their weights
 abbrev pub weighed : {X : Type 0} → Packing X → Packing ℕ
 weighed k = record {
   limit = k.limit;
@@ -23,14 +23,14 @@ weighed k = record {
   max_rows = k.max_rows;
 }
 
--- these ends name a fitting cut
+-- these ends describe a fitting cut
 abbrev pub NamesFitting : Packing ℕ → List ℕ → List ℕ → Type 0
 NamesFitting k sizes ends = (parts : List (List ℕ)) × (ends ≡ ends_after 0 parts) × IsFittingCut k sizes parts
 
--- these ends name a fewest cut
+-- these ends describe a cut with the fewest parts
 abbrev pub NamesFewest : Packing ℕ → List ℕ → List ℕ → Type 0
 NamesFewest k sizes ends = (parts : List (List ℕ)) × (ends ≡ ends_after 0 parts) × IsFewest k sizes parts
 
--- what is left of the limit after a request of these rows, if they fit
+-- the rest of the limit after a request of these rows, if they fit
 abbrev pub CapacityIs : Packing ℕ → Bool → List ℕ → Option ℕ → Type 0
 CapacityIs k types part capacity = MatchOption capacity (k.limit < request_size k types part) (λ left. left + request_size k types part ≡ k.limit)

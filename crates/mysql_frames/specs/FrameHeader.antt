@@ -1,7 +1,7 @@
 -- The header before each frame.
 use Rattle.std.specs.Prelude.{ℕ, ◌+◌, ◌*◌, List, [], ◌∷◌}
 
--- the length that a header says
+-- the length in a header
 abbrev pub length_in : List ℕ → ℕ
 length_in (a ∷ b ∷ c ∷ rest) = a + 256 * b + 65536 * c
 length_in (a ∷ b ∷ []) = 0

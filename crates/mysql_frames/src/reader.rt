@@ -75,7 +75,7 @@ impl FrameReader {
     pub fn resync_sequence(&mut self, input: &[u8])
         ensures held { self.new.held ≡ self.old.held }
         ensures number { length self.old.held < 4 → 4 ≤ length (self.old.held ++ input.now) → self.new.number ≡ slice_index (self.old.held ++ input.now) 3 }
-        // In the middle of a payload, and where the header is not there even with the input, the number stays.
+        // Inside a payload, or if the header is still incomplete, the number is unchanged.
         ensures same { (4 ≤ length self.old.held) ⊎ (length (self.old.held ++ input.now) < 4) → self.new.number ≡ self.old.number }
         ensures limit { self.new.limit ≡ self.old.limit }
     {
@@ -123,28 +123,28 @@ impl FrameReader {
         ensures more { IfOk result (λ found. IfNone found (HoldsAll self.old input.old.now self.new input.new.now)) }
         ensures err { OnErr result (Keeps self.old input.old.now self.new input.new.now) }
 
-        // A payload that lies whole in one frame is not refused.
+        // A payload that is complete in one frame is not refused.
         ensures no_memory { self.old.held ≡ [] → (payload rest : List ℕ) → spec.FramedIn 0xffffff 0 self.old.number payload (spec.next self.old.number) input.old.now rest
             → length payload ≤ self.old.limit → IsOk result }
 
-        // Nor is an empty input; nor is memory asked for before the header of the payload's first frame is there, in order and within the
-        // limit: what is out of order or too long is never answered as a refusal of memory.
+        // Nor is an empty input; nor is memory requested before the header of the payload's first frame is complete, in order and within
+        // the limit: a frame out of order or too long is never answered with a memory error.
         ensures some { IsErrOf result FrameError.Memory → 0 < length input.old.now }
         ensures early { IsErrOf result FrameError.Memory → BeginsInOrder self.old (self.old.held ++ input.old.now) }
 
-        // Whatever comes, no payload's frames begin so; or each whose frames do is past the limit.
+        // Whatever follows, no payload's frames begin so; or each payload whose frames do is longer than the limit.
         ensures order { IsErrOf result FrameError.OutOfOrder → (more : List ℕ) → NoneWhole self.old.number (self.old.held ++ input.old.now ++ more) }
         ensures long { IsErrOf result FrameError.TooLong → (more : List ℕ) → AllLonger self.old.limit self.old.number (self.old.held ++ input.old.now ++ more) }
 
-        // Each of these is the answer as soon as the header that shows it is there; the first header that is wrong says which.
+        // Each error is returned as soon as the header that shows it is complete; the first wrong header determines it.
         ensures no_fault { IfOk result (λ found. IfNone found (ShowsNoFault self.new)) }
         ensures shown_order { IsErrOf result FrameError.OutOfOrder → ShowsOutOfOrder self.new }
         ensures shown_long { IsErrOf result FrameError.TooLong → ShowsTooLong self.new }
 
-        // Memory is asked for part of a frame whose header is there, in order and within the limit.
+        // Memory is requested for part of a frame whose header is complete, in order and within the limit.
         ensures lacks_part { IsErrOf result FrameError.Memory → LacksPart self.new }
 
-        // No more is held than a payload of the limit's length and its headers.
+        // No more is held than a payload of the limit's length with its headers.
         ensures bounded { length self.new.held ≤ self.new.limit + 4 * (self.new.limit / 0xffffff + 1) }
     {
         self.unfinished.read(input)

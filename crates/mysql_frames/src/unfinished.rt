@@ -20,9 +20,9 @@ fn fill(into: &mut Vec<u8>, input: &mut &[u8], missing: usize) -> Result<bool, A
     ensures done { IfOk result (λ done. (IsTrue done → length into.new.items ≡ length into.old.items + missing)
         × (done ≡ false → (length into.new.items < length into.old.items + missing) × (input.new.now ≡ []))) }
     ensures err { OnErr result (into.new.items ≡ into.old.items) }
-    // Where nothing comes it takes no memory.
+    // Without input it doesn't allocate.
     ensures some { OnErr result (input.old.now ≢ []) }
-    // Nor where there is capacity for what is missing, or for what comes of it and for `AT_ONCE` bytes: a header alone asks for no more.
+    // Nor if there is capacity for what is missing, or for the input and `AT_ONCE` bytes: a header alone requests no more.
     ensures missing { OnErr result (vec_capacity into.old < vec_len into.old + missing) }
     ensures comes { OnErr result (vec_capacity into.old < vec_len into.old + max 65536 (length input.old.now)) }
     ensures capacity { vec_capacity into.old ≤ vec_capacity into.new }
@@ -30,7 +30,7 @@ fn fill(into: &mut Vec<u8>, input: &mut &[u8], missing: usize) -> Result<bool, A
     if input.is_empty() {
         return Ok(missing == 0);
     }
-    // (one block for all that comes, but not much on the word of a header alone)
+    // One block for all that is missing, but not much of it because of a header alone.
     into.reserve(missing.min(AT_ONCE))?;
     let (front, rest) = input.split_at(missing.min(input.len()));
     into.extend_from_slice(front)?;
@@ -46,7 +46,7 @@ fn fill_header(into: &mut ArrayVec<u8, HEADER_LEN>, input: &mut &[u8]) -> bool
 {
     let missing = HEADER_LEN - into.len();
     let (front, rest) = input.split_at(missing.min(input.len()));
-    // (there is capacity for the whole of a header)
+    // There is capacity for a whole header.
     let _ = into.try_extend_from_slice(front);
     *input = rest;
     front.len() == missing
@@ -57,7 +57,7 @@ fn fill_header(into: &mut ArrayVec<u8, HEADER_LEN>, input: &mut &[u8]) -> bool
 fn whole_at(limit: usize, number: u8, input: &[u8]) -> Option<(&[u8], &[u8])>
     ensures framed { IfSome result (λ found. spec.Framed number found.0.now (spec.next number) input.now found.1.now) }
     ensures limit { IfSome result (λ found. length found.0.now ≤ limit) }
-    // Where one lies there, no longer than the limit, it is found.
+    // A complete frame within the limit is found.
     ensures found { IfNone result ((payload rest : List ℕ) → spec.FramedIn 0xffffff 0 number payload (spec.next number) input.now rest → limit < length payload) }
 {
     if input.len() < HEADER_LEN || input[3] != number {

@@ -35,19 +35,8 @@ pub enum Error {
     #[error("malformed packet: {0}")]
     Packet(Fault),
     /// A packet may not come next, or its bytes are encrypted or compressed.
-    #[error("{}", session_text(*.0))]
+    #[error("{0}")]
     Session(SessionError),
-}
-
-/// Converts a session's error.
-fn session_text(error: SessionError) -> &'static str {
-    match error {
-        SessionError::UnexpectedPacket => "unexpected packet",
-        SessionError::Full => "too many pipelined commands",
-        SessionError::Memory => "out of memory",
-        SessionError::Encrypted => "the connection is encrypted",
-        SessionError::Compressed => "the connection is compressed",
-    }
 }
 
 impl From<AllocError> for Error {

@@ -1,4 +1,4 @@
--- Binary rows, written from their values.
+-- Writing binary rows from their values.
 use Rattle.std.specs.Prelude.{◌≡◌, ◌≢◌, ℕ, ℤ, pos, negsuc, ◌+◌, ◌^◌, Bool, true, false, not, ◌&&◌, nat_lt, IsTrue, IsFalse, List, [], ◌∷◌, ◌++◌, length, take, slice_get, Some}
 use Rattle.std.specs.Int.{w64, cast_unsigned}
 use Rattle.mysql_wire.specs.declared.codes.column_type.ColumnType.{ColumnType}
@@ -14,9 +14,9 @@ use Rattle.mysql_prepared.specs.NullMarks.{MarksNulls}
 use Rattle.mysql_prepared.specs.declared.binary_row.BinaryRowError.{BinaryRowError}
 use Rattle.mysql_prepared.specs.declared.binary_row.BinaryRowError.TheVariants as error
 
--- ---- the values that a column takes
+-- ---- which values a column takes
 
--- an integer from -half to below half, or without a sign below twice the half
+-- an integer from -half to half - 1, or an unsigned one below twice the half
 abbrev pub has_width : (is_unsigned : Bool) (half : ℕ) → ℤ → Bool
 has_width true half (pos n) = nat_lt n (half + half)
 has_width true half (negsuc n) = false
@@ -30,22 +30,22 @@ takes_integer kind.Long u n = has_width u (2 ^ 31) n
 takes_integer kind.LongLong u n = not u
 takes_integer _ u n = false
 
--- the value is one that a column of the type is read as; a date alone has no time of day
+-- the value is one that reading a column of this type can return; a DATE has no time of day
 abbrev pub takes : ColumnType → (is_unsigned : Bool) → Content → Bool
 takes t u (Int n) = takes_integer (kind_of t) u n
 takes t u (UInt n) = is_longlong (kind_of t) && u
 takes t u value = matches_type (kind_of t) value
 
--- the same of what is a parameter too: a row has no place for an offset, nor for what was read of an execution
+-- the same for what is also a parameter: a row has no form for a UTC offset, nor for the raw bytes of an execution
 abbrev pub takes_param : ColumnType → (is_unsigned : Bool) → Param → Bool
 takes_param t u (Sent (Plain value)) = takes t u value
 takes_param t u (Sent (WithOffset date)) = false
 takes_param t u SentAhead = takes t u (value_of SentAhead)
 takes_param t u (AsSent has_null_bit bytes) = false
 
--- ---- the bytes
+-- ---- bytes
 
--- how many bytes an integer of the kind takes
+-- the size of an integer of this kind
 abbrev pub integer_size : ValueKind → ℕ
 integer_size kind.Tiny = 1
 integer_size kind.Short = 2
@@ -53,13 +53,13 @@ integer_size kind.Long = 4
 integer_size kind.LongLong = 8
 integer_size _ = 0
 
--- a value in a column of the type: the low bytes of an integer, else its binary form
+-- a value in a column of this type: the low bytes of an integer, otherwise its binary form
 abbrev pub bin_in : ColumnType → Content → List ℕ
 bin_in t (Int n) = le_bytes (integer_size (kind_of t)) (cast_unsigned w64 n)
 bin_in t value = bin value
 
 module _ {C : Type 0} (type_of : C → ColumnType) (unsigned : C → Bool) where
-  -- there is a value for each column, which takes it
+  -- there is a value for each column, which can contain it
   abbrev pub takes_row : List C → List Content → Bool
   takes_row [] [] = true
   takes_row [] (v ∷ vs) = false
@@ -71,29 +71,29 @@ module _ {C : Type 0} (type_of : C → ColumnType) (unsigned : C → Bool) where
   values_bytes (c ∷ cs) [] = []
   values_bytes (c ∷ cs) (v ∷ vs) = bin_in (type_of c) v ++ values_bytes cs vs
 
-  -- how many bytes the row takes
+  -- the size of the row
   abbrev pub row_len : List C → List Content → ℕ
   row_len columns values = 1 + bytes_for 2 (length values) + length (values_bytes columns values)
 
-  -- a byte, the bitmap of NULLs, and the values
+  -- a zero byte, the NULL bitmap, and the values
   abbrev pub IsRowBytes : List C → List Content → List ℕ → Type 0
   IsRowBytes columns values bytes = (nulls : List ℕ) × MarksNulls 2 values nulls × (bytes ≡ 0 ∷ nulls ++ values_bytes columns values)
 
-  -- the buffer ends in the row
+  -- the buffer ends with the row
   abbrev pub AppendsRow : List C → List Content → (old new : List ℕ) → Type 0
   AppendsRow columns values old new = (bytes : List ℕ) × IsRowBytes columns values bytes × (new ≡ old ++ bytes)
 
--- ---- refusals
+-- ---- errors
 
 module _ {C V : Type 0} (type_of : C → ColumnType) (unsigned : C → Bool) (param : V → Param) where
-  -- there is a value for each column, which takes it
+  -- there is a value for each column, which can contain it
   abbrev pub takes_values : List C → List V → Bool
   takes_values [] [] = true
   takes_values [] (v ∷ vs) = false
   takes_values (c ∷ cs) [] = false
   takes_values (c ∷ cs) (v ∷ vs) = takes_param (type_of c) (unsigned c) (param v) && takes_values cs vs
 
-  -- the column at the place does not take the value there
+  -- the column at this place can't contain its value
   abbrev pub IsRefusedAt : List C → List V → ℕ → Type 0
   IsRefusedAt columns values place = (c : C) × (v : V) × (slice_get columns place ≡ Some c) × (slice_get values place ≡ Some v) × IsFalse (takes_param (type_of c) (unsigned c) (param v))
 

@@ -1,4 +1,4 @@
--- Bitmaps of NULLs, and the cells in them.
+-- NULL bitmaps, and their cells.
 use Rattle.std.specs.Prelude.{ℕ, ◌+◌, ◌/◌, List, Bool, true, false}
 use Rattle.std.specs.Int.{bit_at}
 use Rattle.std.specs.declared.borrow.CowSlice.{CowSlice}
@@ -14,10 +14,10 @@ abbrev pub is_owned : {Z : Type 0} → CowSlice ℕ Z → Bool
 is_owned (slice.Borrowed r) = false
 is_owned (slice.Owned v) = true
 
--- the binary digit at a place of the number whose bytes these are, little-endian
+-- the binary digit at a place of the number that these bytes are, little-endian
 abbrev pub cell : List ℕ → ℕ → ℕ
 cell bytes place = bit_at (le_value bytes) place
 
--- how many bytes hold a given number of bits, of which the first ones stand for nothing
+-- the number of bytes for a given number of bits after the unused first ones
 abbrev pub bytes_for : ℕ → ℕ → ℕ
 bytes_for offset count = (count + 7 + offset) / 8

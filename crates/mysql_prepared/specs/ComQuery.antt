@@ -23,11 +23,11 @@ module _ {A : Type 0} where
   abbrev pub attributes : ComQuery A → Option (List A)
   attributes q = option_copied q.attributes
 
-  -- the attributes, none where the query can have none
+  -- the attributes; none if the query can't have any
   abbrev pub listed : ComQuery A → List A
   listed q = list_of (attributes q)
 
-  -- how many there are, where attributes can be
+  -- the number of attributes, if there can be any
   abbrev pub count_bytes : Option (List A) → List ℕ
   count_bytes attributes = option_map_or (λ l. lenenc_bytes (length l)) attributes []
 
@@ -35,17 +35,18 @@ module _ {A : Type 0} where
   abbrev pub set_bytes : Option (List A) → List ℕ
   set_bytes attributes = option_map_or (λ l. le_bytes 1 1) attributes []
 
--- the bitmap of NULLs, a byte that says that types follow, these with the names, and the values
+-- the NULL bitmap, a byte that says that types follow, the types with names, and the values
 abbrev pub some_bytes : List TypedParam → List ℕ
 some_bytes l = bitmap_of (map (λ p. value_of p.param) l) ++ (le_bytes 1 1 ++ (flat_map (type_bytes true) l ++ flat_map (value_bytes false) l))
 
--- 03; how many attributes and sets where both sides have CLIENT_QUERY_ATTRIBUTES; where there are any, they; and the text to the end
+-- 03; the number of attributes and of sets if both sides set CLIENT_QUERY_ATTRIBUTES; the attributes, if there are any; and the text to the
+-- end
 unfoldable pub query_bytes : {A : Type 0} → (attribute : A → Param) (attribute_type : A → NamedType) → ComQuery A → List ℕ
 query_bytes attribute attribute_type q =
     le_bytes 1 (server_command_code name.COM_QUERY) ++ count_bytes (attributes q) ++ set_bytes (attributes q)
     ++ where_some (listed q) (some_bytes (sent_params attribute attribute_type (listed q))) ++ text q
 
--- why attributes are refused: the type of one does not spell its value, and it is the first
+-- why attributes are refused: the first one whose type can't encode its value
 abbrev pub RefusesAttribute : List TypedParam → TypedExecutionError → Type 0
 RefusesAttribute attributes (refusal.AttributeTypeMismatch place) = first_unspelled attributes ≡ Some place
 RefusesAttribute attributes _ = ⊥

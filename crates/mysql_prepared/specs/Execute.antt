@@ -7,7 +7,7 @@ use Rattle.mysql_prepared.specs.ExecuteParams.{params_bytes}
 use Rattle.mysql_prepared.specs.declared.execute_head.ComStmtExecuteHead.{ComStmtExecuteHead}
 use Rattle.mysql_prepared.specs.declared.execute.ComStmtExecuteRequest.{ComStmtExecuteRequest}
 
--- ---- what a request holds
+-- ---- the request
 
 abbrev pub stmt_id : ComStmtExecuteRequest → ℕ
 stmt_id r = r.stmt_id.0
@@ -27,9 +27,9 @@ params r = r.params.values.now
 abbrev pub as_long_data : ComStmtExecuteRequest → Bool
 as_long_data r = r.params.as_long_data
 
--- ---- the bytes
+-- ---- bytes
 
--- what stands before the parameters
+-- what precedes the parameters
 abbrev pub head_of : ComStmtExecuteRequest → ComStmtExecuteHead
 head_of r = record { header = r.header; stmt_id = r.stmt_id; flags = r.flags; iteration_count = raw_int 1 }
 

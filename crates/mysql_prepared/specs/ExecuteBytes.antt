@@ -1,15 +1,15 @@
--- What a reader of an execution's parameters keeps true.
+-- The invariant of a reader of an execution's parameters.
 use Rattle.std.specs.Prelude.{◌≡◌, ℕ, ◌≤◌, Bool, true, false, IsTrue, List, [], length}
 use Rattle.std.specs.List.{All}
 use Rattle.mysql_prepared.specs.Attributes.{HasMarks}
 use Rattle.mysql_prepared.specs.SentTypes.{NamedType}
 
--- a type for each parameter that is left, where types are sent, and else none
+-- a type for each remaining parameter if types are sent, otherwise none
 abbrev pub Suffice : (sends_types : Bool) → ℕ → List NamedType → Type 0
 Suffice true left types = left ≤ length types
 Suffice false left types = types ≡ []
 
--- the bitmap has a bit for each parameter and each type that is left
+-- the bitmap has a bit for each remaining parameter and each remaining type
 pub record IsBound (sends_types : Bool) (left : ℕ) (nulls : List ℕ) (none : Bool) (place : ℕ) (types : List NamedType) : Type 0 where
   pub params : HasMarks nulls place left
   pub attributes : HasMarks nulls place (length types)

@@ -1,4 +1,4 @@
--- What an execution sends of its parameters and attributes.
+-- What an execution sends for its parameters and attributes.
 use Rattle.std.specs.Prelude.{ℕ, Bool, true, false, List, [], map}
 use Rattle.mysql_values.specs.DateTimeWithOffset.{date_with_offset}
 use Rattle.mysql_values.specs.ParamValue.{ParamContent, Plain, WithOffset, param_content}
@@ -11,8 +11,7 @@ use Rattle.mysql_prepared.specs.declared.execute_param.ExecuteParam.{ExecutePara
 use Rattle.mysql_prepared.specs.declared.execute_param.ExecuteParam.TheVariants as param
 use Rattle.mysql_prepared.specs.declared.execute_param.QueryAttribute.{QueryAttribute}
 
--- a parameter that is sent, or that was sent ahead; or one as it was sent: whether its bit in the bitmap of NULLs is set, and the
--- bytes of its value
+-- a parameter that is sent, or was sent as long data; or a raw one: whether its bit in the NULL bitmap is set, and the bytes of its value
 pub data Param : Type 0 where
   Sent : ParamContent → Param
   SentAhead : Param
@@ -32,8 +31,8 @@ ref_param value = Sent (Plain (ref_content value))
 abbrev pub date_alone : DateTimeWithOffset → Content
 date_alone d = Date (date_of d.year d.month d.day d.hour d.minute d.second d.micros)
 
--- the value whose type it is sent as: what was sent ahead is a byte string, and a date with an offset is a date; one as it was sent
--- is NULL where its bit is set, else a byte string
+-- the value whose type is sent: long data counts as a byte string, and a date with an offset as a date; a raw one is NULL if its bit is
+-- set, otherwise a byte string
 abbrev pub value_of : Param → Content
 value_of (Sent (Plain value)) = value
 value_of (Sent (WithOffset date)) = date_alone date
@@ -41,7 +40,7 @@ value_of SentAhead = Bytes []
 value_of (AsSent true bytes) = NULL
 value_of (AsSent false bytes) = Bytes bytes
 
--- the bytes of its value: where byte strings are long data, they are left out; those of one as it was sent stay
+-- the bytes of its value: byte strings that are sent as long data are left out; a raw one keeps its bytes
 abbrev pub param_bytes : Bool → Param → List ℕ
 param_bytes as_long_data (Sent (Plain value)) = sent as_long_data value
 param_bytes as_long_data (Sent (WithOffset date)) = date_with_offset.bytes date
@@ -52,6 +51,6 @@ module _ {V : Type 0} (param : V → Param) where
   abbrev pub contents : List V → List Content
   contents params = map (λ p. value_of (param p)) params
 
--- what an attribute holds
+-- what an attribute contains
 abbrev pub attribute_param : QueryAttribute → Param
 attribute_param a = Sent (param_content a.value)

@@ -10,7 +10,7 @@ use Rattle.mysql_prepared.specs.declared.execute_params.ExecuteParams.{ExecutePa
 
 -- ---- the types
 
--- the types that the values are sent as, one after another
+-- the types of the values, in order
 abbrev pub types_bytes : List Value → List ℕ
 types_bytes values = flat_map (λ v. param_type.bytes (type_of (content_of v))) values
 
@@ -21,25 +21,24 @@ abbrev pub short : Content → List ℕ
 short (Bytes bytes) = []
 short value = bin value
 
--- what is sent of a value: where byte strings are long data, nothing of these
+-- the bytes sent for a value: none for a byte string that is sent as long data
 abbrev pub sent : Bool → Content → List ℕ
 sent as_long_data value = if as_long_data then short value else bin value
 
 abbrev pub data_bytes : Bool → List Value → List ℕ
 data_bytes as_long_data values = flat_map (λ v. sent as_long_data (content_of v)) values
 
--- the size of a request that sends all its values, of which there are some: the bytes before the bitmap and the byte
--- after it are 11
+-- the size of a request that sends all its values, at least one: 11 bytes precede the bitmap or follow it
 abbrev pub whole_size : List Value → ℕ
 whole_size params = 11 + bytes_for 0 (length params) + 2 * length params + sum_by size_of params
 
--- ---- the bytes
+-- ---- bytes
 
 -- the bitmap, the flags, the types and the values
 abbrev pub some_params_bytes : ExecuteParams → List ℕ
 some_params_bytes p = take 8192 p.bitmap.bytes ++ le_bytes 1 p.flags.0.0 ++ types_bytes p.values.now ++ data_bytes p.as_long_data p.values.now
 
--- the bytes, where there are values
+-- the bytes, if there are values
 abbrev pub where_some : {A : Type 0} → List A → List ℕ → List ℕ
 where_some [] bytes = []
 where_some (v ∷ values) bytes = bytes

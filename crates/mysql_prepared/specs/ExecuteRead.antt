@@ -1,4 +1,4 @@
--- The parameters and the attributes of an execution, as a server reads them.
+-- The parameters and attributes of an execution, as a server reads them.
 use Rattle.std.specs.Prelude.{◌≡◌, ℕ, suc, ◌+◌, ◌≤◌, ◌==◌, Bool, true, false, ◌&&◌, ◌||◌, ◌-◌, not, nat_lt, List, [], ◌∷◌, ◌++◌, length, drop, Option, Some, None, Result, Ok, Err, if◌then◌else◌}
 use Rattle.mysql_wire.specs.declared.fault.FaultOf.{FaultOf}
 use Rattle.mysql_wire.specs.declared.fault.FaultKind.{FaultKind}
@@ -19,7 +19,7 @@ use Rattle.mysql_prepared.specs.declared.execute_param.ExecuteParam.{ExecutePara
 use Rattle.mysql_prepared.specs.declared.execute_view.BoundParam.{BoundParam}
 use Rattle.mysql_prepared.specs.declared.typed_param.TypedExecuteParam.{TypedExecuteParam}
 
--- a parameter: its type and its name, and what is sent of it
+-- a parameter: its type, its name, and what is sent for it
 pub record TypedParam : Type 0 where
   pub named_type : NamedType
   pub param : Param
@@ -27,52 +27,52 @@ pub record TypedParam : Type 0 where
 abbrev pub read_as : TypedExecuteParam → TypedParam
 read_as p = record { named_type = record { param_type = p.param_type; name = p.name.now }; param = param_of p.param }
 
--- ---- the grammar: the count
+-- ---- grammar: the count
 
 abbrev pub has_attributes : CapabilityFlags → Bool
 has_attributes capabilities = has capabilities.0 CLIENT_QUERY_ATTRIBUTES
 
--- under CLIENT_QUERY_ATTRIBUTES a count stands there where the statement has parameters, or PARAMETER_COUNT_AVAILABLE is set
+-- under CLIENT_QUERY_ATTRIBUTES there is a count if the statement has parameters or PARAMETER_COUNT_AVAILABLE is set
 abbrev pub has_count : CapabilityFlags → (flags : ℕ) → (params : ℕ) → Bool
 has_count capabilities flags params = has_attributes capabilities && (not (params == 0) || has flags PARAMETER_COUNT_AVAILABLE)
 
--- a count of no fewer than the statement's parameters
+-- a count of at least the statement's parameters
 abbrev pub at_least : ℕ → ℕ → Option ℕ
 at_least params count = if nat_lt count params then None else Some count
 
--- how many parameters and attributes there are
+-- the number of parameters and attributes
 abbrev pub count_of : CapabilityFlags → (flags : ℕ) → (params : ℕ) → Form ℕ
 count_of capabilities flags params = either (has_count capabilities flags params) (decode (at_least params) lenenc) (give params)
 
--- ---- the grammar: a parameter
+-- ---- grammar: a parameter
 
--- a parameter, with the type that is in force
+-- a parameter, with its effective type
 pub record BoundType : Type 0 where
   pub named_type : NamedType
   pub is_sent_ahead : Bool
 
--- a parameter of the type: nothing is spelled where it was sent ahead, nor where the bitmap says NULL
+-- a parameter of this type: no bytes if it was sent as long data, or if the bitmap says NULL
 abbrev pub param_form : (is_sent_ahead is_null : Bool) → ParamType → Form Param
 param_form is_sent_ahead is_null t = either is_sent_ahead (give SentAhead) (map Sent (value_of is_null t))
 
 abbrev pub typed_param : (nulls : List ℕ) → ℕ → BoundType → Form TypedParam
 typed_param nulls place p = map (λ v. record { named_type = p.named_type; param = v }) (param_form p.is_sent_ahead (cell nulls place == 1) p.named_type.param_type)
 
--- the parameters under the types that are sent, else under those of an earlier execution
+-- the parameters under the types that are sent, or under those of an earlier execution
 abbrev pub in_force : (sends_types : Bool) → List BoundParam → List NamedType → List BoundType
 in_force s [] ts = []
 in_force false (p ∷ ps) ts = record { named_type = unnamed p.param_type; is_sent_ahead = p.is_sent_ahead } ∷ in_force false ps ts
 in_force true (p ∷ ps) [] = []
 in_force true (p ∷ ps) (t ∷ ts) = record { named_type = t; is_sent_ahead = p.is_sent_ahead } ∷ in_force true ps ts
 
--- ---- the grammar: all
+-- ---- grammar: all
 
--- the count, and what stands before the values
+-- the count, and what precedes the values
 abbrev pub execution_front : CapabilityFlags → (flags : ℕ) → (params : ℕ) → Form BindFront
 execution_front capabilities flags params = count_of capabilities flags params >>= (λ count. bind_front (has_attributes capabilities) count params)
 
--- what follows the head, by what the server knows of each parameter: the count, the bitmap, the types, and the values of the
--- parameters and of the attributes after them
+-- what follows the head, given what the server knows of each parameter: the count, the bitmap, the types, and the values of the parameters
+-- and then of the attributes
 abbrev pub execution : CapabilityFlags → (flags : ℕ) → List BoundParam → Form (List TypedParam × List Attribute)
 execution capabilities flags params = do
   front ← execution_front capabilities flags (length params)
@@ -82,14 +82,13 @@ execution capabilities flags params = do
 
 -- ---- parameter by parameter
 
--- the parameters that are read one after another until one has a fault, and the bytes after each of them; and the bytes after
--- the last, or the kind of that fault
+-- the parameters that are read up to the first fault, and the bytes after each; and the bytes after the last, or the fault
 pub record Several : Type 0 where
   pub params : List TypedParam
   pub tails : List (List ℕ)
   pub end : Result (List ℕ) FaultKind
 
--- a parameter, and those that are read of the bytes after it
+-- a parameter, followed by those that are read after it
 abbrev pub then_params : Reading TypedParam → (List ℕ → Several) → Several
 then_params (Ok x) next = record { params = x.0 ∷ (next x.1).params; tails = x.1 ∷ (next x.1).tails; end = (next x.1).end }
 then_params (Err e) next = record { params = []; tails = []; end = Err e }
@@ -98,20 +97,20 @@ unfoldable pub params_in : (nulls : List ℕ) → ℕ → List BoundType → Lis
 params_in nulls place [] bytes = record { params = []; tails = []; end = Ok bytes }
 params_in nulls place (p ∷ ps) bytes = then_params ((typed_param nulls place p).reads bytes) (params_in nulls (place + 1) ps)
 
--- the attributes that stand after the parameters: the bitmap of NULLs, the place of the first one in it, and their types
+-- the attributes after the parameters: the NULL bitmap, the first one's place in it, and their types
 pub record AttributesAhead : Type 0 where
   pub nulls : List ℕ
   pub place : ℕ
   pub types : List NamedType
 
--- what is left of an execution: whether it sends types, how many parameters, those that are good, and the bytes after the last
--- one, or the kind of the fault that stands after those that are good
+-- The rest of an execution: whether it sends types, the number of parameters, those without a fault, and the bytes after the last one, or
+-- the fault that follows those.
 pub record ParamsLeft : Type 0 where
   pub sends_types : Bool
   pub left : ℕ
   pub params : List TypedParam
   pub end : Result (List ℕ) FaultKind
-  -- the bytes after the parameters that were read, and after each of those that are good
+  -- the bytes after the parameters that were read, and after each of those without a fault
   pub rest : List ℕ
   pub tails : List (List ℕ)
   pub attributes : AttributesAhead
@@ -128,8 +127,8 @@ params_left sends_types left nulls place params types bytes = record {
   attributes = record { nulls = nulls; place = place + length params; types = drop (length params) types };
 }
 
--- what stands after the head, of which parameters are read: whether it sends types, how many parameters are left, the bitmap of
--- NULLs, the place of the next one in it, the types that are left, and the bytes after the values that were read
+-- what follows the head, while parameters are read: whether it sends types, how many parameters are left, the NULL bitmap, the next one's
+-- place in it, the types that are left, and the bytes after the values that were read
 pub record ParamsBytes : Type 0 where
   pub sends_types : Bool
   pub left : ℕ
@@ -138,15 +137,15 @@ pub record ParamsBytes : Type 0 where
   pub types : List NamedType
   pub values : List ℕ
 
--- what is left of an execution where the server knows this of the parameters that are left
+-- the rest of an execution, given what the server knows of the remaining parameters
 abbrev pub left_of : ParamsBytes → List BoundParam → ParamsLeft
 left_of b params = params_left b.sends_types b.left b.nulls b.place params b.types b.values
 
--- what stands after the front, of a given number of parameters
+-- what follows the front, for a given number of parameters
 abbrev pub bytes_after : ℕ → BindFront → List ℕ → ParamsBytes
 bytes_after params f after = record { sends_types = f.sends_types; left = params; nulls = f.nulls; place = 0; types = f.types; values = after }
 
--- the values stand after what precedes them, which is there
+-- the values follow what precedes them
 abbrev pub StandsAfter : CapabilityFlags → (flags : ℕ) → (params : ℕ) → List ℕ → ParamsBytes → Type 0
 StandsAfter capabilities flags params bytes b =
     (f : BindFront) × (after : List ℕ) × ((execution_front capabilities flags params).reads bytes ≡ Ok (f, after)) × (b ≡ bytes_after params f after)
@@ -155,13 +154,13 @@ StandsAfter capabilities flags params bytes b =
 abbrev pub given_types : (sends_types : Bool) → List BoundParam → List NamedType → List BoundParam
 given_types sends_types params types = if sends_types then under_types params types else params
 
--- the execution stands after what precedes the values, which is there
+-- the execution follows what precedes the values
 abbrev pub IsExecution : CapabilityFlags → (flags : ℕ) → List BoundParam → List ℕ → ParamsLeft → Type 0
 IsExecution capabilities flags params bytes view =
     (f : BindFront) × (after : List ℕ) × ((execution_front capabilities flags (length params)).reads bytes ≡ Ok (f, after))
     × (view ≡ params_left f.sends_types (length params) f.nulls 0 params f.types after)
 
--- what reading all parameters that are left gives
+-- the result of reading all remaining parameters
 abbrev pub params_to : List TypedParam → Result (List ℕ) FaultKind → Reading (List TypedParam)
 params_to params (Ok rest) = Ok (params, rest)
 params_to params (Err e) = Err e
@@ -173,14 +172,14 @@ params_of view = params_to view.params view.end
 abbrev pub attributes_at : AttributesAhead → List ℕ → AttributesLeft
 attributes_at a bytes = attributes_left a.nulls a.place a.types bytes
 
--- what reading all that is left gives
+-- the result of reading the whole rest
 abbrev pub execution_of : ParamsLeft → Reading (List TypedParam × List Attribute)
 execution_of view =
     then_read (params_of view) (λ ps after. then_read (attributes_at view.attributes after).all (λ attributes rest. Ok ((ps, attributes), rest)))
 
--- ---- what reading does
+-- ---- reading
 
--- no parameter is good before this fault
+-- there is no parameter before this fault
 abbrev pub RefusesParam : FaultOf → ParamsLeft → Type 0
 RefusesParam e view = (view.params ≡ []) × Faults false e (params_of view)
 
@@ -188,7 +187,7 @@ RefusesParam e view = (view.params ≡ []) × Faults false e (params_of view)
 abbrev pub HasNoParam : ParamsLeft → Type 0
 HasNoParam view = (view.left ≡ 0) × (view.params ≡ [])
 
--- this is the first of the parameters that are good
+-- this is the first of the parameters without a fault
 pub record Gives (old : ParamsLeft) (x : TypedParam) (new : ParamsLeft) : Type 0 where
   pub left : old.left ≡ suc new.left
   pub params : old.params ≡ x ∷ new.params
@@ -197,24 +196,24 @@ pub record Gives (old : ParamsLeft) (x : TypedParam) (new : ParamsLeft) : Type 0
   pub tails : old.tails ≡ new.rest ∷ new.tails
   pub attributes : new.attributes ≡ old.attributes
 
--- the first of the parameters that are good, or none is left, or the fault and all is left
+-- the first of the parameters without a fault; or none is left; or the fault, and all are left
 abbrev pub GivesParam : ParamsLeft → Result (Option TypedExecuteParam) FaultOf → ParamsLeft → Type 0
 GivesParam old (Ok (Some x)) new = Gives old (read_as x) new
 GivesParam old (Ok None) new = HasNoParam old × (new ≡ old)
 GivesParam old (Err e) new = RefusesParam e old × (new ≡ old)
 
--- the first of the parameters that are left, of which the server knows this, or its fault
+-- the first of the remaining parameters, given what the server knows of it, or its fault
 abbrev pub GivesBound : ParamsBytes → BoundParam → List BoundParam → Result TypedExecuteParam FaultOf → ParamsBytes → Type 0
 GivesBound old bound others (Ok x) new = Gives (left_of old (bound ∷ others)) (read_as x) (left_of new others)
 GivesBound old bound others (Err e) new = RefusesParam e (left_of old (bound ∷ others)) × (new ≡ old)
 
--- ---- what reading as it was sent does
+-- ---- reading raw parameters
 
--- the bit of the next parameter says NULL
+-- the next parameter's bit says NULL
 abbrev pub is_next_marked : ParamsLeft → Bool
 is_next_marked view = cell view.attributes.nulls (view.attributes.place - view.left) == 1
 
--- the first of the parameters that are good, as it was sent: its type and its name, its bit, and the bytes that its value is read of
+-- the first of the parameters without a fault, raw: its type, its name, its bit, and the bytes from which its value is read
 pub record SentAs (old : ParamsLeft) (x : TypedParam) (new : ParamsLeft) : Type 0 where
   pub value : Param
   pub gives : Gives old (record { named_type = x.named_type; param = value }) new
@@ -222,18 +221,18 @@ pub record SentAs (old : ParamsLeft) (x : TypedParam) (new : ParamsLeft) : Type 
   pub sent : x.param ≡ AsSent (is_next_marked old) bytes
   pub parts : old.rest ≡ bytes ++ new.rest
 
--- that parameter, or none is left, or the fault and all is left
+-- that parameter; or none is left; or the fault, and all are left
 abbrev pub GivesAsSent : ParamsLeft → Result (Option TypedExecuteParam) FaultOf → ParamsLeft → Type 0
 GivesAsSent old (Ok (Some x)) new = SentAs old (read_as x) new
 GivesAsSent old (Ok None) new = HasNoParam old × (new ≡ old)
 GivesAsSent old (Err e) new = RefusesParam e old × (new ≡ old)
 
--- the first of the parameters that are left, of which the server knows this, as it was sent, or its fault
+-- the first of the remaining parameters, given what the server knows of it, raw, or its fault
 abbrev pub GivesBoundAsSent : ParamsBytes → BoundParam → List BoundParam → Result TypedExecuteParam FaultOf → ParamsBytes → Type 0
 GivesBoundAsSent old bound others (Ok x) new = SentAs (left_of old (bound ∷ others)) (read_as x) (left_of new others)
 GivesBoundAsSent old bound others (Err e) new = RefusesParam e (left_of old (bound ∷ others)) × (new ≡ old)
 
--- the first of the attributes that are left, as it was sent
+-- the first of the remaining attributes, raw
 pub record AttributeSentAs (old : AttributesLeft) (x : TypedParam) (new : AttributesLeft) : Type 0 where
   pub value : ParamContent
   pub left : old.left ≡ suc new.left
@@ -243,22 +242,22 @@ pub record AttributeSentAs (old : AttributesLeft) (x : TypedParam) (new : Attrib
   pub sent : x.param ≡ AsSent (cell old.nulls old.place == 1) bytes
   pub parts : old.rest ≡ bytes ++ new.rest
 
--- that attribute, or none is left, or its fault, and then all is left
+-- that attribute; or none is left; or its fault, and all are left
 abbrev pub NextAttributeAsSent : AttributesLeft → Result (Option TypedExecuteParam) FaultOf → AttributesLeft → Type 0
 NextAttributeAsSent old (Ok (Some x)) new = AttributeSentAs old (read_as x) new
 NextAttributeAsSent old (Ok None) new = (old.left ≡ 0) × (new ≡ old)
 NextAttributeAsSent old (Err e) new = Faults false e old.all × (new ≡ old)
 
--- the type that is in force: the first of those that are sent, else that of an earlier execution
+-- the effective type: the first of those that are sent, or that of an earlier execution
 abbrev pub TakesInForce : (sends_types : Bool) → ParamType → List NamedType → NamedType → List NamedType → Type 0
 TakesInForce true earlier old t new = old ≡ t ∷ new
 TakesInForce false earlier old t new = (t ≡ unnamed earlier) × (new ≡ old)
 
--- what the parameter that was read holds
+-- what a parameter that was read contains
 abbrev pub param_read : Result ExecuteParam FaultOf → Result Param FaultOf
 param_read (Ok p) = Ok (param_of p)
 param_read (Err e) = Err e
 
--- a front of a given number of parameters has a bit for each and for each type; where types are sent, there is one for each parameter
+-- a front for this many parameters has a bit for each parameter and for each type; if types are sent, there is one for each parameter
 abbrev pub HasFrontOf : ℕ → BindFront → Type 0
 HasFrontOf params f = (count : ℕ) × (params ≤ count) × HasFront count f

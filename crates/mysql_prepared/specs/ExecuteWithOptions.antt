@@ -1,4 +1,4 @@
--- One execution of a prepared statement, as its builder is asked for it and as it is kept.
+-- An execution of a prepared statement: the builder's settings, and the request.
 use Rattle.std.specs.Prelude.{◌≡◌, ◌<◌, ◌↔◌, IsTrue, ℕ, ◌+◌, bit_and, bit_or, nat_lt, Bool, true, false, List, [], length, Option, Some, None, is_some, if◌then◌else◌, ◌&&◌, ◌||◌, not}
 use Rattle.std.specs.Option.{option_copied, option_map}
 use Rattle.mysql_wire.specs.FlagMasks.{PARAMETER_COUNT_AVAILABLE}
@@ -20,21 +20,21 @@ use Rattle.mysql_prepared.specs.declared.execution.ComStmtExecuteWithOptions.{Co
 use Rattle.mysql_prepared.specs.declared.typed_param.TypedExecutionError.{TypedExecutionError}
 use Rattle.mysql_prepared.specs.declared.typed_param.TypedExecutionError.TheVariants as refusal
 
--- ---- the flags
+-- ---- flags
 
 abbrev pub cursor_bits : Cursor → ℕ
 cursor_bits cursor.ReadOnly = 1
 cursor_bits cursor.ForUpdate = 2
 cursor_bits cursor.Scrollable = 4
 
--- this cursor in place of another; PARAMETER_COUNT_AVAILABLE stays
+-- with another cursor; PARAMETER_COUNT_AVAILABLE is unchanged
 abbrev pub with_cursor : ℕ → Cursor → ℕ
 with_cursor flags cursor = bit_or (cursor_bits cursor) (bit_and flags PARAMETER_COUNT_AVAILABLE)
 
 abbrev pub counted : ℕ → ℕ
 counted flags = bit_or flags PARAMETER_COUNT_AVAILABLE
 
--- ---- what the builder is asked for
+-- ---- settings
 
 module _ {A : Type 0} where
   abbrev pub builder_attributes : ComStmtExecuteOptionsBuilder A → Option (List A)
@@ -43,14 +43,14 @@ module _ {A : Type 0} where
   abbrev pub builder_listed : ComStmtExecuteOptionsBuilder A → List A
   builder_listed b = list_of (builder_attributes b)
 
-  -- Without parameters a server looks for attributes only where the flags say that there is a count.
+  -- Without parameters, a server looks for attributes only if the flags say that there is a count.
   abbrev pub flags_for : ComStmtExecuteOptionsBuilder A → (has_params : Bool) → CursorType
   flags_for b has_params = record { 0 = if has_some (builder_listed b) && not has_params then counted b.flags.0 else b.flags.0; 1 = record {} }
 
   abbrev pub head_for : ComStmtExecuteOptionsBuilder A → (has_params : Bool) → ComStmtExecuteHead
   head_for b has_params = head.with_count b.iteration_count (head.head_with b.stmt_id (flags_for b has_params))
 
-  -- the execution that the builder makes of these parameters, where byte strings are long data or not
+  -- the execution that the builder makes of these parameters; `as_long_data` says whether byte strings are sent as long data
   abbrev pub asked : (attribute : A → Param) (attribute_type : A → NamedType) → ComStmtExecuteOptionsBuilder A → List TypedParam → (as_long_data : Bool) → Execution
   asked attribute attribute_type b params as_long_data = record {
     head = head_for b (has_some params);
@@ -60,13 +60,13 @@ module _ {A : Type 0} where
     as_long_data = as_long_data;
   }
 
--- the same of a builder without options
+-- the same for a builder without options
 abbrev pub asked_plainly : (stmt_id : ℕ) → List TypedParam → (as_long_data : Bool) → Execution
 asked_plainly stmt_id params as_long_data =
     record { head = head.head_without_cursor stmt_id; params = params; attributes = None; sends_types = true; as_long_data = as_long_data }
 
 module _ (execution : (as_long_data : Bool) → Execution) where
-  -- byte strings are long data: where the bytes of all values are past what one packet carries
+  -- byte strings become long data if the values don't fit in one packet
   abbrev pub IsAsLong : Bool → Type 0
   IsAsLong long = IsTrue long ↔ (max_payload < length (execution_bytes (execution false)))
 
@@ -74,17 +74,17 @@ module _ (execution : (as_long_data : Bool) → Execution) where
   abbrev pub written_bytes : List ℕ
   written_bytes = execution_bytes (execution (nat_lt max_payload (length (execution_bytes (execution false)))))
 
-  -- every type spells its value
+  -- every type can encode its value
   abbrev pub IsSpelled : Type 0
   IsSpelled = (first_unspelled (execution false).params ≡ None) × (first_unspelled (listed_params (execution false)) ≡ None)
 
-  -- why the execution is refused: the first value that its type does not spell, those of parameters first; or memory
+  -- why the execution is refused: the first value that its type can't encode, parameters first; or memory
   abbrev pub Refuses : TypedExecutionError → Type 0
   Refuses (refusal.TypeMismatch place) = first_unspelled (execution false).params ≡ Some place
   Refuses (refusal.AttributeTypeMismatch place) = (first_unspelled (execution false).params ≡ None) × (first_unspelled (listed_params (execution false)) ≡ Some place)
   Refuses refusal.Memory = IsSpelled
 
--- ---- what a request holds
+-- ---- the request
 
 module _ {V A : Type 0} where
   abbrev pub stmt_id : ComStmtExecuteWithOptions V A → ℕ

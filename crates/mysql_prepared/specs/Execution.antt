@@ -13,26 +13,26 @@ use Rattle.mysql_prepared.specs.SentParam.{type_bytes, value_bytes}
 use Rattle.mysql_prepared.specs.ExecuteRead.{TypedParam}
 use Rattle.mysql_prepared.specs.declared.execute_head.ComStmtExecuteHead.{ComStmtExecuteHead}
 
--- what an execution sends
+-- the content of an execution
 pub record Execution : Type 0 where
   pub head : ComStmtExecuteHead
   pub params : List TypedParam
-  -- where CLIENT_QUERY_ATTRIBUTES is agreed on
+  -- whether CLIENT_QUERY_ATTRIBUTES is agreed on
   pub attributes : Option (List TypedParam)
-  -- whether the types of parameters are sent; attributes are not sent without types
+  -- whether the parameters' types are sent; attributes require it
   pub sends_types : Bool
-  -- whether parameters that are byte strings are left out, since they are sent ahead
+  -- whether parameters that are byte strings are left out, because they are sent as long data
   pub as_long_data : Bool
 
--- the attributes, none where the execution can have none
+-- the attributes; none if the execution can't have any
 abbrev pub listed : Execution → List TypedParam
 listed e = unwrap_or e.attributes []
 
--- the attributes stand after the parameters
+-- the attributes follow the parameters
 abbrev pub all_params : Execution → List TypedParam
 all_params e = e.params ++ listed e
 
--- where attributes may be, each type has a name
+-- if attributes are possible, each type has a name
 abbrev pub has_names : Execution → Bool
 has_names e = is_some e.attributes
 
@@ -40,16 +40,16 @@ abbrev pub has_some : {A : Type 0} → List A → Bool
 has_some [] = false
 has_some (x ∷ xs) = true
 
--- a server looks for a count where the statement has parameters, or where the flag says that there is one
+-- a server looks for a count if the statement has parameters, or if the flag says that there is one
 abbrev pub has_count : Execution → Bool
 has_count e = has_names e && (has_some (all_params e) || has (cursor_flags e.head) PARAMETER_COUNT_AVAILABLE)
 
 abbrev pub types_follow : Execution → Bool
 types_follow e = e.sends_types || has_some (listed e)
 
--- ---- the bytes
+-- ---- bytes
 
--- how many parameters and attributes there are
+-- the number of parameters and attributes
 abbrev pub count_bytes : Execution → List ℕ
 count_bytes e = if has_count e then lenenc_bytes (saturated (length e.params + length (listed e))) else []
 
@@ -64,10 +64,10 @@ types_bytes e = if types_follow e then flat_map (type_bytes (has_names e)) (all_
 abbrev pub values_bytes : Execution → List ℕ
 values_bytes e = flat_map (value_bytes e.as_long_data) e.params ++ flat_map (value_bytes false) (listed e)
 
--- the bitmap, a byte that is 1 where types follow, the types, and the values
+-- the bitmap, a byte that is 1 if types follow, the types, and the values
 abbrev pub params_bytes : Execution → List ℕ
 params_bytes e = null_bytes e ++ (le_bytes 1 (if types_follow e then 1 else 0) ++ (types_bytes e ++ values_bytes e))
 
--- the head, the count, and those where there are parameters or attributes
+-- the head, the count, and the rest if there are parameters or attributes
 abbrev pub execution_bytes : Execution → List ℕ
 execution_bytes e = execute_head.bytes e.head ++ (count_bytes e ++ where_some (all_params e) (params_bytes e))

@@ -1,9 +1,9 @@
--- The data of one parameter, sent ahead of an execution.
+-- The long data of one parameter, sent before an execution.
 use Rattle.std.specs.Prelude.{ℕ, List, refl}
 use Rattle.mysql_wire.specs.Codecs.{Codec, Fields, ◌>>=◌, give, field, packet, const_u8, u16, u32, string_eof, raw_int}
 use Rattle.mysql_prepared.specs.declared.long_data.ComStmtSendLongData.{ComStmtSendLongData}
 
--- ---- what the packet holds
+-- ---- fields
 
 abbrev pub stmt_id : ComStmtSendLongData → ℕ
 stmt_id p = p.stmt_id.0
@@ -14,14 +14,14 @@ param_index p = p.param_index.0
 abbrev pub content : ComStmtSendLongData → List ℕ
 content p = p.content
 
--- this data, for that parameter of that statement
+-- this data, for this parameter of this statement
 abbrev pub long_data_of : ℕ → ℕ → List ℕ → ComStmtSendLongData
 long_data_of stmt_id param_index content =
     record { header = record { 0 = record {} }; stmt_id = raw_int stmt_id; param_index = raw_int param_index; content = content }
 
--- ---- in the bytes
+-- ---- bytes
 
--- 18, the statement's number, the parameter's place, and the data to the end
+-- 18, the statement's number, the parameter's number, and the data to the end
 abbrev pub long_data_fields : Fields (Unit {0}) ComStmtSendLongData ComStmtSendLongData
 long_data_fields = do
   header ← field (λ p. p.header) (const_u8 0x18)

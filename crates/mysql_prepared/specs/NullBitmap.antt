@@ -1,4 +1,4 @@
--- A bitmap of NULLs in the bytes.
+-- A NULL bitmap in the bytes.
 use Rattle.std.specs.Prelude.{◌≡◌, ℕ, ◌+◌, ◌^◌, List, None, Ok, Err, Bool, true, false, nat_lt, refl}
 use Rattle.mysql_wire.specs.declared.fault.FaultKind.TheVariants as kind
 use Rattle.mysql_wire.specs.Reading.{Reading}
@@ -9,7 +9,7 @@ use Rattle.mysql_prepared.specs.Bitmap.{Bitmap, bytes_for}
 pub none-missing : {A P : Type 0} (v : A) (rest : List ℕ) → ◌≡◌ {A = Reading A} (Err kind.UnexpectedEof) (Ok (v, rest)) → P
 none-missing v rest e = absurd cc
 
--- bytes that cannot be there
+-- more bytes than there can be
 abbrev pub missing : {A : Type 0} → Form A
 missing {A} = record {
   size = None;
@@ -24,7 +24,7 @@ missing {A} = record {
 abbrev pub borrowed : List ℕ → Bitmap
 borrowed bytes = record { bytes = bytes; owned = false }
 
--- the bytes that hold a given number of bits; a count past the machine's numbers has no bytes
+-- the bytes for a given number of bits; too many bits for a usize never have bytes
 unfoldable pub null_bitmap : ℕ → ℕ → Form Bitmap
 null_bitmap offset count = either (nat_lt (count + 7 + offset) (2 ^ 64)) (map borrowed (bare (bytes_for offset count))) missing
 

@@ -1,4 +1,4 @@
--- What one packet carries.
+-- The limit of one packet.
 use Rattle.std.specs.Prelude.{ℕ, ◌-◌, ◌^◌}
 
 -- the most bytes of a packet

@@ -1,4 +1,4 @@
--- When an execution with options asks for nothing besides its values.
+-- When an execution with options has nothing but its values.
 use Rattle.std.specs.Prelude.{◌≡◌, ◌<◌, ◌≤◌, ◌^◌, List, length}
 use Rattle.std.specs.List.{All}
 use Rattle.mysql_values.specs.declared.value.Value.{Value}

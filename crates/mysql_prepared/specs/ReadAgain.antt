@@ -1,4 +1,4 @@
--- As which parameters and attributes an execution is read that was written.
+-- How the parameters and attributes of a written execution are read.
 use Rattle.std.specs.Prelude.{◌≡◌, ℕ, ◌+◌, ◌<◌, ◌^◌, ◌&&◌, ◌++◌, Bool, true, false, IsFalse, is_some, List, [], ◌∷◌, length, map, Option, if◌then◌else◌}
 use Rattle.std.specs.List.{All}
 use Rattle.std.specs.Option.{option_map}
@@ -19,13 +19,13 @@ use Rattle.mysql_prepared.specs.declared.execute_head.ComStmtExecuteHead.{ComStm
 use Rattle.mysql_prepared.specs.declared.execute_param.QueryAttribute.{QueryAttribute}
 use Rattle.mysql_prepared.specs.declared.execute_view.BoundParam.{BoundParam}
 
--- a value as it is read under its type; a byte string of long data was sent ahead
+-- a value as it is read under its type; a byte string of long data was sent before
 abbrev pub as_read_under : (as_long_data : Bool) → ParamType → Param → Param
 as_read_under l t (Sent value) = if is_left_out l value then SentAhead else Sent (param_read_under t value)
 as_read_under l t SentAhead = SentAhead
 as_read_under l t (AsSent has_null_bit bytes) = AsSent has_null_bit bytes
 
--- a type as it is read: with its name where a name is sent
+-- a type as it is read: with its name if names are sent
 abbrev pub type_read : (named : Bool) → NamedType → NamedType
 type_read named t = record { param_type = t.param_type; name = if named then t.name else [] }
 
@@ -40,7 +40,7 @@ was_sent_ahead (Sent value) = false
 was_sent_ahead SentAhead = true
 was_sent_ahead (AsSent has_null_bit bytes) = false
 
--- numbers have their widths; bytes as they were sent may be any, so that nothing is said of what they are read as
+-- numbers within their widths; raw bytes may be anything, so nothing is said about reading them
 abbrev pub ParamFits : Param → Type 0
 ParamFits (Sent value) = ParamIsInRange value
 ParamFits SentAhead = Unit {0}
@@ -52,12 +52,12 @@ pub record SentFits (p : TypedParam) : Type 0 where
   pub value : ParamFits p.param
   pub spelled : is_spelled p ≡ true
 
--- what the server knows of a parameter: whether it was sent ahead, and where no types are sent, its type
+-- what the server knows of a parameter: whether it was sent as long data, and its type if no types are sent
 pub record Knows (sends_types as_long_data : Bool) (b : BoundParam) (p : TypedParam) : Type 0 where
   pub earlier : IsFalse sends_types → b.param_type ≡ p.named_type.param_type
   pub ahead : b.is_sent_ahead ≡ was_sent_ahead (as_read_under as_long_data p.named_type.param_type p.param)
 
--- it knows as many parameters, and this of each
+-- it knows as many parameters, and this about each
 abbrev pub KnowsAll : (sends_types as_long_data : Bool) → List BoundParam → List TypedParam → Type 0
 KnowsAll s l [] [] = Unit {0}
 KnowsAll s l [] (p ∷ ps) = ⊥
@@ -68,10 +68,10 @@ KnowsAll s l (b ∷ bs) (p ∷ ps) = Knows s l b p × KnowsAll s l bs ps
 abbrev pub built : ComStmtExecuteHead → List TypedParam → Option (List QueryAttribute) → (sends_types as_long_data : Bool) → Execution
 built head params attributes s l = record { head = head; params = params; attributes = option_map sent_attributes attributes; sends_types = s; as_long_data = l }
 
--- such an execution in a session of these capabilities, and what the server knows of the parameters
+-- such an execution in a session with these capabilities, and what the server knows of the parameters
 pub record IsReadable (capabilities : CapabilityFlags) (bound : List BoundParam) (attributes : Option (List QueryAttribute)) (e : Execution) : Type 0 where
   pub agreed : has_attributes capabilities ≡ is_some attributes
-  -- without parameters a server looks for attributes only where the flags say that there is a count
+  -- without parameters, a server looks for attributes only if the flags say that there is a count
   pub counted : has_some e.params ≡ false → has_some (list_of attributes) ≡ true → has (cursor_flags e.head) PARAMETER_COUNT_AVAILABLE ≡ true
   pub few : length e.params + length (list_of attributes) + 7 < 2 ^ 64
   pub fit : All SentFits e.params
@@ -82,7 +82,7 @@ pub record IsReadable (capabilities : CapabilityFlags) (bound : List BoundParam)
 abbrev pub bytes_after_head : Execution → List ℕ
 bytes_after_head e = count_bytes e ++ where_some (all_params e) (params_bytes e)
 
--- the parameters and the attributes as they are read
+-- the parameters and attributes as they are read
 abbrev pub params_as_read : Execution → List TypedParam
 params_as_read e = map (param_read (types_follow e && has_names e) e.as_long_data) e.params
 

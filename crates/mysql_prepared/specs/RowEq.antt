@@ -1,4 +1,4 @@
--- Equality of rows: it is that of what their values hold.
+-- Equality of rows: that of their values' contents.
 use Rattle.std.specs.Prelude.{Bool, ◌&&◌}
 use Rattle.std.specs.Option.{option_eq}
 use Rattle.std.specs.Cmp.{IsPartialEquivalence, and_per, on_per, partial_equiv_from_equiv}
@@ -13,7 +13,7 @@ cells_per : IsPartialEquivalence (pointwise (option_eq content_eq))
 cells_per = partial_equiv_from_equiv (lists_equiv (options_equiv content_equiv))
 
 module _ (column_eq : Column → Column → Bool) where
-  -- values that hold the same, beside the same columns
+  -- values with the same contents, and the same columns
   abbrev pub row_content_eq : RowContent → RowContent → Bool
   row_content_eq a b = pointwise (option_eq content_eq) a.cells b.cells && pointwise column_eq a.columns b.columns
 

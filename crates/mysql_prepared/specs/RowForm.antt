@@ -17,12 +17,12 @@ use Rattle.mysql_prepared.specs.Bitmap.{Bitmap, cell}
 use Rattle.mysql_prepared.specs.NullBitmap.{null_bitmap}
 use Rattle.mysql_values.specs.Cells.{held}
 
--- what a row holds: of each column a value, if it is there
+-- what a row contains: for each column an optional value
 pub record RowContent : Type 0 where
   pub cells : List (Option Content)
   pub columns : List Column
 
--- a value that is there
+-- a value that is present
 abbrev pub there : Form Content → Form (Option Content)
 there value = map Some value
 
@@ -33,7 +33,7 @@ text_cell place column = there text_value
 abbrev pub text_row : List Column → Form (List (Option Content))
 text_row columns = each text_cell 0 columns
 
--- a value in the binary form of its column's type; nothing is spelled where the bitmap says NULL
+-- a value in the binary form of its column's type; no bytes if the bitmap says NULL
 abbrev pub bin_value_unless : (is_null : Bool) → Column → Form Content
 bin_value_unless is_null column = either is_null (give NULL) (bin_value (column_type column) (has (flags column).0 UNSIGNED_FLAG))
 
@@ -43,7 +43,7 @@ bin_cell nulls offset place column = there (bin_value_unless (cell nulls (place 
 abbrev pub bin_cells : (nulls : List ℕ) (offset : ℕ) → List Column → Form (List (Option Content))
 bin_cells nulls offset columns = each (bin_cell nulls offset) 0 columns
 
--- ProtocolBinary::ResultsetRow: a byte with any value, the bitmap of NULLs, and the values that it leaves
+-- ProtocolBinary::ResultsetRow: a byte with any value, the NULL bitmap, and the other values
 abbrev pub bin_row : (offset : ℕ) → List Column → Form (List (Option Content))
 bin_row offset columns = do
   header ← skip 1
@@ -54,21 +54,20 @@ bin_row offset columns = do
 abbrev pub bin_row_front : (offset : ℕ) → List Column → Form Bitmap
 bin_row_front offset columns = skip 1 >>= (λ header. null_bitmap offset (length columns))
 
--- Memory is taken for the values, which there are where there are columns: in text at once, in the binary protocol where
--- the bitmap is there.
+-- Memory is allocated for the values if there are columns: in text at once, in the binary protocol once the bitmap is complete.
 abbrev pub text_row_takes_memory : List Column → Bool
 text_row_takes_memory columns = is_any (length columns)
 
 abbrev pub bin_row_takes_memory : (offset : ℕ) → List Column → List ℕ → Bool
 bin_row_takes_memory offset columns bytes = is_any (length columns) && is_ok ((bin_row_front offset columns).reads bytes)
 
--- the row of these columns
+-- the row with these columns
 abbrev pub row_of : (List Column → Form (List (Option Content))) → List Column → Form RowContent
 row_of cells columns = do
   values ← cells columns
   give (record { cells = values; columns = columns })
 
--- what the values that were read hold
+-- what the values that were read contain
 abbrev pub cells_in : Result (Vec (Option Value)) FaultOf → Result (List (Option Content)) FaultOf
 cells_in (Ok cells) = Ok (held cells.items)
 cells_in (Err e) = Err e

@@ -17,10 +17,10 @@ use Rattle.mysql_prepared.specs.Bitmap.{Bitmap, cell}
 use Rattle.mysql_prepared.specs.NullBitmap.{null_bitmap}
 use Rattle.mysql_prepared.specs.RowForm.{there}
 
--- ---- the grammars
+-- ---- grammars
 
 module _ {C : Type 0} (type_of : C → ColumnType) (unsigned : C → Bool) where
-  -- a value in the binary form of its column's type; nothing is spelled where the bitmap says NULL
+  -- a value in the binary form of its column's type; no bytes if the bitmap says NULL
   abbrev pub ref_unless : (is_null : Bool) → C → Form Content
   ref_unless is_null column = either is_null (give NULL) (bin_value (type_of column) (unsigned column))
 
@@ -31,7 +31,7 @@ module _ {C : Type 0} (type_of : C → ColumnType) (unsigned : C → Bool) where
   abbrev pub row_front : (offset : ℕ) → List C → Form Bitmap
   row_front offset columns = skip 1 >>= (λ header. null_bitmap offset (length columns))
 
-  -- ProtocolBinary::ResultsetRow: a byte with any value, the bitmap of NULLs, and the values that it leaves
+  -- ProtocolBinary::ResultsetRow: a byte with any value, the NULL bitmap, and the other values
   abbrev pub bin_row_of : (offset : ℕ) → List C → Form (List (Option Content))
   bin_row_of offset columns = do
     header ← skip 1
@@ -44,14 +44,13 @@ text_row_of columns = counted columns (there text_value)
 
 -- ---- value by value
 
--- the values that are read one after another until one has a fault, and the bytes after each of them; and the bytes after the
--- last, or the kind of that fault
+-- the values that are read up to the first fault, and the bytes after each; and the bytes after the last, or the fault
 pub record Values : Type 0 where
   pub values : List Content
   pub tails : List (List ℕ)
   pub end : Result (List ℕ) FaultKind
 
--- a value, and those that are read of the bytes after it
+-- a value, followed by those that are read after it
 abbrev pub then_values : Reading Content → (List ℕ → Values) → Values
 then_values (Ok x) next = record { values = x.0 ∷ (next x.1).values; tails = x.1 ∷ (next x.1).tails; end = (next x.1).end }
 then_values (Err e) next = record { values = []; tails = []; end = Err e }
@@ -61,13 +60,12 @@ unfoldable pub values_in : {C : Type 0} → (ℕ → C → Form Content) → ℕ
 values_in form place [] bytes = record { values = []; tails = []; end = Ok bytes }
 values_in form place (c ∷ cs) bytes = then_values ((form place c).reads bytes) (values_in form (place + 1) cs)
 
--- what is left of a row: how many values, those that are good, and the bytes after the last value, or the kind of the fault
--- that stands after those that are good
+-- The rest of a row: the number of values, those without a fault, and the bytes after the last value, or the fault that follows those.
 pub record RowLeft : Type 0 where
   pub left : ℕ
   pub values : List Content
   pub end : Result (List ℕ) FaultKind
-  -- the bytes after the values that were read, and after each of those that are good
+  -- the bytes after the values that were read, and after each of those without a fault
   pub rest : List ℕ
   pub tails : List (List ℕ)
 
@@ -89,13 +87,13 @@ text_row_left left bytes = record {
   tails = (values_in (λ place (column : Unit {0}). text_value) 0 (replicate left tt) bytes).tails;
 }
 
--- the row stands after the byte and the bitmap, which are there
+-- the row follows the byte and the bitmap
 abbrev pub IsBinaryRow : {C : Type 0} (type_of : C → ColumnType) (unsigned : C → Bool) (offset : ℕ) → List C → List ℕ → RowLeft → Type 0
 IsBinaryRow type_of unsigned offset columns bytes row =
     (nulls : Bitmap) × (after : List ℕ) × ((row_front type_of unsigned offset columns).reads bytes ≡ Ok (nulls, after))
     × (row ≡ row_left (ref_cell type_of unsigned nulls.bytes offset) 0 columns after)
 
--- what reading all that is left gives
+-- the result of reading the whole rest
 abbrev pub read_to : List Content → Result (List ℕ) FaultKind → Reading (List (Option Content))
 read_to values (Ok rest) = Ok (map Some values, rest)
 read_to values (Err e) = Err e
@@ -103,20 +101,20 @@ read_to values (Err e) = Err e
 abbrev pub read_of : RowLeft → Reading (List (Option Content))
 read_of row = read_to row.values row.end
 
--- the bitmap has a bit for each column that is left, and they are as many as a machine counts
+-- the bitmap has a bit for each remaining column, and their number fits in a usize
 pub record HasBits (nulls : List ℕ) (offset : ℕ) (none : Bool) (place left : ℕ) : Type 0 where
   pub bits : (i : ℕ) → i < left → place + i + offset < 8 * length nulls
   pub clear : IsTrue none → All (λ b. b ≡ 0) nulls
   pub counted : place + left < 2 ^ 64
 
--- ---- what reading does
+-- ---- reading
 
--- the value of a form was put into a place; or the fault of reading it, and the place is as it was
+-- the value of a form was put into a place; or reading it has a fault, and the place is unchanged
 abbrev pub PutsValue : Form Content → Result (Unit {0}) FaultOf → (bytes rest : List ℕ) → (before after : ValueRef) → Type 0
 PutsValue form (Ok done) bytes rest before after = form.reads bytes ≡ Ok (ref_content after, rest)
 PutsValue form (Err e) bytes rest before after = Faults false e (form.reads bytes) × (after ≡ before)
 
--- no value is good before this fault
+-- there is no value before this fault
 abbrev pub RefusesNext : FaultOf → RowLeft → Type 0
 RefusesNext e row = (row.values ≡ []) × Faults false e (read_of row)
 
@@ -124,21 +122,21 @@ RefusesNext e row = (row.values ≡ []) × Faults false e (read_of row)
 abbrev pub IsDone : RowLeft → Type 0
 IsDone row = (row.left ≡ 0) × (row.values ≡ [])
 
--- this is the first of the values that are good
+-- this is the first of the values without a fault
 abbrev pub Gives : RowLeft → Content → RowLeft → Type 0
 Gives old x new = (old.left ≡ suc new.left) × (old.values ≡ x ∷ new.values) × (new.end ≡ old.end) × (old.tails ≡ new.rest ∷ new.tails)
 
--- the first of the values that are good, or none is left, or the fault and all is left
+-- the first of the values without a fault; or none is left; or the fault, and all are left
 abbrev pub GivesOne : RowLeft → Result (Option ValueRef) FaultOf → RowLeft → Type 0
 GivesOne old (Ok (Some v)) new = Gives old (ref_content v) new
 GivesOne old (Ok None) new = IsDone old × (new ≡ old)
 GivesOne old (Err e) new = RefusesNext e old × (new ≡ old)
 
--- what the values hold
+-- what the values contain
 abbrev pub refs_held : List ValueRef → List Content
 refs_held values = map ref_content values
 
--- the values that were read stand in the first places, and the other places are as they were
+-- the values that were read are in the first places, and the other places are unchanged
 pub record Fills (old new : RowLeft) (before after : List ValueRef) : Type 0 where
   pub fewer : new.left ≤ old.left
   pub values : old.values ≡ refs_held (take (old.left - new.left) after) ++ new.values

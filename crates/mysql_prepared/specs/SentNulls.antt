@@ -1,4 +1,4 @@
--- The bitmap of NULLs of parameters, and of attributes after them.
+-- The NULL bitmap of parameters, and of attributes after them.
 use Rattle.std.specs.Prelude.{ℕ, List, ◌++◌, map}
 use Rattle.mysql_values.specs.Value.{Content}
 use Rattle.mysql_prepared.specs.ExecuteParam.{Param, contents}

@@ -1,4 +1,4 @@
--- A parameter or an attribute as it is sent: its type, its name and its value.
+-- A parameter or an attribute as it is sent: type, name and value.
 use Rattle.std.specs.Prelude.{ℕ, Bool, true, false, not, is_some, if◌then◌else◌, List, [], ◌++◌, map, Option, Some, None, position, unwrap_or}
 use Rattle.mysql_wire.specs.LenEnc.{lenenc_string_bytes}
 use Rattle.mysql_values.specs.ParamType.{param_type, type_of}
@@ -10,11 +10,11 @@ use Rattle.mysql_prepared.specs.ExecuteRead.{TypedParam}
 use Rattle.mysql_prepared.specs.SentTypes.{NamedType}
 use Rattle.mysql_prepared.specs.declared.execute_param.QueryAttribute.{QueryAttribute}
 
--- the type that a value is sent as where none is chosen: that of the value, with an empty name
+-- the type of a value for which none was chosen: the value's own, with an empty name
 abbrev pub type_of_param : Param → NamedType
 type_of_param p = record { param_type = type_of (value_of p); name = [] }
 
--- values of a type of the caller's, as they are sent
+-- values of the caller's type, as they are sent
 abbrev pub sent_param : {V : Type 0} → (V → Param) → (V → NamedType) → V → TypedParam
 sent_param param named_type v = record { named_type = named_type v; param = param v }
 
@@ -29,18 +29,18 @@ attribute_type a = record { param_type = a.param_type; name = a.name.now }
 abbrev pub sent_attributes : List QueryAttribute → List TypedParam
 sent_attributes attributes = sent_params attribute_param attribute_type attributes
 
--- none where there can be none
+-- none if there can't be any
 abbrev pub list_of : {A : Type 0} → Option (List A) → List A
 list_of None = []
 list_of (Some attributes) = attributes
 
--- ---- the bytes
+-- ---- bytes
 
--- the type, and the name where there are names
+-- the type, and the name if there are names
 abbrev pub type_bytes : (has_names : Bool) → TypedParam → List ℕ
 type_bytes has_names p = param_type.bytes p.named_type.param_type ++ (if has_names then lenenc_string_bytes p.named_type.name else [])
 
--- the type spells the value, if the request sends one; the bytes of one as it was sent are those of its type
+-- the type can encode the value, if the request sends one; raw bytes are those of their type
 abbrev pub is_spelled_under : ParamType → Param → Bool
 is_spelled_under t (Sent value) = is_some (param_spelled t value)
 is_spelled_under t SentAhead = true
@@ -49,16 +49,16 @@ is_spelled_under t (AsSent has_null_bit bytes) = true
 abbrev pub is_spelled : TypedParam → Bool
 is_spelled p = is_spelled_under p.named_type.param_type p.param
 
--- the place of the first one whose type does not spell its value
+-- the place of the first one whose type can't encode its value
 abbrev pub first_unspelled : List TypedParam → Option ℕ
 first_unspelled params = position (λ p. not (is_spelled p)) params
 
--- where byte strings are long data, they are left out
+-- byte strings that are sent as long data are left out
 abbrev pub is_left_out : (as_long_data : Bool) → ParamContent → Bool
 is_left_out true (Plain (Bytes bytes)) = true
 is_left_out _ value = false
 
--- the bytes of a value under its type; nothing is sent of one that was sent ahead, and its bytes of one as it was sent
+-- the bytes of a value under its type; none for long data, and the raw ones of a raw value
 abbrev pub bytes_under : (as_long_data : Bool) → ParamType → Param → List ℕ
 bytes_under l t (Sent value) = if is_left_out l value then [] else unwrap_or (param_spelled t value) []
 bytes_under l t SentAhead = []

@@ -1,4 +1,4 @@
--- The types of parameters and attributes, with their names.
+-- The types of parameters and attributes, with names.
 use Rattle.std.specs.Prelude.{◌≡◌, ℕ, Bool, List, [], ◌∷◌, Option, Some, None, Ok, Err}
 use Rattle.mysql_wire.specs.Form.{Form, ◌>>=◌, give, either, map}
 use Rattle.mysql_wire.specs.LenEnc.{lenenc_string}
@@ -13,26 +13,26 @@ pub record NamedType : Type 0 where
   pub param_type : ParamType
   pub name : List ℕ
 
--- a type whose name is empty
+-- a type with an empty name
 abbrev pub unnamed : ParamType → NamedType
 unnamed t = record { param_type = t; name = [] }
 
--- a type, and where names are sent, the name after its length
+-- a type, and the name after its length if names are sent
 abbrev pub sent_type : (has_names : Bool) → Form NamedType
 sent_type has_names = do
   param_type ← param_type.form tt
   name ← either has_names lenenc_string (give [])
   give (record { param_type = param_type; name = name })
 
--- a given number of them
+-- a number of types
 abbrev pub types : (has_names : Bool) → ℕ → Form (List NamedType)
 types has_names count = counted count (sent_type has_names)
 
--- this many, of which it is asked alone whether they are there
+-- this many types, which are only checked to be complete
 abbrev pub passed_types : (has_names : Bool) → ℕ → Form (Unit {0})
 passed_types has_names count = map (λ ts. tt) (types has_names count)
 
--- parameters under these types
+-- parameters with these types
 abbrev pub under_types : List BoundParam → List NamedType → List BoundParam
 under_types [] ts = []
 under_types (p ∷ ps) [] = []
@@ -45,15 +45,15 @@ abbrev pub types_read : Reading (List NamedType) → List NamedType
 types_read (Ok x) = x.0
 types_read (Err e) = []
 
--- a given number of types, off the front of the bytes
+-- a number of types, from the front of the bytes
 abbrev pub types_in : (has_names : Bool) → ℕ → List ℕ → List NamedType
 types_in has_names count bytes = types_read ((types has_names count).reads bytes)
 
--- a given number of types are there
+-- a number of types is complete
 abbrev pub HasTypes : (has_names : Bool) → ℕ → List ℕ → Type 0
 HasTypes has_names count bytes = (ts : List NamedType) × (rest : List ℕ) × ((types has_names count).reads bytes ≡ Ok (ts, rest))
 
--- the first one and the others; or there is none
+-- the first one and the others, or none
 abbrev pub TakesType : List NamedType → Option NamedType → List NamedType → Type 0
 TakesType old None new = (old ≡ []) × (new ≡ [])
 TakesType old (Some t) new = old ≡ t ∷ new

@@ -1,9 +1,9 @@
--- The answer to a prepared statement.
+-- The answer to COM_STMT_PREPARE.
 use Rattle.std.specs.Prelude.{ℕ, ◌<◌, ◌^◌, refl}
 use Rattle.mysql_wire.specs.Codecs.{Codec, Fields, ◌>>=◌, give, field, block, packet, const_u8, skip, u16, u32, raw_int}
 use Rattle.mysql_prepared.specs.declared.stmt.StmtPacket.{StmtPacket}
 
--- 0, the statement's number, the counts of columns and parameters, a byte with any value, the count of warnings
+-- 0, the statement's number, the numbers of columns and parameters, a byte with any value, and the number of warnings
 abbrev pub stmt_fields : Fields (Unit {0}) StmtPacket StmtPacket
 stmt_fields = do
   status ← field (λ p. p.status) (const_u8 0)
@@ -25,7 +25,7 @@ stmt_fields = do
 unfoldable pub stmt : Codec (Unit {0}) StmtPacket
 stmt = packet (block 12 stmt_fields (λ p. refl)) (λ p. refl)
 
--- the packet of these numbers
+-- the packet with these numbers
 abbrev pub stmt_packet_of : (statement_id num_columns num_params warning_count : ℕ) → StmtPacket
 stmt_packet_of statement_id num_columns num_params warning_count = record {
   status = record { 0 = record {} };
@@ -36,7 +36,7 @@ stmt_packet_of statement_id num_columns num_params warning_count = record {
   warning_count = raw_int warning_count;
 }
 
--- ---- the packet's numbers
+-- ---- numbers
 
 abbrev pub statement_id : StmtPacket → ℕ
 statement_id p = p.statement_id.0
@@ -50,7 +50,7 @@ num_params p = p.num_params.0
 abbrev pub warning_count : StmtPacket → ℕ
 warning_count p = p.warning_count.0
 
--- what makes the packet be read again: numbers of their widths
+-- when the packet is read back: numbers within their widths
 pub record StmtPacketFits (p : StmtPacket) : Type 0 where
   pub statement_id : statement_id p < 2 ^ 32
   pub num_columns : num_columns p < 2 ^ 16

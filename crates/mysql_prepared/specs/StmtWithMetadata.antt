@@ -1,4 +1,4 @@
--- The answer to a prepared statement, under the flags of the connection.
+-- The answer to COM_STMT_PREPARE, under the connection's flags.
 use Rattle.std.specs.Prelude.{ℕ, Bool, Option, option_map, refl}
 use Rattle.mysql_wire.specs.Codecs.{Codec, Fields, ◌>>=◌, give, field, packet, without_context, when, u8}
 use Rattle.mysql_wire.specs.FlagMasks.{CLIENT_OPTIONAL_RESULTSET_METADATA}
@@ -13,7 +13,7 @@ packet_of p = p.packet
 abbrev pub metadata_of : StmtPacketWithMetadata → Option ℕ
 metadata_of p = option_map (λ byte. byte.0) p.metadata
 
--- CLIENT_OPTIONAL_RESULTSET_METADATA is agreed to
+-- CLIENT_OPTIONAL_RESULTSET_METADATA is agreed on
 abbrev pub sends_metadata : CapabilityFlags → Bool
 sends_metadata capabilities = has capabilities.0 CLIENT_OPTIONAL_RESULTSET_METADATA
 

@@ -68,7 +68,7 @@ fn takes_integer(column_type: ColumnType, is_unsigned: bool, n: i64) -> bool
 }
 
 /// Whether the value is one that a column of the type is read as.
-// (in line, so that a value which is made for it is not put into memory; so are the next two)
+// Inlined, like the next two, so that a value made for the call stays in registers.
 #[inline(always)]
 pub(crate) fn takes(column_type: ColumnType, is_unsigned: bool, value: &ValueRef<'_>) -> bool
     ensures { result ≡ spec.takes column_type is_unsigned (ref_content value.now) }
@@ -163,7 +163,7 @@ fn append_integer<O: Buffer>(column_type: ColumnType, n: i64, out: &mut O)
     ensures capacity { O.capacity out.old ≤ O.capacity out.new }
     ensures kept { O.kept out.new ≡ O.kept out.old }
 {
-    // (of a known width it is one store)
+    // With a known width it is one store.
     if let ColumnType::MYSQL_TYPE_LONGLONG = column_type {
         <LeU64 as IntRepr>::append(n.cast_unsigned(), out);
         return;
@@ -189,8 +189,7 @@ pub(crate) fn append_cell<O: Buffer>(column_type: ColumnType, value: &ValueRef<'
 }
 
 /// Writes the values of a row.
-// (the buffer is moved to a local one, whose place in memory no write to its bytes can change: so those of a number are one
-// store)
+// A local buffer: writes to its bytes can't alias the buffer itself, so each number is one store.
 fn append_values<C: TypedColumn, V: AsExecuteParam, O: Buffer>(
     columns: &[C],
     values: &[V],
@@ -333,7 +332,7 @@ pub fn write_binary_row_to_slice<C: TypedColumn, V: AsExecuteParam>(
     }
     let front = 1 + NullBitmap::<ServerSide>::bitmap_len(values.len());
     let len = values_len(columns, values).saturating_add(front);
-    // (no slice has `usize::MAX` bytes)
+    // No slice has `usize::MAX` bytes.
     if len <= out.len() {
         put_row(columns, values, &mut out[..len]);
     }

@@ -395,7 +395,7 @@ impl<'a, A: AsExecuteParam> ComStmtExecuteOptionsBuilder<'a, A> {
         self.check(params)?;
         let (request, len) = self.measured(params);
         out.reserve(len)?;
-        // (in a local buffer, whose place in memory no write to its bytes can change, each number is one store)
+        // A local buffer: writes to its bytes can't alias the buffer itself, so each number is one store.
         let none = Vec::new(*out.allocator());
         let mut bytes = mem::replace(out, none);
         request.append(&mut bytes);

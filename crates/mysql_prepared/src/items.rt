@@ -80,8 +80,7 @@ impl<T, F: ItemForm<T>> MySerialize for Items<'_, T, F> {
         total
     }
 
-    // (the buffer is moved to a local one, whose place in memory no write to its bytes can change: so those of a number are one
-    // store)
+    // A local buffer: writes to its bytes can't alias the buffer itself, so each number is one store.
     #[tactic(auto, using(mysql_wire::proofs::After::after))]
     fn append<O: Buffer>(&self, out: &mut O) {
         let mut bytes = out.taken();

@@ -62,18 +62,16 @@ pub fn stmt_packet_with_metadata_round_trips()
         (stmt_with_metadata.form capabilities).reads (stmt_with_metadata.bytes p ++ rest) ≡ Ok (p, rest) }
 {}
 
-/// A statement packet that may have its metadata byte has no constant size.
-pub fn stmt_packet_with_metadata_has_no_constant_size() -> Option<usize>
-    ensures value { result ≡ None }
+/// Each packet states its size: a statement packet takes 12 bytes, the head of an execution 10, the end of a statement 5, and no other
+/// packet has a constant size.
+pub fn each_packet_has_its_size() -> bool
+    ensures value { IsTrue result }
 {
-    <crate::stmt_with_metadata::StmtPacketWithMetadata as MyDeserialize>::SIZE
-}
-
-/// A statement packet takes 12 bytes.
-pub fn stmt_packet_size() -> Option<usize>
-    ensures value { result ≡ Some 12 }
-{
-    <crate::stmt::StmtPacket as MyDeserialize>::SIZE
+    crate::StmtPacket::SIZE == Some(12)
+        && crate::ComStmtClose::SIZE == Some(5)
+        && crate::ComStmtExecuteHead::SIZE == Some(10)
+        && crate::StmtPacketWithMetadata::SIZE.is_none()
+        && crate::ComStmtSendLongData::SIZE.is_none()
 }
 
 /// Bytes are the encoding of at most one statement packet, with one rest after it.
@@ -99,20 +97,6 @@ pub fn close_round_trips()
     ensures spelled { (p : ComStmtClose) (rest : List ℕ) → close.fits tt p rest → (close.form tt).Spells p (close.bytes p ++ rest) rest }
     ensures read { (p : ComStmtClose) (rest : List ℕ) → close.fits tt p rest → (close.form tt).reads (close.bytes p ++ rest) ≡ Ok (p, rest) }
 {}
-
-/// The end of a statement takes 5 bytes.
-pub fn close_size() -> Option<usize>
-    ensures value { result ≡ Some 5 }
-{
-    <crate::close::ComStmtClose as MyDeserialize>::SIZE
-}
-
-/// The data of one parameter has no constant size.
-pub fn long_data_has_no_constant_size() -> Option<usize>
-    ensures value { result ≡ None }
-{
-    <crate::long_data::ComStmtSendLongData as MyDeserialize>::SIZE
-}
 
 /// A bitmap of NULLs is read back for the count of its values, whatever bytes follow.
 pub fn null_bitmap_round_trips()
@@ -179,13 +163,6 @@ pub fn execution_round_trips()
         → IsReadable caps bound attributes (built h ps attributes s l)
         → (execution caps (head.cursor_flags h) bound).reads (bytes_after_head (built h ps attributes s l) ++ rest) ≡ Ok ((params_as_read (built h ps attributes s l), attributes_as_read attributes), rest) }
 {}
-
-/// The head of an execution takes 10 bytes.
-pub fn execute_head_size() -> Option<usize>
-    ensures value { result ≡ Some 10 }
-{
-    <crate::execute_head::ComStmtExecuteHead as MyDeserialize>::SIZE
-}
 
 /// The bitmap of an execution follows its first ten bytes.
 #[tactic(auto, using(crate::proofs::HeadLength::head_length))]

@@ -21,7 +21,7 @@ use Rattle.mysql_program.specs.Answer.{Answer, done, refused_by, usage}
 use Rattle.mysql_program.specs.BulkCall.{BulkCall}
 use Rattle.mysql_program.specs.RowText.{rows_of, value_rows}
 
--- the new builder that a call asks for, before types are declared
+-- the new builder for a call, before types are declared
 abbrev pub builder_of : BulkCall → BuilderState
 builder_of call = record {
   stmt_id = call.stmt_id;
@@ -35,7 +35,7 @@ builder_of call = record {
   waiting = [];
 }
 
--- a line for the bytes of a request
+-- a line with a request's bytes
 abbrev pub bytes_line : List ℕ → List ℕ
 bytes_line bytes = lines_of (said (codes "request") (Digits bytes) ∷ [])
 
@@ -48,7 +48,7 @@ request_line request = bytes_line (request_bytes request)
 abbrev pub request_lines : List BulkRequest → List ℕ
 request_lines requests = flat_map request_line requests
 
--- how many requests there are, how many rows they hold, and whether no cut of the rows that fits has fewer
+-- the number of requests, the number of their rows, and whether no fitting cut of the rows has fewer
 abbrev pub last_lines : ℕ → ℕ → Bool → List ℕ
 last_lines requests rows fewest =
     lines_of (said (codes "requests") (Number requests) ∷ said (codes "rows") (Number rows) ∷ said (codes "fewest") (Flag fewest) ∷ [])
@@ -66,7 +66,7 @@ abbrev pub run_answer : List BulkRequest → ℕ → Option BulkExecuteRequestBu
 run_answer requests rows None = done (request_lines requests ++ last_lines (length requests) rows true)
 run_answer requests rows (Some e) = refused_by (request_lines requests) (bulk_refusal_name e)
 
--- the rows are cut into requests of a new builder, as many and as full as may be; what is refused is what has no such cut
+-- the rows are cut into the fewest requests of a new builder, each as full as possible; rows without such a cut are refused
 pub record AnswersRows (call : BulkCall) (rows : List (List Content)) (answer : Answer) : Type 0 where
   pub requests : List BulkRequest
   pub ends : List ℕ
@@ -76,7 +76,7 @@ pub record AnswersRows (call : BulkCall) (rows : List (List Content)) (answer : 
   pub of_rows : OfRows refusal
   pub shown : answer ≡ run_answer requests (length rows) refusal
 
--- without declared types a row holds NULL, bytes and integers alone; another one is a bad call
+-- without declared types, rows contain only NULL, bytes and integers; anything else is a bad call
 abbrev pub AnswersValues : BulkCall → Option (List (List Content)) → Answer → Type 0
 AnswersValues call None answer = answer ≡ usage
 AnswersValues call (Some rows) answer = AnswersRows call rows answer
@@ -93,7 +93,7 @@ abbrev pub cells_answer : List (List ℕ) → ℕ → Option BulkRowError → An
 cells_answer requests rows None = done (bytes_lines requests ++ last_lines (length requests) rows true)
 cells_answer requests rows (Some e) = refused_by (bytes_lines requests) (row_refusal_name e)
 
--- the same of rows of values, DEFAULT and IGNORE: their sizes are those under the declared types
+-- the same for rows of values, DEFAULT and IGNORE, whose sizes are those under the declared types
 pub record AnswersCells (call : BulkCall) (types : List ParamType) (rows : List (List Cell)) (answer : Answer) : Type 0 where
   pub requests : List (List ℕ)
   pub refusal : Option BulkRowError
@@ -106,7 +106,7 @@ abbrev pub AnswersCall : Option (List ParamType) → BulkCall → List (List Cel
 AnswersCall None call rows answer = AnswersValues call (value_rows rows) answer
 AnswersCall (Some types) call rows answer = AnswersCells call types rows answer
 
--- a text that spells no rows is a bad call
+-- a text that isn't one of rows is a bad call
 abbrev pub AnswersText : BulkCall → Option (List (List Cell)) → Answer → Type 0
 AnswersText call None answer = answer ≡ usage
 AnswersText call (Some rows) answer = AnswersCall call.columns call rows answer

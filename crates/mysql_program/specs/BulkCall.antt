@@ -1,4 +1,4 @@
--- What `bulk` is called with.
+-- The arguments of `bulk`.
 use Rattle.std.specs.Prelude.{ℕ, ◌^◌, nat_le, List, take, drop, Bool, true, false, Option, Some, None, option_map, codes, if◌then◌else◌}
 use Rattle.mysql_cuts.specs.declared.rule.BulkRule.{BulkRule}
 use Rattle.mysql_values.specs.declared.param_type.ParamType.{ParamType}
@@ -9,7 +9,7 @@ use Rattle.mysql_program.specs.TypeWords.{types_of}
 pub record BulkCall : Type 0 where
   -- the statement's number
   pub stmt_id : ℕ
-  -- the most bytes that a packet may have
+  -- the packet limit in bytes
   pub max_allowed_packet : ℕ
   pub rule : BulkRule
   -- the types of the columns, if they are declared
@@ -23,7 +23,7 @@ at_least bound (Some n) = if nat_le bound n then Some n else None
 abbrev pub most_rows : List ℕ → Option ℕ
 most_rows word = if is_named (take 5 word) (codes "rows=") then at_least 1 (number_below (2 ^ 64) (drop 5 word)) else None
 
--- types in the first request alone, and any number of rows
+-- types only in the first request, and any number of rows
 abbrev pub plain_rule : BulkRule
 plain_rule = record { types_always = false; max_rows = None }
 
@@ -52,11 +52,11 @@ with_rule (Some rule) (Some stmt_id) None columns = None
 with_rule (Some rule) None most columns = None
 with_rule None stmt_id most columns = None
 
--- STMT MAX, under a rule and with these types. STMT has 32 bits, and MAX, which is at least 4, has 64
+-- STMT MAX, under a rule and with these types. STMT has 32 bits; MAX is at least 4, and has 64 bits.
 abbrev pub bulk_call : List ℕ → List ℕ → Option BulkRule → Option (List ParamType) → Option BulkCall
 bulk_call stmt most rule columns = with_rule rule (number_below (2 ^ 32) stmt) (at_least 4 (number_below (2 ^ 64) most)) columns
 
--- STMT MAX, and the types after one rule or, where there are none, another rule
+-- STMT MAX, and the types after one rule or, without types, another rule
 abbrev pub with_types : List ℕ → List ℕ → (rule other : Option BulkRule) → Option (List ParamType) → Option BulkCall
 with_types stmt most rule other (Some types) = bulk_call stmt most rule (Some types)
 with_types stmt most rule other None = bulk_call stmt most other None
@@ -65,7 +65,7 @@ with_types stmt most rule other None = bulk_call stmt most other None
 abbrev pub call_of_one : List ℕ → List ℕ → List ℕ → Option BulkCall
 call_of_one stmt most word = with_types stmt most (Some plain_rule) (rule_of_one word) (columns_in word)
 
--- the same two of the three, in this order
+-- two of the three, in this order
 abbrev pub call_of_two : List ℕ → List ℕ → List ℕ → List ℕ → Option BulkCall
 call_of_two stmt most first second = with_types stmt most (rule_of_one first) (rule_of_two first second) (columns_in second)
 

@@ -13,11 +13,11 @@ use Rattle.mysql_show.specs.FieldText.{lines_of, prefixed}
 abbrev pub variable_text : SystemVariable → List ℕ
 variable_text v = codes " " ++ (prefixed (variable_name v) ++ (codes "=" ++ prefixed (variable_value v)))
 
--- a kind, and its bytes
+-- the kind and the bytes
 abbrev pub kind_and_bytes : List ℕ → List ℕ → List ℕ
 kind_and_bytes kind bytes = kind ++ (codes " " ++ prefixed bytes)
 
--- the kind, and what has changed
+-- the kind and the change
 abbrev pub change_value : SessionStateChange → List ℕ
 change_value (change.IsTracked true) = codes "IsTracked true"
 change_value (change.IsTracked false) = codes "IsTracked false"

@@ -1,4 +1,4 @@
--- The layouts that the session's changes are read in.
+-- The layouts of session changes.
 use Rattle.std.specs.Prelude.{ℕ, List, Option, Some, None, codes, nat_eq, if◌then◌else◌}
 use Rattle.std.specs.Cmp.Lexicographic.{pointwise}
 use Rattle.mysql_wire.specs.Reading.{Reading}
@@ -9,7 +9,7 @@ use Rattle.mysql_replies.specs.declared.session_state_info.SessionStateInfo.{Ses
 use Rattle.mysql_program.specs.declared.commands.change_layout.ChangeLayout.{ChangeLayout}
 use Rattle.mysql_program.specs.declared.commands.change_layout.ChangeLayout.TheVariants as layout
 
--- the layout of that name
+-- the layout with that name
 abbrev pub layout_of : List ℕ → Option ChangeLayout
 layout_of name = if pointwise nat_eq name (codes "as-sent") then Some layout.AsSent else None
 

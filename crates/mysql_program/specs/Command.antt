@@ -1,4 +1,4 @@
--- What the program is asked for.
+-- The program's commands.
 use Rattle.std.specs.Prelude.{ℕ, List, [], ◌∷◌, Bool, true, false, Option, Some, None, option_map, codes, if◌then◌else◌}
 use Rattle.mysql_wire.specs.Flags.{CapabilityFlags}
 use Rattle.mysql_program.specs.declared.command.Command.{Command}
@@ -94,7 +94,7 @@ call_to_five words = or_else (longer_call words) (shorter_call words)
 abbrev pub command_of : List (List ℕ) → Option Command
 command_of words = or_else (longest_call words) (call_to_five words)
 
--- the input is read for `bulk` alone
+-- only `bulk` reads the input
 abbrev pub reads_input : Option Command → Bool
 reads_input (Some (command.Bulk call)) = true
 reads_input _ = false

@@ -1,4 +1,4 @@
--- Numbers that are given in decimal.
+-- Decimal numbers.
 use Rattle.std.specs.Prelude.{ℕ, ℤ, pos, neg_ℤ, ◌+◌, ◌^◌, ◌&&◌, nat_le, nat_lt, List, length, drop, Bool, Option, Some, None, option_map, if◌then◌else◌}
 use Rattle.std.specs.Char.{is_ascii_digit}
 use Rattle.std.specs.List.{list_all}
@@ -20,7 +20,7 @@ below bound (Some n) = if nat_lt n bound then Some n else None
 abbrev pub number_below : ℕ → List ℕ → Option ℕ
 number_below bound word = below bound (decimal_of word)
 
--- a number of 64 bits with a sign: digits, with a minus before them or none
+-- a number of 64 bits with a sign: digits after an optional minus
 unfoldable pub i64_of : List ℕ → Option ℤ
 i64_of word =
     if starts_with_minus word then option_map (λ n. neg_ℤ (pos n)) (number_below (2 ^ 63 + 1) (drop 1 word))

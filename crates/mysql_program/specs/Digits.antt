@@ -1,4 +1,4 @@
--- Bytes that are given as hexadecimal digits.
+-- Bytes as hexadecimal digits.
 use Rattle.std.specs.Prelude.{ℕ, ◌%◌, ◌==◌, ◌&&◌, Bool, List, [], length, Option, unwrap_or}
 use Rattle.std.specs.Char.{is_ascii_hexdigit}
 use Rattle.std.specs.List.{list_all}
@@ -9,7 +9,7 @@ use Rattle.hex.specs.Hex.{decode_of}
 unfoldable pub are_pairs : List ℕ → Bool
 are_pairs digits = length digits % 2 == 0 && list_all is_ascii_hexdigit digits
 
--- the bytes, unless a character is no digit or one digit is left over
+-- the bytes; none if a character is no digit or the number of digits is odd
 abbrev pub bytes_of : List ℕ → Option (List ℕ)
 bytes_of digits = result_ok (decode_of digits)
 

@@ -14,11 +14,11 @@ use Rattle.mysql_program.specs.Answer.{Answer, of_reading}
 abbrev pub sid_line : Sid → List ℕ
 sid_line s = lines_of (said (codes "sid") (Word (sid_text s)) ∷ [])
 
--- the lines of the dump, a line for each sid, and the last ones
+-- the lines of the dump, a line for each sid, and the last lines
 abbrev pub gtid_lines : ComBinlogDumpGtid → ℕ → List ℕ
 gtid_lines p rest =
     (lines_of (dump_fields (server_id p) (flag_bits p) (filename p) (pos p)) ++ flat_map sid_line (sids p)) ++ end_lines rest (gtid_dump.bytes p)
 
--- by the strict reader or by the other
+-- by the strict reader, or the other one
 abbrev pub gtid_answer : Bool → List ℕ → Answer
 gtid_answer strict bytes = of_reading gtid_lines ((gtid_dump.form strict).reads bytes)

@@ -17,14 +17,14 @@ use Rattle.mysql_program.specs.Answer.{Answer, done, refused_by}
 use Rattle.mysql_program.specs.Gtid.{sid_line}
 use Rattle.mysql_program.specs.SidLines.{sid_refusal_name}
 
--- by their bytes; no tag comes before each
+-- sorted by their bytes; no tag precedes each tag
 abbrev pub order_of_tags : (before after : Option (List ℕ)) → Ordering
 order_of_tags None None = Equal
 order_of_tags None (Some after) = Less
 order_of_tags (Some before) None = Greater
 order_of_tags (Some before) (Some after) = slice_cmp nat_cmp before after
 
--- by uuids, and then by tags
+-- sorted by uuid, and then by tag
 abbrev pub comes_before : (before after : Sid) → Bool
 comes_before before after = is_lt (ordering_then (slice_cmp nat_cmp (uuid before) (uuid after)) (order_of_tags (tag before) (tag after)))
 
@@ -32,21 +32,21 @@ abbrev pub are_after : Sid → List Sid → Bool
 are_after before [] = true
 are_after before (s ∷ sids) = comes_before before s && are_after s sids
 
--- each comes after the one before it
+-- each follows the one before it
 abbrev pub are_in_order : List Sid → Bool
 are_in_order [] = true
 are_in_order (s ∷ sids) = are_after s sids
 
--- the text is the one that servers write of these sids: it is written so of them, they are in order, and so are the intervals of each
+-- the text is the one that servers write for these sids: it is their text, they are sorted, and so are the intervals of each
 abbrev pub is_as_servers_write : List ℕ → List Sid → Bool
 is_as_servers_write text sids = pointwise nat_eq text (set_text sids) && (are_in_order sids && are_as_servers_write sids)
 
--- a line for each sid, and whether servers write the text so
+-- a line for each sid, and whether servers write this text
 abbrev pub gtid_set_lines : List ℕ → List Sid → List ℕ
 gtid_set_lines text sids =
     flat_map sid_line sids ++ lines_of (said (codes "as_servers_write") (Flag (is_as_servers_write text sids)) ∷ [])
 
--- the sids, or the refusal by its name
+-- the sids, or the error's name
 abbrev pub gtid_set_text_answer : List ℕ → Result (List Sid) InvalidSid → Answer
 gtid_set_text_answer text (Ok sids) = done (gtid_set_lines text sids)
 gtid_set_text_answer text (Err e) = refused_by [] (sid_refusal_name e)

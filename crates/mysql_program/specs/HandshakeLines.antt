@@ -10,11 +10,11 @@ use Rattle.mysql_show.specs.Logins.{greeting_fields, version_fields}
 use Rattle.mysql_program.specs.Lines.{end_lines}
 use Rattle.mysql_program.specs.Answer.{Answer, done, refused}
 
--- three numbers with dots between them
+-- three numbers separated by dots
 abbrev pub version_text : ℕ × ℕ × ℕ → List ℕ
 version_text v = decimal v.0 ++ (codes "." ++ (decimal v.1 ++ (codes "." ++ decimal v.2)))
 
--- the version is one that the text has, and none where the text has none
+-- the version in the text; none if the text has none
 abbrev pub IsVersionIn : (List ℕ → ℕ × ℕ × ℕ → Type 0) → List ℕ → Option (ℕ × ℕ × ℕ) → Type 0
 IsVersionIn Has text None = (v : ℕ × ℕ × ℕ) → Has text v → ⊥
 IsVersionIn Has text (Some v) = Has text v
@@ -22,12 +22,12 @@ IsVersionIn Has text (Some v) = Has text v
 abbrev pub version_line : List ℕ → Option (ℕ × ℕ × ℕ) → List ℕ
 version_line name version = lines_of (said name (Word (or_none version_text version)) ∷ [])
 
--- the lines of the fields, with the numbers that the server's text has
+-- the lines of the fields, with the version numbers of the server's text
 abbrev pub handshake_lines : HandshakePacket → Option (ℕ × ℕ × ℕ) → Option (ℕ × ℕ × ℕ) → List ℕ
 handshake_lines p version mariadb_version =
     ((lines_of (version_fields p) ++ version_line (codes "version") version) ++ version_line (codes "mariadb_version") mariadb_version) ++ lines_of (greeting_fields p)
 
--- the lines of a handshake, with the versions that its text has
+-- the lines of a handshake, with the versions of its text
 pub record ShowsHandshake (p : HandshakePacket) (rest : ℕ) (answer : Answer) : Type 0 where
   pub version : Option (ℕ × ℕ × ℕ)
   pub has_version : IsVersionIn HasVersion (server_version p) version

@@ -39,17 +39,17 @@ ok_reading ok_kind.Stream capabilities = packet_reading NetworkStreamTerminator 
 abbrev pub field_lines : OkPacket → List ℕ
 field_lines p = lines_of (ok_fields p) ++ lines_of (said (codes "session_state_info") (OptionalBytes (session_state p)) ∷ [])
 
--- a line for a change, and what comes after it; or that the change was refused
+-- a line for a change, and what follows it; or the error of the change
 abbrev pub with_change : List ℕ → Reading SessionStateChange → (List ℕ → Answer) → Answer
 with_change lines (Ok x) next = next (lines ++ change_line x.0)
 with_change lines (Err k) next = refused lines k
 
--- a line for each change, up to the first that is refused
+-- a line for each change, up to the first error
 abbrev pub with_changes : ChangeLayout → List ℕ → ℕ → List SessionStateInfo → Answer
 with_changes layout lines rest [] = done (lines ++ lines_of (said (codes "rest") (Number rest) ∷ []))
 with_changes layout lines rest (i ∷ infos) = with_change lines (decoded_in layout i) (λ more. with_changes layout more rest infos)
 
--- the list of changes is read whole before the first of their lines
+-- the list of changes is read completely before the first of their lines
 abbrev pub with_session_state : ChangeLayout → List ℕ → ℕ → Reading (List SessionStateInfo) → Answer
 with_session_state layout lines rest (Ok x) = with_changes layout lines rest x.0
 with_session_state layout lines rest (Err k) = refused lines k

@@ -1,4 +1,4 @@
--- The kinds of OK packets, by the names that the program has for them.
+-- The kinds of OK packets, by the program's names.
 use Rattle.std.specs.Prelude.{ℕ, List, Option, Some, None, codes, nat_eq, if◌then◌else◌}
 use Rattle.std.specs.Cmp.Lexicographic.{pointwise}
 use Rattle.mysql_program.specs.declared.commands.ok.OkKind.{OkKind}

@@ -1,6 +1,6 @@
 -- Bytes in parts.
 use Rattle.std.specs.Prelude.{ℕ, Bool, ◌==◌}
 
--- the test for a separator
+-- whether a byte is a separator
 abbrev pub is_byte : ℕ → ℕ → Bool
 is_byte separator byte = byte == separator

@@ -1,4 +1,4 @@
--- What the program answers to the words after its name.
+-- The program's answer to its arguments.
 use Rattle.std.specs.Prelude.{◌≡◌, ◌⊎◌, ℕ, List, true, false, Option, Some, None}
 use Rattle.std.specs.Io.KnownBytes.{Keeps}
 use Rattle.mysql_show.specs.Output.{IsWritten}
@@ -18,11 +18,11 @@ use Rattle.mysql_program.specs.Ok.{ok_answer}
 use Rattle.mysql_program.specs.Err.{err_answer}
 use Rattle.mysql_program.specs.Bulk.{IsBulkAnswer}
 
--- a read failed, which the status 3 says, and nothing was written
+-- a read failed, the status is 3, and nothing was written
 abbrev pub IsUnread : Option (List ℕ) → Option (List ℕ) → ℕ → Type 0
 IsUnread old new status = Keeps old new × (status ≡ 3)
 
--- the answer to a command on an input, which `bulk` alone looks at
+-- the answer to a command on an input, which only `bulk` reads
 abbrev pub AnswersCommand : Command → List ℕ → Answer → Type 0
 AnswersCommand (command.Stmt bytes) input answer = answer ≡ stmt_answer bytes
 AnswersCommand (command.Infile bytes) input answer = answer ≡ infile_answer bytes
@@ -36,7 +36,7 @@ AnswersCommand (command.Ok kind capabilities bytes layout) input answer = answer
 AnswersCommand (command.Err capabilities bytes) input answer = answer ≡ err_answer capabilities bytes
 AnswersCommand (command.Bulk call) input answer = IsBulkAnswer call input answer
 
--- a command was answered: its answer was written, on all that the reader had where the command reads
+-- a command's answer was written, for all of the reader's input if the command reads any
 pub record IsCommandAnswered (c : Command) (before after old new : Option (List ℕ)) (status : ℕ) : Type 0 where
   pub input : List ℕ
   pub read : reads_input (Some c) ≡ true → GaveAll before after input
@@ -44,7 +44,7 @@ pub record IsCommandAnswered (c : Command) (before after old new : Option (List 
   pub answers : AnswersCommand c input answer
   pub written : IsWritten answer old new status
 
--- a bad call was answered; or a command was answered, or an allocation failed, which is answered, or its input was not read
+-- a bad call's answer; or a command's answer, or that of a failed allocation, or the input was not read
 abbrev pub IsAnswered : Option Command → Option (List ℕ) → Option (List ℕ) → Option (List ℕ) → Option (List ℕ) → ℕ → Type 0
 IsAnswered None before after old new status = IsWritten usage old new status
 IsAnswered (Some c) before after old new status =

@@ -1,4 +1,4 @@
--- Rows that are given as text: one a line, its values separated by one space.
+-- Rows as text: one a line, values separated by one space.
 use Rattle.std.specs.Prelude.{ℕ, ◌^◌, ◌==◌, Bool, true, false, List, [], ◌∷◌, length, map, codes, Option, Some, None, option_map, if◌then◌else◌}
 use Rattle.std.specs.Global.{Vec}
 use Rattle.std.specs.List.{slice_split}
@@ -34,7 +34,7 @@ cell_of_word word =
     else if is_named word (codes "I") then Some Ignore
     else option_map Given (value_of word)
 
--- what was read of a word
+-- what is read from a word
 abbrev pub cell_read : RowCell → Cell
 cell_read (read.Given value) = Given (content_of value)
 cell_read read.Default = Default
@@ -45,12 +45,12 @@ with_first (Some y) (Some ys) = Some (y ∷ ys)
 with_first (Some y) None = None
 with_first None ys = None
 
--- what f gives of each, unless it gives nothing of one
+-- the results of f for each, unless one has none
 abbrev pub each : {A B : Type 0} → (A → Option B) → List A → Option (List B)
 each f [] = Some []
 each f (x ∷ xs) = with_first (f x) (each f xs)
 
--- the words of a line, which one space separates
+-- the words of a line, separated by one space
 unfoldable pub words_of : List ℕ → List (List ℕ)
 words_of line = if length line == 0 then [] else slice_split (is_byte 32) line
 
@@ -62,18 +62,18 @@ row_of_line line = each cell_of_word (words_of line)
 unfoldable pub lines_of : List ℕ → List (List ℕ)
 lines_of text = if length text == 0 then [] else slice_split (is_byte 10) (strip_last 10 text)
 
--- a row of each line
+-- a row for each line
 abbrev pub rows_of : List ℕ → Option (List (List Cell))
 rows_of text = each row_of_line (lines_of text)
 
--- what was read of rows
+-- what is read from rows
 abbrev pub row_read : Vec RowCell → List Cell
 row_read row = map cell_read row.items
 
 abbrev pub rows_read : List (Vec RowCell) → List (List Cell)
 rows_read rows = map row_read rows
 
--- ---- rows of values alone
+-- ---- rows without declared types
 
 -- a value that needs no declared type: NULL, bytes or an integer
 abbrev pub is_plain : Content → Bool
@@ -94,6 +94,6 @@ value_in Ignore = None
 abbrev pub values_in : List Cell → Option (List Content)
 values_in row = each value_in row
 
--- unless a float, a date, a time, DEFAULT or IGNORE stands in one
+-- unless it contains a float, a date, a time, DEFAULT or IGNORE
 abbrev pub value_rows : List (List Cell) → Option (List (List Content))
 value_rows rows = each values_in rows

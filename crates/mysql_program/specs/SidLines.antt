@@ -19,12 +19,12 @@ sid_refusal_name invalid.TooLarge = codes "TooLarge"
 sid_refusal_name (invalid.Gno e) = codes "Gno"
 sid_refusal_name invalid.Memory = codes "Memory"
 
--- the refusal by its name; an allocation that failed is none
+-- the error's name; a failed allocation is another case
 abbrev pub IsSidRefusal : InvalidSid → Answer → Type 0
 IsSidRefusal invalid.Memory answer = ⊥
 IsSidRefusal e answer = answer ≡ refused_by [] (sid_refusal_name e)
 
--- the sid in its own text, or the refusal by its name
+-- the sid in its canonical text, or the error's name
 abbrev pub sid_text_answer : Result Sid InvalidSid → Answer
 sid_text_answer (Ok s) = done (sid_line s)
 sid_text_answer (Err e) = refused_by [] (sid_refusal_name e)

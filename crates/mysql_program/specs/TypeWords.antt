@@ -1,4 +1,4 @@
--- Types of columns that are given as text: their codes, with commas between them.
+-- Column types as text: their codes, separated by commas.
 use Rattle.std.specs.Prelude.{ℕ, ◌^◌, true, false, List, [], Option, Some, None, option_map, unwrap_or, if◌then◌else◌}
 use Rattle.std.specs.List.{slice_split}
 use Rattle.std.specs.Io.BufRead.{ends_with_byte, strip_last}
@@ -14,17 +14,17 @@ abbrev pub type_at : Option ℕ → Option ColumnType
 type_at None = None
 type_at (Some code) = column_type_of code
 
--- the type of a code in decimal
+-- the type of a decimal code
 abbrev pub column_type_in : List ℕ → Option ColumnType
 column_type_in digits = type_at (number_below (2 ^ 8) digits)
 
--- a code, and u after it where the type is unsigned
+-- a code, and u after it if the type is unsigned
 abbrev pub type_of : List ℕ → Option ParamType
 type_of word =
     if ends_with_byte 117 word then option_map (λ t. typed t true) (column_type_in (strip_last 117 word))
     else option_map (λ t. typed t false) (column_type_in word)
 
--- types with commas between them, at least one
+-- types separated by commas, at least one
 unfoldable pub types_of : List ℕ → Option (List ParamType)
 types_of words = each type_of (slice_split (is_byte 44) words)
 

@@ -24,9 +24,9 @@ pub enum InputError {
 /// Reads the input to its end.
 pub fn read_input<R: Read>(alloc: Global, reader: &mut R) -> Result<Vec<u8>, InputError>
     ensures all { IfOk result (λ input. GaveAll (R.remaining reader.old) (R.remaining reader.new) input.items) }
-    // Each of the reads gave at least one byte.
+    // Each read returned at least one byte.
     ensures endless { IfErr result (λ why. why ≡ error.Endless → GaveAtLeast 1048576 (R.remaining reader.old) (R.remaining reader.new)) }
-    // Memory is taken for bytes that were read.
+    // Memory is requested only for bytes that were read.
     ensures memory { IfErr result (λ why. why ≡ error.Memory → GaveAtLeast 1 (R.remaining reader.old) (R.remaining reader.new)) }
 {
     let mut input = Vec::new(alloc);

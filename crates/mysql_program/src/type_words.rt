@@ -46,7 +46,7 @@ impl<'a> TypeWords<'a> {
     {
         match read_types(alloc, self.words)? {
             Some(types) => Ok(types),
-            // Each word was found to be a type.
+            // Unreachable: each word was found to be a type.
             None => Ok(Vec::new(alloc)),
         }
     }

@@ -14,7 +14,7 @@ use Rattle.mysql_repl.specs.declared.binlog_dump.InvalidComBinlogDumpHeader.{Inv
 
 -- ---- the layout
 
--- 12, the position, the flags and the replica's number, in eleven bytes
+-- 12, the position, the flags and the replica's server id, in eleven bytes
 abbrev pub binlog_dump_head : Fields (Unit {0}) ComBinlogDump (ConstU8 InvalidComBinlogDumpHeader 0x12 × RawInt LeU32 ℕ × Const BinlogDumpFlags LeU16 × RawInt LeU32 ℕ)
 binlog_dump_head = do
   header ← field (λ p. p.header) (const_u8 0x12)
@@ -23,7 +23,7 @@ binlog_dump_head = do
   server_id ← field (λ p. p.server_id) u32
   give (header, pos, flags, server_id)
 
--- eleven bytes, and the file's name, to the end
+-- eleven bytes, and the file name to the end
 abbrev pub binlog_dump_fields : Fields (Unit {0}) ComBinlogDump ComBinlogDump
 binlog_dump_fields = do
   head ← block 11 binlog_dump_head (λ p. refl)
@@ -37,7 +37,7 @@ pub size-binlog_dump : (binlog_dump.form tt).size ≡ None
 unfolding binlog_dump
 size-binlog_dump = refl
 
--- the request of a replica with this number, for the first file, from this position on, with these flags
+-- the request of a replica with this server id, for the first file, from this position on, with these flags
 abbrev pub dump_of : (server_id pos flag_bits : ℕ) (filename : List ℕ) → ComBinlogDump
 dump_of server_id pos flag_bits filename = record {
   header = record { 0 = record {} };
@@ -56,7 +56,7 @@ with_flags word p = record p { flags = record { 0 = word; 1 = record {} } }
 abbrev pub with_filename : List ℕ → ComBinlogDump → ComBinlogDump
 with_filename filename p = record p { filename = filename }
 
--- ---- the packet's values
+-- ---- values
 
 abbrev pub server_id : ComBinlogDump → ℕ
 server_id p = p.server_id.0
@@ -70,9 +70,9 @@ filename p = p.filename
 abbrev pub pos : ComBinlogDump → ℕ
 pos p = p.pos.0
 
--- ---- when a request is read again, in plain words
+-- ---- when a request is read back, in plain words
 
--- numbers that have their widths, as they always have; nothing follows the file's name
+-- numbers within their widths, as they always are; nothing follows the file name
 pub record BinlogDumpFits (p : ComBinlogDump) (rest : List ℕ) : Type 0 where
   pub pos : pos p < 2 ^ 32
   pub flags : (flags_of p).0 < 2 ^ 16

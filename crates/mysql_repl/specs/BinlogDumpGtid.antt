@@ -18,7 +18,7 @@ use Rattle.mysql_repl.specs.Sid.{AreSids}
 use Rattle.mysql_repl.specs.SidBlock.{content}
 use Rattle.mysql_repl.specs.SidBlockAgain.{sid_block}
 
--- ---- the packet's values
+-- ---- values
 
 abbrev pub word_of : ℕ → Const BinlogDumpFlags LeU16
 word_of bits = record { 0 = record { 0 = bits; 1 = record {} }; 1 = record {} }
@@ -74,13 +74,13 @@ with_sid s p = with_sids (p.sid_block ++ s ∷ []) p
 abbrev pub TellsSids : ComBinlogDumpGtid → Type 0
 TellsSids p = (has (flag_bits p) BINLOG_THROUGH_GTID ≡ true) ↔ (sids p ≢ [])
 
--- each flag but BINLOG_THROUGH_GTID, the third of sixteen, is as in this word
+-- each flag except BINLOG_THROUGH_GTID, the third of sixteen, is as in this word
 abbrev pub KeepsOthers : ℕ → ComBinlogDumpGtid → Type 0
 KeepsOthers bits p = (i : ℕ) → i < 16 → i ≢ 2 → bit_at (flag_bits p) i ≡ bit_at bits i
 
 -- ---- the layout
 
--- 1e, the flags and the replica's number
+-- 1e, the flags and the replica's server id
 abbrev pub gtid_dump_front : Fields Bool ComBinlogDumpGtid (ConstU8 InvalidComBinlogDumpGtidHeader 0x1e × Const BinlogDumpFlags LeU16 × RawInt LeU32 ℕ)
 gtid_dump_front = do
   header ← field (λ p. p.header) (const_u8 0x1e)
@@ -92,7 +92,7 @@ gtid_dump_front = do
 unfoldable pub gtid_dump_head : Fields Bool ComBinlogDumpGtid (ConstU8 InvalidComBinlogDumpGtidHeader 0x1e × Const BinlogDumpFlags LeU16 × RawInt LeU32 ℕ)
 gtid_dump_head = block 7 gtid_dump_front (λ p. refl)
 
--- seven bytes; the file's name; the position; the sids
+-- seven bytes; the file name; the position; the sids
 abbrev pub gtid_dump_fields : Fields Bool ComBinlogDumpGtid ComBinlogDumpGtid
 gtid_dump_fields = do
   head ← gtid_dump_head
@@ -101,7 +101,7 @@ gtid_dump_fields = do
   list ← field sids sid_block
   give (record { header = head.0; flags = head.1; server_id = head.2; filename = name; pos = position; sid_block = list })
 
--- a reader is passed whether it is strict
+-- the reader gets whether it is strict
 unfoldable pub gtid_dump : Codec Bool ComBinlogDumpGtid
 unfolding gtid_dump_head
 gtid_dump = packet gtid_dump_fields (λ p. refl)
@@ -110,9 +110,9 @@ pub size-gtid_dump : (strict : Bool) → (gtid_dump.form strict).size ≡ None
 unfolding gtid_dump
 size-gtid_dump strict = refl
 
--- ---- when a request is read again, in plain words
+-- ---- when a request is read back, in plain words
 
--- numbers that have their widths, as they always have; a name and a block of less than 2^32 bytes
+-- numbers within their widths, as they always are; a name and a block of less than 2^32 bytes
 pub record GtidDumpFits (p : ComBinlogDumpGtid) : Type 0 where
   pub flags : flag_bits p < 2 ^ 16
   pub server_id : server_id p < 2 ^ 32

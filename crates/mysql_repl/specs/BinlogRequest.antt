@@ -1,4 +1,4 @@
--- A request for a binary log, in either of the two commands.
+-- A request for a binary log, by either command.
 use Rattle.std.specs.Prelude.{ℕ, ◌%◌, ◌^◌, List, Bool, true, false, bit_and}
 use Rattle.mysql_wire.specs.declared.either.Either.{Either}
 use Rattle.mysql_wire.specs.declared.either.Either.TheVariants.{Left, Right}
@@ -29,11 +29,11 @@ pos r = r.pos
 abbrev pub sids : BinlogRequest → List Sid
 sids r = r.sids
 
--- by position: the low 32 bits of the position, and BINLOG_DUMP_NON_BLOCK alone of the flags
+-- by position: the low 32 bits of the position, and only BINLOG_DUMP_NON_BLOCK of the flags
 abbrev pub position_dump : BinlogRequest → ComBinlogDump
 position_dump r = by_position.dump_of r.server_id (r.pos % 2 ^ 32) (bit_and r.flags.0 BINLOG_DUMP_NON_BLOCK) (filename r)
 
--- by GTID set: all, with BINLOG_THROUGH_GTID exactly if there is a sid
+-- by GTID set: all fields, with BINLOG_THROUGH_GTID exactly if there is a sid
 abbrev pub gtid_dump : BinlogRequest → ComBinlogDumpGtid
 gtid_dump r = by_gtid.dump_of r.server_id r.pos (by_gtid.through_gtid (sids r) r.flags.0) (filename r) (sids r)
 

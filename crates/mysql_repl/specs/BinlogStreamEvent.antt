@@ -1,4 +1,4 @@
--- An event of a binary log, as it is sent.
+-- A binary log event, as it is sent.
 use Rattle.std.specs.Prelude.{◌≡◌, ℕ, ◌<◌, ◌^◌, List, [], Option, Some, None, Bool, true, false, refl}
 use Rattle.mysql_wire.specs.Codec.{Codec, Fields}
 use Rattle.mysql_wire.specs.Codecs.{◌>>=◌, give, field, packet, when, without_context, const_u8, string_eof}
@@ -12,11 +12,11 @@ semi_sync p = p.semi_sync
 abbrev pub event_bytes : BinlogStreamEvent → List ℕ
 event_bytes p = p.event
 
--- the packet of these
+-- the packet with these fields
 abbrev pub event_of : Option SemiSyncHeader → List ℕ → BinlogStreamEvent
 event_of header event = record { header = record { 0 = record {} }; semi_sync = header; event = event }
 
--- the header of semi-synchronous replication, where it is agreed on
+-- the header of semi-synchronous replication, if agreed on
 unfoldable pub agreed_header : Codec Bool (Option SemiSyncHeader)
 agreed_header = when (λ agreed. agreed) (without_context semi_sync_header)
 
@@ -35,14 +35,14 @@ pub size-stream_event : (agreed : Bool) → (stream_event.form agreed).size ≡ 
 unfolding stream_event
 size-stream_event agreed = refl
 
--- ---- when an event is read again, in plain words
+-- ---- when an event is read back, in plain words
 
--- the header is there exactly where it is agreed on
+-- the header is present exactly if agreed on
 abbrev pub HeaderFits : Bool → Option SemiSyncHeader → Type 0
 HeaderFits agreed None = agreed ≡ false
 HeaderFits agreed (Some header) = (agreed ≡ true) × (flags header < 2 ^ 8)
 
--- so it is, and nothing follows
+-- the header, and nothing follows
 pub record StreamEventFits (agreed : Bool) (p : BinlogStreamEvent) (rest : List ℕ) : Type 0 where
   pub semi_sync : HeaderFits agreed (semi_sync p)
   pub event : rest ≡ []

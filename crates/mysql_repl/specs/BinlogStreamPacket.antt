@@ -1,4 +1,4 @@
--- The packets that follow a dump, by their first byte.
+-- The packets after a dump request, by their first byte.
 use Rattle.std.specs.Prelude.{◌≡◌, ◌==◌, ℕ, List, [], ◌∷◌, ◌++◌, length, Bool, true, false, None, is_some, refl}
 use Rattle.std.proofs.Common.{subst, sym}
 use Rattle.std.proofs.lemmas.Bool.Decides.{Decides-eqb}
@@ -13,7 +13,7 @@ abbrev pub begins_with : ℕ → List ℕ → Bool
 begins_with byte [] = false
 begins_with byte (first ∷ others) = first == byte
 
--- fe is the end and ff an error, of which all is kept; else it is an event
+-- fe is the end and ff an error, both kept as bytes; anything else is an event
 abbrev pub packet_by : (agreed : Bool) → List ℕ → Form BinlogStreamPacket
 packet_by agreed payload =
     either (begins_with 0xfe payload) (map End all_left)
@@ -25,7 +25,7 @@ packet_bytes (Event event) = stream_event.bytes event
 packet_bytes (End payload) = payload
 packet_bytes (Error payload) = payload
 
--- what is kept whole is the rest of the bytes, and begins as it must
+-- what is kept as bytes is the rest, and begins as it must
 abbrev pub WholeFits : ℕ → List ℕ → List ℕ → Type 0
 WholeFits byte payload rest = (begins_with byte payload ≡ true) × (rest ≡ [])
 
@@ -34,13 +34,13 @@ packet_fits agreed (Event event) rest = stream_event.fits agreed event rest
 packet_fits agreed (End payload) rest = WholeFits 0xfe payload rest
 packet_fits agreed (Error payload) rest = WholeFits 0xff payload rest
 
--- the same in plain words
+-- the condition in plain words
 abbrev pub StreamPacketFits : (agreed : Bool) → BinlogStreamPacket → List ℕ → Type 0
 StreamPacketFits agreed (Event event) rest = StreamEventFits agreed event rest
 StreamPacketFits agreed (End payload) rest = WholeFits 0xfe payload rest
 StreamPacketFits agreed (Error payload) rest = WholeFits 0xff payload rest
 
--- the part of it that is left to show of a packet at hand, where nothing follows
+-- the part of it that remains to be shown for a given packet, if nothing follows
 abbrev pub StreamPacketPartsFit : (agreed : Bool) → BinlogStreamPacket → Type 0
 StreamPacketPartsFit agreed (Event event) = agreed ≡ is_some (semi_sync event)
 StreamPacketPartsFit agreed (End payload) = begins_with 0xfe payload ≡ true
@@ -56,7 +56,7 @@ end-again : (agreed : Bool) (payload rest : List ℕ) → WholeFits 0xfe payload
 end-again agreed [] rest h = absurd cc
 end-again agreed (first ∷ others) rest h = rw h.0 (first ∷ others, refl, (nothing-follows (first ∷ others) rest h.1, h.1))
 
--- one byte is no other
+-- a single byte is never another kind
 other-byte : (first : ℕ) → (first == 0xff) ≡ true → (first == 0xfe) ≡ false
 other-byte first h = subst (λ (n : ℕ). (n == 0xfe) ≡ false) (sym ((Decides-eqb first 0xff).0 h)) refl
 

@@ -1,4 +1,4 @@
--- What is left of the text of a GTID set.
+-- The rest of a GTID set's text.
 use Rattle.std.specs.Prelude.{List, ◌++◌, option_map}
 use Rattle.mysql_repl.specs.declared.gtid_set_entries.Left.{Left}
 use Rattle.mysql_repl.specs.GtidSetEntries.{Entry, word_entries, pieces_entries}

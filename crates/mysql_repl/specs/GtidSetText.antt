@@ -1,4 +1,4 @@
--- What the text of a GTID set is read as.
+-- How a GTID set's text is read.
 use Rattle.std.specs.Prelude.{ℕ, ◌-◌, List, [], ◌∷◌, ◌++◌, length, take, drop, map, Option, Some, None, is_some, Result, Ok, Err, Bool, true, false, ◌||◌, ◌==◌, nat_lt, if◌then◌else◌}
 use Rattle.std.specs.Char.{is_ascii_digit, is_ascii_whitespace, to_ascii_lowercase}
 use Rattle.std.specs.List.{slice_split, prefix_len, suffix_len}
@@ -26,7 +26,7 @@ trimmed_end text = take (length text - suffix_len is_ascii_whitespace text) text
 unfoldable pub trimmed : List ℕ → List ℕ
 trimmed text = trimmed_end (trimmed_start text)
 
--- what stands between the separators, trimmed
+-- the texts between the separators, trimmed
 unfoldable pub words : (separator : ℕ) → List ℕ → List (List ℕ)
 words separator text = map trimmed (slice_split (is separator) text)
 
@@ -54,7 +54,7 @@ server_interval text =
 
 -- ---- tags
 
--- an interval begins with a digit, and another word is a tag
+-- an interval begins with a digit; any other word is a tag
 abbrev pub is_interval : List ℕ → Bool
 is_interval [] = false
 is_interval (c ∷ cs) = is_ascii_digit c
@@ -68,7 +68,7 @@ tag_or (Some e) tag follows = Err (fault.Tag e)
 tag_or None tag false = Err fault.NoIntervals
 tag_or None tag true = Ok tag
 
--- a tag in either case, which an interval follows
+-- a tag in either case, followed by an interval
 unfoldable pub server_tag : List ℕ → (following : List (List ℕ)) → Result (List ℕ) InvalidSid
 server_tag [] following = Err fault.Empty
 server_tag (c ∷ cs) following =
@@ -76,7 +76,7 @@ server_tag (c ∷ cs) following =
 
 -- ---- the sids of a uuid
 
--- what words spell: intervals up to the first tag, and a sid for each tag
+-- the sids of these words: intervals up to the first tag, and a sid for each tag
 abbrev pub Found : Type 0
 Found = List GnoInterval × List Sid
 
@@ -85,7 +85,7 @@ with_interval (Err e) more = Err e
 with_interval (Ok i) (Err e) = Err e
 with_interval (Ok i) (Ok found) = Ok (i ∷ found.0, found.1)
 
--- the intervals that follow are those of the tag
+-- the intervals that follow belong to the tag
 abbrev pub with_tag : (id : List ℕ) → Result (List ℕ) InvalidSid → Result Found InvalidSid → Result Found InvalidSid
 with_tag id (Err e) more = Err e
 with_tag id (Ok tag) (Err e) = Err e
@@ -97,7 +97,7 @@ found_in id (word ∷ more) =
     if is_interval word then with_interval (server_interval word) (found_in id more)
     else with_tag id (server_tag word more) (found_in id more)
 
--- a sid without a tag is there where it has an interval
+-- a sid without a tag is present if it has an interval
 abbrev pub kept : Sid → List Sid
 kept s = if is_some (tag s) || nat_lt 0 (length (intervals s)) then s ∷ [] else []
 
@@ -111,7 +111,7 @@ abbrev pub read_uuid : Option (List ℕ) → List ℕ → Result (List Sid) Inva
 read_uuid None text = Err fault.Uuid
 read_uuid (Some id) text = sids_found id (found_in id (words colon text))
 
--- a uuid and its words, each after a colon; nothing spells no sid
+-- a uuid and its words, each after a colon; a blank piece has no sid
 unfoldable pub read_piece : List ℕ → Result (List Sid) InvalidSid
 read_piece [] = Ok []
 read_piece (c ∷ cs) =
@@ -127,11 +127,11 @@ abbrev pub read_pieces : List (List ℕ) → Result (List Sid) InvalidSid
 read_pieces [] = Ok []
 read_pieces (piece ∷ pieces) = joined (read_piece piece) (read_pieces pieces)
 
--- the sids, or the first refusal
+-- the sids, or the first error
 unfoldable pub read_sids : List ℕ → Result (List Sid) InvalidSid
 read_sids text = read_pieces (words comma text)
 
--- a dump with these sids in place of its own
+-- a dump with its sids replaced by these
 abbrev pub with_read_sids : Result (List Sid) InvalidSid → ComBinlogDumpGtid → Result ComBinlogDumpGtid InvalidSid
 with_read_sids (Err e) p = Err e
 with_read_sids (Ok sids) p = Ok (with_sids sids p)

@@ -1,4 +1,4 @@
--- What is left of the text of a GTID set, as a reader goes over it.
+-- The rest of a GTID set's text, as a reader advances.
 use Rattle.std.specs.Prelude.{◌≡◌, ℕ, List, [], ◌∷◌, ◌++◌, Option, Some, None, Result, Ok, Err}
 use Rattle.std.specs.Global.{Vec}
 use Rattle.mysql_repl.specs.declared.gtid_set_text.Building.{Building}
@@ -21,12 +21,12 @@ abbrev pub with_front : List Sid → Result (List Sid) InvalidSid → Result (Li
 with_front front (Ok sids) = Ok (front ++ sids)
 with_front front (Err e) = Err e
 
--- what is read in the end, where these sids were read, and this one is being read
+-- the final result, if these sids were read and this one is being read
 abbrev pub finished : List Sid → Sid → Result Found InvalidSid → Result (List Sid) InvalidSid
 finished front sid (Err e) = Err e
 finished front sid (Ok found) = Ok (front ++ (kept (record sid { intervals = intervals sid ++ found.0 }) ++ found.1))
 
--- a word is taken: what is read in the end stays
+-- a word is consumed: the final result is unchanged
 abbrev pub Takes : (id : List ℕ) → List Sid → Sid → Result Building InvalidSid → (word : List ℕ) → (more : List (List ℕ)) → Type 0
 Takes id front sid (Ok b) word more = finished b.sids.items b.sid (found_in id more) ≡ finished front sid (found_in id (word ∷ more))
 Takes id front sid (Err fault.Memory) word more = Unit {0}

@@ -1,4 +1,4 @@
--- Sids whose text is read again.
+-- Sids whose text is read back.
 use Rattle.std.specs.Prelude.{◌≡◌, ◌<◌, ◌^◌, List, [], ◌∷◌, length}
 use Rattle.std.specs.List.{All}
 use Rattle.mysql_repl.specs.declared.gno_interval.GnoInterval.{GnoInterval}
@@ -6,7 +6,7 @@ use Rattle.mysql_repl.specs.declared.sid.Sid.{Sid}
 use Rattle.mysql_repl.specs.GnoInterval.{start, end}
 use Rattle.mysql_repl.specs.TagString.{OptionalTag}
 
--- the first number is not 0, and is below the one after the last, which fits 64 bits
+-- the first number is not 0, and is below the end, which fits in 64 bits
 pub record ProperInterval (i : GnoInterval) : Type 0 where
   pub some : 0 < start i
   pub order : start i < end i
@@ -21,7 +21,7 @@ abbrev pub ProperIntervals : List GnoInterval → Type 0
 ProperIntervals [] = ⊥
 ProperIntervals (i ∷ is) = ProperInterval i × AllProper is
 
--- sixteen bytes, a tag that is one, as they always are, and at least one interval, each as above
+-- sixteen bytes, a valid tag, as they always are, and at least one interval, each as above
 pub record ProperSid (s : Sid) : Type 0 where
   pub uuid : length s.uuid ≡ 16
   pub bytes : All (λ b. b < 256) s.uuid

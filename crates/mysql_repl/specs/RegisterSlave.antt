@@ -12,7 +12,7 @@ use Rattle.mysql_repl.specs.declared.register_slave.InvalidComRegisterSlaveHeade
 
 -- ---- the layout
 
--- the port, the rank and the number of the source
+-- the port, the rank and the source's server id
 abbrev pub register_slave_numbers : Fields (Unit {0}) ComRegisterSlave (RawInt LeU16 ℕ × RawInt LeU32 ℕ × RawInt LeU32 ℕ)
 register_slave_numbers = do
   port ← field (λ p. p.port) u16
@@ -24,7 +24,7 @@ register_slave_numbers = do
 unfoldable pub register_slave_end : Fields (Unit {0}) ComRegisterSlave (RawInt LeU16 ℕ × RawInt LeU32 ℕ × RawInt LeU32 ℕ)
 register_slave_end = block 10 register_slave_numbers (λ p. refl)
 
--- 15 and the replica's number
+-- 15 and the replica's server id
 abbrev pub register_slave_front : Fields (Unit {0}) ComRegisterSlave (ConstU8 InvalidComRegisterSlaveHeader 0x15 × RawInt LeU32 ℕ)
 register_slave_front = do
   header ← field (λ p. p.header) (const_u8 0x15)
@@ -35,7 +35,7 @@ register_slave_front = do
 unfoldable pub register_slave_head : Fields (Unit {0}) ComRegisterSlave (ConstU8 InvalidComRegisterSlaveHeader 0x15 × RawInt LeU32 ℕ)
 register_slave_head = block 5 register_slave_front (λ p. refl)
 
--- five bytes; the host, the user and the password; ten bytes
+-- five bytes; host, user and password; ten bytes
 abbrev pub register_slave_fields : Fields (Unit {0}) ComRegisterSlave ComRegisterSlave
 register_slave_fields = do
   head ← register_slave_head
@@ -62,7 +62,7 @@ pub size-register_slave : (register_slave.form tt).size ≡ None
 unfolding register_slave
 size-register_slave = refl
 
--- the registration of a replica with this number; all else is empty or 0
+-- the registration of a replica with this server id; everything else is empty or 0
 abbrev pub registration : ℕ → ComRegisterSlave
 registration number = record {
   header = record { 0 = record {} };
@@ -93,7 +93,7 @@ with_replication_rank rank p = record p { replication_rank = raw_int rank }
 abbrev pub with_master_id : ℕ → ComRegisterSlave → ComRegisterSlave
 with_master_id master_id p = record p { master_id = raw_int master_id }
 
--- ---- the packet's values
+-- ---- values
 
 abbrev pub server_id : ComRegisterSlave → ℕ
 server_id p = p.server_id.0
@@ -116,9 +116,9 @@ replication_rank p = p.replication_rank.0
 abbrev pub master_id : ComRegisterSlave → ℕ
 master_id p = p.master_id.0
 
--- ---- when a registration is read again, in plain words
+-- ---- when a registration is read back, in plain words
 
--- numbers that have their widths, as they always have; strings of at most 255 bytes
+-- numbers within their widths, as they always are; strings of at most 255 bytes
 pub record RegisterSlaveFits (p : ComRegisterSlave) : Type 0 where
   pub server_id : server_id p < 2 ^ 32
   pub hostname : length (hostname p) < 2 ^ 8

@@ -16,7 +16,7 @@ semi_sync_ack_head = do
   position ← field (λ p. p.position) u64
   give (header, position)
 
--- nine bytes, and the file's name, to the end
+-- nine bytes, and the file name to the end
 abbrev pub semi_sync_ack_fields : Fields (Unit {0}) SemiSyncAckPacket SemiSyncAckPacket
 semi_sync_ack_fields = do
   head ← block 9 semi_sync_ack_head (λ p. refl)
@@ -45,7 +45,7 @@ position p = p.position.0
 abbrev pub filename : SemiSyncAckPacket → List ℕ
 filename p = p.filename
 
--- an acknowledgement is read again where nothing follows the file's name
+-- an acknowledgement is read back if nothing follows the file name
 pub record SemiSyncAckFits (p : SemiSyncAckPacket) (rest : List ℕ) : Type 0 where
   pub position : position p < 2 ^ 64
   pub filename : rest ≡ []

@@ -1,4 +1,4 @@
--- What semi-synchronous replication puts in front of an event.
+-- The header of semi-synchronous replication, in front of an event.
 use Rattle.std.specs.Prelude.{ℕ, ◌==◌, ◌%◌, Bool, if◌then◌else◌, refl}
 use Rattle.mysql_wire.specs.Codec.{Codec, Fields}
 use Rattle.mysql_wire.specs.Codecs.{◌>>=◌, give, field, block, packet, const_u8, raw_int, u8}
@@ -11,7 +11,7 @@ flags p = p.flags.0
 abbrev pub wants_ack : SemiSyncHeader → Bool
 wants_ack p = (flags p) % 2 == 1
 
--- the header with that bit alone, or with none
+-- the header with only that bit, or with none
 abbrev pub header_of : Bool → SemiSyncHeader
 header_of wants = record { header = record { 0 = record {} }; flags = raw_int (if wants then 1 else 0) }
 

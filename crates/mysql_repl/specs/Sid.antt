@@ -1,4 +1,4 @@
--- A server's transactions, in both wire forms.
+-- A server's transactions, in both wire formats.
 use Rattle.std.specs.Prelude.{◌≡◌, ℕ, ◌<◌, ◌^◌, List, [], ◌∷◌, ◌++◌, length, Option, Some, None, Bool, true, false, refl}
 use Rattle.mysql_wire.specs.Codec.{Codec, Fields}
 use Rattle.mysql_wire.specs.Codecs.{◌>>=◌, give, field, packet, byte_array, from_context, u64_counted_list}
@@ -7,7 +7,7 @@ use Rattle.mysql_repl.specs.declared.sid.Sid.{Sid}
 use Rattle.mysql_repl.specs.GnoInterval.{interval, start, end}
 use Rattle.mysql_repl.specs.TagString.{optional_tag, OptionalTag}
 
--- ---- the values
+-- ---- values
 
 abbrev pub new_sid : List ℕ → Sid
 new_sid bytes = record { uuid = bytes; tag = None; intervals = [] }
@@ -32,7 +32,7 @@ with_tag text s = record s { tag = Some text }
 
 -- ---- the two layouts
 
--- sixteen bytes, and the intervals after their count; no byte says a tag
+-- sixteen bytes, and the intervals after their count; a tag has no bytes
 abbrev pub sid_fields : Fields (Unit {0}) Sid Sid
 sid_fields = do
   id ← field uuid (byte_array 16)
@@ -58,19 +58,19 @@ tagged_sid_fields = do
 unfoldable pub tagged_sid : Codec (Unit {0}) Sid
 tagged_sid = packet tagged_sid_fields (λ s. refl)
 
--- the tagged layout or the other
+-- the layout with tags or the one without
 abbrev pub sid_as : Bool → Codec (Unit {0}) Sid
 sid_as true = tagged_sid
 sid_as false = sid
 
--- ---- when a sid is read again, in plain words
+-- ---- when a sid is read back, in plain words
 
--- numbers that have their widths
+-- numbers within their widths
 abbrev pub AreIntervals : List GnoInterval → Type 0
 AreIntervals [] = Unit {0}
 AreIntervals (i ∷ is) = (start i < 2 ^ 64) × (end i < 2 ^ 64) × AreIntervals is
 
--- a uuid of sixteen bytes, a tag that is one, and numbers that have their widths, as they always have
+-- a uuid of sixteen bytes, a valid tag, and numbers within their widths, as they always are
 pub record IsSid (s : Sid) : Type 0 where
   pub uuid : length (uuid s) ≡ 16
   pub tag : OptionalTag (tag s)

@@ -1,4 +1,4 @@
--- What is written of a block is read again, by either reader.
+-- A written block is read back, by either reader.
 use Rattle.std.specs.Prelude.{◌≡◌, ℕ, ◌+◌, ◌*◌, ◌/◌, ◌%◌, ◌<◌, ◌≤◌, ◌^◌, List, [], ◌∷◌, ◌++◌, length, min, take, Some, Bool, true, false, if◌then◌else◌, refl}
 use Rattle.std.specs.List.{flat_map}
 use Rattle.std.proofs.Common.{arith, subst}
@@ -87,7 +87,7 @@ unfolding block_form block_bytes
 block-again true sids rest h = (content sids, string-again (content sids) h.0 rest, sids-again true sids h)
 block-again false sids rest h = (content sids, [], string-again (content sids) h.0 rest, sids-again false sids h)
 
--- a block after its length; a reader is passed whether it is strict
+-- a block after its length; the reader gets whether it is strict
 abbrev pub sid_block : Codec Bool (List Sid)
 sid_block = record {
   form = block_form;

@@ -1,4 +1,4 @@
--- Which texts spell which sids: the grammar of these texts, apart from any way of reading them.
+-- Which texts encode which sids: the grammar of these texts, independent of any reader.
 use Rattle.std.specs.Prelude.{◌≡◌, ◌≢◌, ℕ, ◌+◌, ◌<◌, ◌⊎◌, List, [], ◌∷◌, ◌++◌, length, None, Some, true, codes}
 use Rattle.std.specs.Char.{is_ascii_digit}
 use Rattle.std.specs.Str.Parse.{IsNumeral, digits_value}
@@ -14,7 +14,7 @@ use Rattle.mysql_repl.specs.TagString.{OptionalTag}
 abbrev pub AreDigitsOf : List ℕ → ℕ → Type 0
 AreDigitsOf digits n = IsNumeral 10 digits × (digits_value 10 digits ≡ n)
 
--- such digits, or a plus and such digits
+-- digits, or a plus and digits
 abbrev pub SpellsNumber : List ℕ → ℕ → Type 0
 SpellsNumber text n = AreDigitsOf text n ⊎ ((digits : List ℕ) × (text ≡ codes "+" ++ digits) × AreDigitsOf digits n)
 
@@ -22,7 +22,7 @@ SpellsNumber text n = AreDigitsOf text n ⊎ ((digits : List ℕ) × (text ≡ c
 abbrev pub SpellsOne : List ℕ → GnoInterval → Type 0
 SpellsOne text i = SpellsNumber text (start i) × (end i ≡ start i + 1)
 
--- the first number and the last, with a hyphen between them
+-- the first number and the last, separated by a hyphen
 pub record SpellsTwo (text : List ℕ) (i : GnoInterval) : Type 0 where
   pub first : List ℕ
   pub last : List ℕ
@@ -32,7 +32,7 @@ pub record SpellsTwo (text : List ℕ) (i : GnoInterval) : Type 0 where
   pub last_number : SpellsNumber last last_gno
   pub end_after : end i ≡ last_gno + 1
 
--- either, where the first number is at least 1 and at most the last, after which a number of 64 bits comes
+-- either form, where the first number is at least 1 and at most the last, whose successor fits in 64 bits
 pub record SpellsInterval (text : List ℕ) (i : GnoInterval) : Type 0 where
   pub numbers : SpellsOne text i ⊎ SpellsTwo text i
   pub proper : ProperInterval i
@@ -42,7 +42,7 @@ abbrev pub SpellsEach : List GnoInterval → List ℕ → Type 0
 SpellsEach [] text = text ≡ []
 SpellsEach (i ∷ is) text = (part : List ℕ) × (rest : List ℕ) × (text ≡ codes ":" ++ (part ++ rest)) × SpellsInterval part i × SpellsEach is rest
 
--- after the colon stands a digit
+-- a digit follows the colon
 abbrev pub DigitAfterColon : List ℕ → Type 0
 DigitAfterColon [] = ⊥
 DigitAfterColon (colon ∷ []) = ⊥
@@ -52,8 +52,8 @@ abbrev pub NoColon : List ℕ → Type 0
 NoColon [] = Unit {0}
 NoColon (c ∷ text) = (c ≢ 58) × NoColon text
 
--- A text of the uuid without a colon; the tag after a colon, if there is one; and one interval or more, each after a colon.
--- Without a tag the first interval begins with a digit, and not with a plus.
+-- A text of the uuid without a colon; the tag after a colon, if there is one; and at least one interval, each after a colon. Without a tag
+-- the first interval begins with a digit, not with a plus.
 pub record SpellsSid (text : List ℕ) (s : Sid) : Type 0 where
   pub id : List ℕ
   pub more : List ℕ

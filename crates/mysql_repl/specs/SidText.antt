@@ -1,4 +1,4 @@
--- What the text of a sid is read as, and the text that is written.
+-- How a sid's text is read and written.
 use Rattle.std.specs.Prelude.{◌≡◌, ℕ, ◌+◌, ◌-◌, ◌^◌, List, [], ◌∷◌, ◌++◌, length, map, Option, Some, None, Result, Ok, Err, Bool, ◌&&◌, ◌==◌, nat_lt, nat_le, codes, if◌then◌else◌}
 use Rattle.std.specs.Char.{is_ascii_digit}
 use Rattle.std.specs.Fmt.{decimal}
@@ -15,7 +15,7 @@ use Rattle.mysql_repl.specs.declared.tag.InvalidTag.{InvalidTag}
 use Rattle.mysql_repl.specs.GnoInterval.{interval_of, start, end}
 use Rattle.mysql_repl.specs.Tag.{tag_fault}
 
--- ---- cuts
+-- ---- cutting
 
 -- the codes of a colon, of a hyphen and of a comma
 abbrev pub colon : ℕ
@@ -33,7 +33,7 @@ is separator c = c == separator
 abbrev pub has : ℕ → List ℕ → Bool
 has separator text = nat_lt (position_or_len (is separator) text) (length text)
 
--- what stands before the first separator, and what after it
+-- what precedes the first separator, and what follows it
 abbrev pub before : ℕ → List ℕ → List ℕ
 before separator text = before_first (is separator) text
 
@@ -47,7 +47,7 @@ number_in digits =
     if nat_lt 0 (length digits) && all_ascii_digits digits
     then (if nat_lt (digits_value 10 digits) (2 ^ 64) then Some (digits_value 10 digits) else None) else None
 
--- one or more digits after a plus or none, of at most 64 bits
+-- one or more digits after an optional plus, of at most 64 bits
 unfoldable pub number_of : List ℕ → Option ℕ
 number_of text = number_in (without_leading_plus text)
 
@@ -59,7 +59,7 @@ checked first last =
     else if first == 0 then Err (fault.Gno Zero)
     else Ok (interval_of first (last + 1))
 
--- from the first number to the last, where both are there
+-- from the first number to the last, if both are present
 abbrev pub numbers_by : (ℕ → ℕ → Result GnoInterval InvalidSid) → Option ℕ → Option ℕ → Result GnoInterval InvalidSid
 numbers_by check None last = Err fault.Number
 numbers_by check (Some first) None = Err fault.Number
@@ -81,16 +81,16 @@ onto (Err e) more = Err e
 onto (Ok i) (Err e) = Err e
 onto (Ok i) (Ok is) = Ok (i ∷ is)
 
--- all of them, or the first refusal
+-- all of them, or the first error
 abbrev pub all_read : List (Result GnoInterval InvalidSid) → Result (List GnoInterval) InvalidSid
 all_read [] = Ok []
 all_read (read ∷ more) = onto read (all_read more)
 
--- what stands between the colons
+-- the texts between the colons
 unfoldable pub parts_of : List ℕ → List (List ℕ)
 parts_of text = slice_split (is colon) text
 
--- what each of the parts is read as
+-- the result for each of the parts
 abbrev pub read_each : List (List ℕ) → List (Result GnoInterval InvalidSid)
 read_each parts = map read_interval parts
 
@@ -99,7 +99,7 @@ read_intervals text = all_read (read_each (parts_of text))
 
 -- ---- the whole text
 
--- the uuid, the tag, and what each of the intervals is read as
+-- the uuid, the tag, and the result for each interval
 pub record SidParts : Type 0 where
   pub uuid : List ℕ
   pub tag : Option (List ℕ)
@@ -112,7 +112,7 @@ abbrev pub tagged_parts : (id tag text : List ℕ) → Option InvalidTag → Res
 tagged_parts id tag text (Some e) = Err (fault.Tag e)
 tagged_parts id tag text None = Ok (parts_with id (Some tag) text)
 
--- after the uuid: intervals that begin with a digit; or a tag, and intervals
+-- after the uuid: intervals that begin with a digit; or a tag and intervals
 unfoldable pub parts_after : (id text : List ℕ) → Result SidParts InvalidSid
 parts_after id [] = Err fault.Empty
 parts_after id (c ∷ cs) =
@@ -124,7 +124,7 @@ abbrev pub parts_by : Option (List ℕ) → List ℕ → Result SidParts Invalid
 parts_by None text = Err fault.Uuid
 parts_by (Some id) text = parts_after id text
 
--- the parts, or the first refusal up to the intervals
+-- the parts, or the first error before the intervals
 unfoldable pub sid_parts : List ℕ → Result SidParts InvalidSid
 sid_parts text = if has colon text then parts_by (parsed (before colon text)) (after colon text) else Err fault.NoColon
 
@@ -136,11 +136,11 @@ abbrev pub sid_of : Result SidParts InvalidSid → Result Sid InvalidSid
 sid_of (Err e) = Err e
 sid_of (Ok p) = sid_with p.uuid p.tag (all_read p.intervals)
 
--- the sid, or the first refusal
+-- the sid, or the first error
 unfoldable pub read_sid : List ℕ → Result Sid InvalidSid
 read_sid text = sid_of (sid_parts text)
 
--- ---- refusals that come before any memory is taken
+-- ---- errors before any allocation
 
 abbrev pub refusal_in : Result GnoInterval InvalidSid → Option InvalidSid
 refusal_in (Ok i) = None
@@ -151,7 +151,7 @@ abbrev pub first_refusal : List (Result GnoInterval InvalidSid) → Option Inval
 first_refusal [] = None
 first_refusal (read ∷ more) = refusal_in read
 
--- without a tag the first interval may be refused
+-- without a tag the first interval may be an error
 abbrev pub early_with : Option (List ℕ) → List (Result GnoInterval InvalidSid) → Option InvalidSid
 early_with None intervals = first_refusal intervals
 early_with (Some tag) intervals = None
@@ -163,15 +163,15 @@ early_in (Ok p) = early_with p.tag p.intervals
 unfoldable pub early_refusal : List ℕ → Option InvalidSid
 early_refusal text = early_in (sid_parts text)
 
--- an answer is what reading gives, unless memory ran out
+-- the answer is the result of reading, unless memory ran out
 abbrev pub Answered : {A : Type 0} → Result A InvalidSid → Result A InvalidSid → Type 0
 Answered (Ok x) read = read ≡ Ok x
 Answered (Err fault.Memory) read = Unit {0}
 Answered (Err e) read = read ≡ Err e
 
--- ---- what is written
+-- ---- writing
 
--- a colon; the start, and the last number where it is another
+-- a colon; the start; and the last number if it differs
 abbrev pub interval_text : GnoInterval → List ℕ
 interval_text i =
     if end i == start i + 1 then codes ":" ++ decimal (start i)

@@ -1,4 +1,4 @@
--- What is left of a text of intervals, as a reader goes over it.
+-- The rest of a text of intervals, as a reader advances.
 use Rattle.std.specs.Prelude.{ℕ, ◌+◌, List, [], length, Option, Some, None, Result, Ok, Err}
 use Rattle.std.specs.Global.{Vec}
 use Rattle.mysql_repl.specs.declared.gno_interval.GnoInterval.{GnoInterval}

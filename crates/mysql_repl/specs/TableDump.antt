@@ -28,7 +28,7 @@ database p = p.database
 abbrev pub table : ComTableDump → List ℕ
 table p = p.table
 
--- the request is read again where each name has at most 255 bytes
+-- the request is read back if each name has at most 255 bytes
 pub record TableDumpFits (p : ComTableDump) : Type 0 where
   pub database : length (database p) < 2 ^ 8
   pub table : length (table p) < 2 ^ 8

@@ -1,4 +1,4 @@
--- Which texts are tags, and the first fault of the others.
+-- Which texts are tags, and the first error of the others.
 use Rattle.std.specs.Prelude.{◌≡◌, ℕ, List, [], ◌∷◌, Bool, true, false, not, ◌&&◌, ◌||◌, ◌==◌, nat_le, nat_lt, length, slice_get, Option, None, Some, if◌then◌else◌}
 use Rattle.std.specs.List.{find, list_all}
 use Rattle.std.specs.Str.{chars}
@@ -9,7 +9,7 @@ use Rattle.mysql_repl.specs.declared.tag.InvalidTag.TheVariants.{Empty, TooLong,
 abbrev pub is_first : ℕ → Bool
 is_first c = (nat_le 97 c && nat_le c 122) || (c == 95)
 
--- that, or a digit
+-- a lowercase letter, an underscore or a digit
 abbrev pub is_later : ℕ → Bool
 is_later c = is_first c || (nat_le 48 c && nat_le c 57)
 
@@ -25,7 +25,7 @@ abbrev pub later_fault : Option ℕ → Option InvalidTag
 later_fault None = None
 later_fault (Some bad) = Some (InvalidChar bad)
 
--- the fault of a text of this length, with this first character and this first one that stands in no tag
+-- the error of a text with this length, this first character and this first invalid character
 abbrev pub fault_of : ℕ → Option ℕ → Option ℕ → Option InvalidTag
 fault_of n None bad = Some Empty
 fault_of n (Some c) bad =
@@ -33,6 +33,6 @@ fault_of n (Some c) bad =
     else if is_first c then later_fault bad
     else Some (InvalidFirstChar c)
 
--- the first fault of a text: none exactly where it is a tag
+-- the first error of a text: none exactly if it is a tag
 unfoldable pub tag_fault : List ℕ → Option InvalidTag
 tag_fault text = fault_of (length text) (slice_get (chars text) 0) (find (λ c. not (is_later c)) (chars text))

@@ -1,4 +1,4 @@
--- A tag among bytes, or none.
+-- An optional tag in the bytes.
 use Rattle.std.specs.Prelude.{◌≡◌, ℕ, ◌≤◌, List, [], ◌∷◌, length, Option, Some, None, Bool, true, false, ◌&&◌, map, nat_eq, nat_le, if◌then◌else◌, refl}
 use Rattle.std.specs.Char.{to_ascii_lowercase}
 use Rattle.std.specs.Cmp.{IsPartialEquivalence, IsEquivalence, on_per, on_equiv, partial_equiv_from_equiv}
@@ -14,7 +14,7 @@ use Rattle.mysql_wire.specs.Varlen.{varlen_string, varlen_string_bytes}
 use Rattle.mysql_wire.specs.Varlen.Again.{varlen_string-again}
 use Rattle.mysql_repl.specs.Tag.{is_tag, IsTag, is_first, is_later}
 
--- texts are the same tag in lower case
+-- the texts are the same tag in lower case
 abbrev pub same_tag : List ℕ → List ℕ → Bool
 same_tag one other = pointwise nat_eq (map to_ascii_lowercase one) (map to_ascii_lowercase other)
 
@@ -24,7 +24,7 @@ same_tag_per = on_per (map to_ascii_lowercase) (partial_equiv_from_equiv nat_lis
 pub same_tag_equiv : IsEquivalence same_tag
 same_tag_equiv = on_equiv (map to_ascii_lowercase) nat_list_eq_equiv
 
--- no bytes are no tag; what else is no tag is invalid
+-- no bytes mean no tag; anything else that is not a tag is invalid
 unfoldable pub tag_of : List ℕ → Option (Option (List ℕ))
 tag_of [] = Some None
 tag_of (b ∷ bytes) = if is_tag (b ∷ bytes) then Some (Some (b ∷ bytes)) else None
@@ -64,6 +64,6 @@ unfolding tag_form tag_of
 tag-again None h rest = ([], refl, varlen_string-again [] (omega arith) rest)
 tag-again (Some tag) h rest = (tag, tag_of-tag tag h, varlen_string-again tag (omega (arith, tag-short tag h)) rest)
 
--- a tag after its length, which is 0 where there is none
+-- a tag after its length, which is 0 if there is none
 abbrev pub optional_tag : {C : Type 0} → Codec C (Option (List ℕ))
 optional_tag = leaf tag_form (λ tag. varlen_string_bytes (tag_bytes tag)) (λ tag. length (varlen_string_bytes (tag_bytes tag))) OptionalTag (λ tag h. refl) tag-again

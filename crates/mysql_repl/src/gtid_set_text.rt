@@ -179,7 +179,7 @@ impl<'a> ComBinlogDumpGtid<'a> {
     #[tactic(auto, using(crate::proofs::GtidSetTexts::dumps))]
     pub fn with_gtid_set(self, alloc: Global, text: &str) -> Result<Self, InvalidSid>
         ensures value { Answered result (spec.with_read_sids (spec.read_sids text.now) self.entry) }
-        // Before any memory is asked for.
+        // Before any allocation.
         ensures early { IfSome (early_answer text.now) (λ read. result ≡ spec.with_read_sids read self.entry) }
     {
         let sids = sids_from_text(alloc, text)?;

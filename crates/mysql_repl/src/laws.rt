@@ -219,62 +219,17 @@ pub fn tag_max_len() -> usize
     Tag::MAX_LEN
 }
 
-/// An interval takes 16 bytes.
-pub fn gno_interval_size() -> Option<usize>
-    ensures value { result ≡ Some 16 }
+/// Each packet states its size: an interval takes 16 bytes, and nothing else has a constant size.
+pub fn each_packet_has_its_size() -> bool
+    ensures value { IsTrue result }
 {
-    <crate::gno_interval::GnoInterval as MyDeserialize>::SIZE
-}
-
-/// A registration has no constant size.
-pub fn register_slave_has_no_constant_size() -> Option<usize>
-    ensures value { result ≡ None }
-{
-    <crate::register_slave::ComRegisterSlave<'static> as MyDeserialize>::SIZE
-}
-
-/// A request for a table has no constant size.
-pub fn table_dump_has_no_constant_size() -> Option<usize>
-    ensures value { result ≡ None }
-{
-    <crate::table_dump::ComTableDump<'static> as MyDeserialize>::SIZE
-}
-
-/// A dump by position has no constant size.
-pub fn binlog_dump_has_no_constant_size() -> Option<usize>
-    ensures value { result ≡ None }
-{
-    <crate::binlog_dump::ComBinlogDump<'static> as MyDeserialize>::SIZE
-}
-
-/// An acknowledgement has no constant size.
-pub fn semi_sync_ack_has_no_constant_size() -> Option<usize>
-    ensures value { result ≡ None }
-{
-    <crate::semi_sync_ack::SemiSyncAckPacket<'static> as MyDeserialize>::SIZE
-}
-
-/// An event that is sent has no constant size, and no packet of a stream has one.
-pub fn binlog_stream_packet_has_no_constant_size() -> (Option<usize>, Option<usize>)
-    ensures event { result.0 ≡ None }
-    ensures packet { result.1 ≡ None }
-{
-    (
-        <crate::binlog_stream_event::BinlogStreamEvent<'static> as MyDeserialize>::SIZE,
-        <crate::binlog_stream_packet::BinlogStreamPacket<'static> as MyDeserialize>::SIZE,
-    )
-}
-
-/// A sid has no constant size.
-pub fn sid_has_no_constant_size() -> Option<usize>
-    ensures value { result ≡ None }
-{
-    <crate::sid::Sid<'static> as MyDeserialize>::SIZE
-}
-
-/// A dump by GTID set has no constant size.
-pub fn binlog_dump_gtid_has_no_constant_size() -> Option<usize>
-    ensures value { result ≡ None }
-{
-    <crate::binlog_dump_gtid::ComBinlogDumpGtid<'static> as MyDeserialize>::SIZE
+    crate::GnoInterval::SIZE == Some(16)
+        && crate::ComRegisterSlave::<'static>::SIZE.is_none()
+        && crate::ComTableDump::<'static>::SIZE.is_none()
+        && crate::ComBinlogDump::<'static>::SIZE.is_none()
+        && crate::SemiSyncAckPacket::<'static>::SIZE.is_none()
+        && crate::BinlogStreamEvent::<'static>::SIZE.is_none()
+        && crate::BinlogStreamPacket::<'static>::SIZE.is_none()
+        && crate::Sid::<'static>::SIZE.is_none()
+        && crate::ComBinlogDumpGtid::<'static>::SIZE.is_none()
 }

@@ -109,7 +109,7 @@ impl<'a> Sid<'a> {
         ensures uuid { IfOk result (λ s. uuid s ≡ uuid self.entry) }
         ensures tag { IfOk result (λ s. tag s ≡ tag self.entry) }
         ensures in_order { IfOk result (λ s. spec.are_apart (intervals s) ≡ true) }
-        // A number is in an interval exactly where it was in one before.
+        // A number is in an interval exactly if it was in one before.
         ensures same { IfOk result (λ s. (n : ℕ) → spec.any_has n (intervals s) ≡ spec.any_has n (intervals self.entry)) }
         ensures stays { spec.are_apart (intervals self.entry) ≡ true → result ≡ Ok self.entry }
         ensures no_memory { filter spec.has_any (intervals self.entry) ≡ [] → IsOk result }

@@ -80,7 +80,7 @@ impl<'a> Sid<'a> {
     {
         match &self.tag {
             Some(tag) => {
-                // (the text is that of a tag)
+                // The text is a valid tag.
                 let _text = tag.as_str();
                 Some(tag)
             }

@@ -203,7 +203,7 @@ impl Sid<'static> {
         ensures spelled { IfOk result (SpellsSid text.now) }
         ensures read { (s : Sid) → SpellsSid text.now s → spec.Answered result (Ok s) }
         ensures value { spec.Answered result (spec.read_sid text.now) }
-        // Memory is asked for after these alone.
+        // Memory is requested only after these errors.
         ensures early { IfSome (spec.early_refusal text.now) (λ e. result ≡ Err e) }
     {
         read_sid(alloc, text)

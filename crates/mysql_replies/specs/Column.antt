@@ -35,11 +35,11 @@ org_name c = c.meta.org_name
 abbrev pub names_of : Column → ColumnMeta
 names_of c = c.meta
 
--- no name has any byte
+-- all names are empty
 abbrev pub HasNoName : Column → Type 0
 HasNoName c = has_a_name (names_of c) ≡ false
 
--- the type, the flags and the numbers
+-- type, flags and numbers
 abbrev pub column_type : Column → ColumnType
 column_type c = c.fields.column_type.0
 
@@ -55,7 +55,7 @@ column_length c = c.fields.column_length.0
 abbrev pub decimals : Column → ℕ
 decimals c = c.fields.decimals.0
 
--- the column of these names and fields
+-- the column with these names and fields
 abbrev pub column_of : (schema table org_table name org_name : List ℕ) (character_set column_length : ℕ) (column_type : ColumnType) (flags : ColumnFlags) (decimals : ℕ) → Column
 column_of schema table org_table name org_name character_set column_length column_type flags decimals = record {
   catalog = record { 0 = record {} };
@@ -66,11 +66,11 @@ column_of schema table org_table name org_name character_set column_length colum
 abbrev pub column_with : ColumnMeta → ColumnFields → Column
 column_with meta fields = record { catalog = record { 0 = record {} }; meta = meta; fields = fields }
 
--- a column of this type, all else empty or 0
+-- a column of this type; everything else is empty or 0
 abbrev pub new_column : ColumnType → Column
 new_column column_type = column_of [] [] [] [] [] 0 0 column_type (record { 0 = 0; 1 = record {} }) 0
 
--- the column with one name or field in place of its own
+-- the column with one name or field replaced
 abbrev pub with_schema : Column → List ℕ → Column
 with_schema c x = column_of x (table c) (org_table c) (name c) (org_name c) (character_set c) (column_length c) (column_type c) (flags c) (decimals c)
 
@@ -109,15 +109,15 @@ column_parts = do
 unfoldable pub column : Codec (Unit {0}) Column
 column = packet column_parts (λ c. refl)
 
--- the catalog, and the names
+-- catalog and names
 abbrev pub column_front : form.Form ColumnMeta
 column_front = form.◌>>=◌ ((const_bytes {T = Catalog} 4 catalog_bytes).form (tt {0})) (λ catalog. column_meta.form (tt {0}))
 
--- whether the bytes begin with the catalog and five names, one of which has any byte
+-- whether the bytes begin with the catalog and five names, not all empty
 abbrev pub begins_with_names : List ℕ → Bool
 begins_with_names bytes = reads_a_name (column_front.reads bytes)
 
--- what makes a column be read again: lengths that a number of eight bytes can tell, and numbers of their widths
+-- when a column is read back: string lengths below 2^64, and numbers within their widths
 pub record ColumnFits (c : Column) : Type 0 where
   pub schema : length (schema c) < 2 ^ 64
   pub table : length (table c) < 2 ^ 64

@@ -1,18 +1,18 @@
--- An attribute of a column, in its extended metadata.
+-- An attribute in a column's extended metadata.
 use Rattle.std.specs.Prelude.{ℕ, List, refl, zero, suc}
 use Rattle.mysql_wire.specs.Codecs.{Codec, Fields, ◌>>=◌, give, field, packet, raw_int, u8, string_lenenc}
 use Rattle.mysql_replies.specs.declared.column_attribute.ColumnAttribute.{ColumnAttribute}
 use Rattle.mysql_replies.specs.declared.column_attribute.ColumnAttributeKind.{ColumnAttributeKind}
 use Rattle.mysql_replies.specs.declared.column_attribute.ColumnAttributeKind.TheVariants as kind
 
--- the number of the kind, and the bytes of the text
+-- the number of the kind, and the text's bytes
 abbrev pub attribute_code : ColumnAttribute → ℕ
 attribute_code a = a.code.0
 
 abbrev pub attribute_text : ColumnAttribute → List ℕ
 attribute_text a = a.text
 
--- 0 is the name of the type, 1 the name of the format
+-- 0 is the type's name, 1 the format's name
 abbrev pub kind_code : ColumnAttributeKind → ℕ
 kind_code kind.TypeName = 0
 kind_code kind.FormatName = 1
@@ -26,11 +26,11 @@ kind_of (suc (suc n)) = kind.Unknown (suc (suc n))
 abbrev pub attribute_kind : ColumnAttribute → ColumnAttributeKind
 attribute_kind a = kind_of (attribute_code a)
 
--- the attribute of these
+-- the attribute with these fields
 abbrev pub attribute_of : ℕ → List ℕ → ColumnAttribute
 attribute_of code text = record { code = raw_int code; text = text }
 
--- a byte with the kind, and the text, length-encoded
+-- the kind in one byte, and the text, length-encoded
 abbrev pub column_attribute_fields : Fields (Unit {0}) ColumnAttribute ColumnAttribute
 column_attribute_fields = do
   code ← field (λ a. a.code) u8

@@ -5,7 +5,7 @@ use Rattle.mysql_wire.specs.Reading.{Faults}
 use Rattle.mysql_replies.specs.ColumnAttribute.{column_attribute}
 use Rattle.mysql_replies.specs.declared.column_attribute.ColumnAttribute.{ColumnAttribute}
 
--- the next attribute of the bytes that are left, or its fault, and what is left then: nothing after a fault
+-- the next attribute, or its fault, and the rest of the bytes: nothing after a fault
 abbrev pub NextAttribute : List ℕ → Option (Result ColumnAttribute FaultOf) → List ℕ → Type 0
 NextAttribute bytes None rest = (bytes ≡ []) × (rest ≡ [])
 NextAttribute bytes (Some (Ok a)) rest = (bytes ≢ []) × ((column_attribute.form tt).reads bytes ≡ Ok (a, rest))

@@ -1,4 +1,4 @@
--- The count of columns that a result begins with.
+-- The column count at the beginning of a result.
 use Rattle.std.specs.Prelude.{◌≡◌, ℕ, ◌<◌, ◌^◌, Option, Some, None, Bool, true, false, not, ◌==◌, ◌||◌, if◌then◌else◌, refl}
 use Rattle.mysql_wire.specs.Codecs.{Codec, Fields, ◌>>=◌, give, field, packet, when, u8, int_lenenc, raw_int}
 use Rattle.mysql_wire.specs.FlagMasks.{CLIENT_OPTIONAL_RESULTSET_METADATA, MARIADB_CLIENT_CACHE_METADATA}
@@ -10,7 +10,7 @@ use Rattle.mysql_replies.specs.declared.column_count.ColumnCount.{ColumnCount}
 abbrev pub count : ColumnCount → ℕ
 count c = c.count.0
 
--- definitions follow where no byte says otherwise
+-- definitions follow unless a byte says otherwise
 abbrev pub follow : Option (RawInt ℕ ℕ) → Bool
 follow None = true
 follow (Some b) = not (b.0 == 0)
@@ -18,15 +18,15 @@ follow (Some b) = not (b.0 == 0)
 abbrev pub metadata_follows : ColumnCount → Bool
 metadata_follows c = follow c.metadata_follows
 
--- a given number of columns, and no byte says whether definitions follow
+-- a number of columns, without a byte that says whether definitions follow
 abbrev pub columns : ℕ → ColumnCount
 columns n = record { count = raw_int n; metadata_follows = None }
 
--- a byte says whether they do: 1 or 0
+-- a byte says whether definitions follow: 1 or 0
 abbrev pub with_metadata_follows : Bool → ColumnCount → ColumnCount
 with_metadata_follows follows c = record c { metadata_follows = Some (raw_int (if follows then 1 else 0)) }
 
--- a flag asks for a byte that says whether definitions follow: MySQL's, or MariaDB's
+-- a flag adds the byte that says whether definitions follow: MySQL's, or MariaDB's
 abbrev pub says_follow : SessionCapabilities → Bool
 says_follow capabilities = has capabilities.mysql.0 CLIENT_OPTIONAL_RESULTSET_METADATA || has capabilities.mariadb.0 MARIADB_CLIENT_CACHE_METADATA
 
@@ -40,9 +40,9 @@ column_count_fields = do
 unfoldable pub column_count : Codec SessionCapabilities ColumnCount
 column_count = packet column_count_fields (λ c. refl)
 
--- ---- when a count is read again, in plain words
+-- ---- when a count is read back, in plain words
 
--- the byte is there just where a flag asks for it
+-- the byte is present exactly under a flag
 abbrev pub IsSaid : Bool → Option (RawInt ℕ ℕ) → Type 0
 IsSaid says None = says ≡ false
 IsSaid says (Some b) = says ≡ true
@@ -52,11 +52,11 @@ abbrev pub SaysByte : Option (RawInt ℕ ℕ) → Type 0
 SaysByte None = Unit {0}
 SaysByte (Some b) = b.0 < 256
 
--- the byte of a count is there just where the flags ask for it
+-- the byte of a count is present exactly under the flags
 abbrev pub SuitsSession : SessionCapabilities → ColumnCount → Type 0
 SuitsSession capabilities c = IsSaid (says_follow capabilities) c.metadata_follows
 
--- numbers that have their widths, as they always have, and the byte just where the flags ask for it
+-- numbers within their widths, as they always are, and the byte exactly under the flags
 pub record ColumnCountFits (capabilities : SessionCapabilities) (c : ColumnCount) : Type 0 where
   pub count : count c < 2 ^ 64
   pub byte : SaysByte c.metadata_follows

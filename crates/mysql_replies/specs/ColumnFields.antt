@@ -1,4 +1,4 @@
--- The fields of a column that have fixed lengths.
+-- The fixed-length fields of a column.
 use Rattle.std.specs.Prelude.{ℕ, refl}
 use Rattle.mysql_wire.specs.declared.codes.column_type.ColumnType.{ColumnType}
 use Rattle.mysql_wire.specs.Codecs.{Codec, Fields, ◌>>=◌, give, field, block, packet, const_u8, u8, u16, u32, coded, flags, skip, raw_int}
@@ -6,7 +6,7 @@ use Rattle.mysql_wire.specs.ColumnType.{column_type_code, column_type_of, column
 use Rattle.mysql_wire.specs.Flags.{ColumnFlags}
 use Rattle.mysql_replies.specs.declared.column_fields.ColumnFields.{ColumnFields}
 
--- the fields of these
+-- the fields with these values
 abbrev pub fields_of : ℕ → ℕ → ColumnType → ColumnFlags → ℕ → ColumnFields
 fields_of character_set column_length column_type flags decimals = record {
   fixed_length_fields_len = record { 0 = record {} };

@@ -1,4 +1,4 @@
--- The names of a column, and how they stand after one another in one buffer.
+-- The names of a column, concatenated in one buffer.
 use Rattle.std.specs.Prelude.{ℕ, ◌+◌, ◌≤◌, Bool, false, List, length, take, slice_range, Ok, Err, refl}
 use Rattle.mysql_wire.specs.Codec.{Codec, Fields}
 use Rattle.mysql_wire.specs.Codecs.{◌>>=◌, give, field, packet, string_lenenc}
@@ -23,27 +23,27 @@ column_meta_fields = do
 unfoldable pub column_meta : Codec (Unit {0}) ColumnMeta
 column_meta = packet column_meta_fields (λ m. refl)
 
--- how many bytes the names have
+-- the total length of the names
 abbrev pub names_len : ColumnMeta → ℕ
 names_len m = length m.schema + length m.table + length m.org_table + length m.name + length m.org_name
 
--- whether a name has any byte
+-- whether any name is not empty
 abbrev pub has_a_name : ColumnMeta → Bool
 has_a_name m = is_any (names_len m)
 
--- whether names are read, and one has any byte: the bytes are copied
+-- whether names are read, and not all empty: the bytes are copied
 abbrev pub reads_a_name : Reading ColumnMeta → Bool
 reads_a_name (Ok x) = has_a_name x.0
 reads_a_name (Err e) = false
 
--- the names that end at these places of the bytes
+-- the names that end at these offsets
 abbrev pub names_at : List ℕ → (schema_end table_end org_table_end name_end : ℕ) → ColumnMeta
 names_at bytes s t o n = meta_of (take s bytes) (slice_range bytes s t) (slice_range bytes t o) (slice_range bytes o n) (slice_range bytes n (length bytes))
 
 abbrev pub names_in : Inside → ColumnMeta
 names_in i = names_at i.bytes i.schema_end i.table_end i.org_table_end i.name_end
 
--- no name ends ahead of where it begins, nor after the bytes
+-- each end is at or after the previous one, and within the bytes
 pub record AreInOrder (i : Inside) : Type 0 where
   pub table : i.schema_end ≤ i.table_end
   pub org_table : i.table_end ≤ i.org_table_end

@@ -1,4 +1,4 @@
--- Errors and progress reports, in their packet.
+-- Errors and progress reports.
 use Rattle.std.specs.Prelude.{◌≡◌, ℕ, ◌<◌, ◌^◌, List, [], length, Option, Some, None, is_some, Bool, true, false, IsTrue, IsFalse, ◌&&◌, ◌==◌, refl}
 use Rattle.std.proofs.Common.{◌⊎◌, inl, inr}
 use Rattle.mysql_wire.specs.FlagMasks.{CLIENT_PROGRESS_OBSOLETE, CLIENT_PROTOCOL_41}
@@ -28,7 +28,7 @@ takes_progress capabilities = has capabilities.0 CLIENT_PROGRESS_OBSOLETE
 abbrev pub sends_state : CapabilityFlags → Bool
 sends_state capabilities = has capabilities.0 CLIENT_PROTOCOL_41
 
--- the code of an error, and ffff for a report
+-- the code of an error; ffff for a report
 abbrev pub packet_code : ErrPacket → ℕ
 packet_code (err.Error e) = error_code e
 packet_code (err.Progress r) = 0xffff
@@ -44,8 +44,8 @@ err_head = do
   code ← field (λ p. raw_int (packet_code p)) u16
   give code.0
 
--- Three bytes with the code. After the code ffff, where the client takes them, a progress report;
--- else an error, with a state under protocol 4.1.
+-- Three bytes with the code. After ffff, if the client accepts reports, a progress report; otherwise an error, with an SQL state under
+-- protocol 4.1.
 abbrev pub err_packet_fields : Fields CapabilityFlags ErrPacket ErrPacket
 err_packet_fields = do
   code ← block 3 err_head (λ p. refl)
@@ -62,20 +62,19 @@ same-err_packet (err.Progress r) = refl
 unfoldable pub err_packet : Codec CapabilityFlags ErrPacket
 err_packet = packet err_packet_fields same-err_packet
 
--- that of the part
+-- the part's
 abbrev pub err_text : ErrPacket → List ℕ
 err_text (err.Error e) = error_text e
 err_text (err.Progress r) = progress_text r
 
--- what makes an error be read again: a state just under protocol 4.1, of five bytes; it is not what is read as a report,
--- and nothing follows
+-- when an error is read back: a state exactly under protocol 4.1, with five bytes; it is not read as a report, and nothing follows
 pub record ErrorFits (capabilities : CapabilityFlags) (e : ServerError) (rest : List ℕ) : Type 0 where
   pub code : error_code e < 2 ^ 16
   pub state : StateFits (sends_state capabilities) (sql_state_of e)
   pub no_report : IsFalse (error_code e == 0xffff && takes_progress capabilities)
   pub at_end : rest ≡ []
 
--- and a report: it is sent to a client that takes it
+-- when a report is read back: the client accepts reports
 pub record ReportFits (capabilities : CapabilityFlags) (r : ProgressReport) : Type 0 where
   pub taken : IsTrue (takes_progress capabilities)
   pub stage : stage r < 2 ^ 8
@@ -87,18 +86,18 @@ abbrev pub ErrPacketFits : CapabilityFlags → ErrPacket → List ℕ → Type 0
 ErrPacketFits capabilities (err.Error e) rest = ErrorFits capabilities e rest
 ErrPacketFits capabilities (err.Progress r) rest = ReportFits capabilities r
 
--- the flags of both sides suit the packet: a report is taken, and its progress has three bytes; an error has a state just
--- under protocol 4.1, and is not what is read as a report
+-- the flags of both sides match the packet: a report is accepted, and its progress fits in three bytes; an error has a state exactly under
+-- protocol 4.1, and isn't read as a report
 abbrev pub SuitsFlags : CapabilityFlags → ErrPacket → Type 0
 SuitsFlags capabilities (err.Error e) = (is_some (sql_state_of e) ≡ sends_state capabilities) × IsFalse (error_code e == 0xffff && takes_progress capabilities)
 SuitsFlags capabilities (err.Progress r) = IsTrue (takes_progress capabilities) × (progress r < 2 ^ 24)
 
--- a state has its five bytes
+-- a state has five bytes
 abbrev pub StateHasWidth : Option SqlState → Type 0
 StateHasWidth None = Unit {0}
 StateHasWidth (Some state) = length (state_bytes state) ≡ 5
 
--- the numbers have their widths, except for a report's progress, whose type is wider
+-- numbers within their widths, except for a report's progress, whose type is wider
 abbrev pub HasWidths : ErrPacket → Type 0
 HasWidths (err.Error e) = (error_code e < 2 ^ 16) × StateHasWidth (sql_state_of e)
 HasWidths (err.Progress r) = (stage r < 2 ^ 8) × (max_stage r < 2 ^ 8) × (length (stage_info r) < 2 ^ 64)

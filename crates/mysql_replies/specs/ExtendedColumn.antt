@@ -11,27 +11,27 @@ use Rattle.mysql_replies.specs.ColumnNames.{column_meta, has_a_name}
 use Rattle.mysql_replies.specs.declared.column.Column.{Column}
 use Rattle.mysql_replies.specs.declared.extended_column.ExtendedColumn.{ExtendedColumn}
 
--- the column, and the bytes of its metadata
+-- the column, and the bytes of its extended metadata
 abbrev pub column_of : ExtendedColumn → Column
 column_of c = c.column
 
 abbrev pub metadata_of : ExtendedColumn → Option (List ℕ)
 metadata_of c = c.metadata
 
--- the column with that metadata
+-- the column with this metadata
 abbrev pub extended : Column → Option (List ℕ) → ExtendedColumn
 extended column metadata = record { column = column; metadata = metadata }
 
--- the bytes of its attributes: none where there is no metadata
+-- the bytes of its attributes: none without metadata
 abbrev pub attribute_bytes : Option (List ℕ) → List ℕ
 attribute_bytes None = []
 attribute_bytes (Some bytes) = bytes
 
--- MARIADB_CLIENT_EXTENDED_METADATA is agreed to
+-- MARIADB_CLIENT_EXTENDED_METADATA is agreed on
 abbrev pub sends_metadata : MariadbCapabilities → Bool
 sends_metadata capabilities = has capabilities.0 MARIADB_CLIENT_EXTENDED_METADATA
 
--- the catalog, five names, the metadata under the flag, thirteen bytes of fields
+-- catalog, five names, the metadata under the flag, and thirteen bytes of fields
 abbrev pub extended_column_parts : Fields MariadbCapabilities ExtendedColumn ExtendedColumn
 extended_column_parts = do
   catalog ← field (λ c. c.column.catalog) (const_bytes 4 catalog_bytes)
@@ -43,25 +43,25 @@ extended_column_parts = do
 unfoldable pub extended_column : Codec MariadbCapabilities ExtendedColumn
 extended_column = packet extended_column_parts (λ c. refl)
 
--- a column that is read, without metadata
+-- a column that is read, without its metadata
 abbrev pub without_metadata : Reading Column → Reading ExtendedColumn
 without_metadata (Ok x) = Ok (extended x.0 None, x.1)
 without_metadata (Err kind) = Err kind
 
--- ---- what takes memory
+-- ---- memory
 
--- whether a name or the metadata have any byte
+-- whether a name or the metadata is not empty
 abbrev pub has_text : ExtendedColumn → Bool
 has_text c = has_a_name (names_of (column_of c)) || is_any (length (attribute_bytes (metadata_of c)))
 
--- whether a column is read that has any: its texts are copied
+-- whether the column that is read has any: its texts are copied
 abbrev pub reads_text : Reading ExtendedColumn → Bool
 reads_text (Ok x) = has_text x.0
 reads_text (Err kind) = false
 
--- ---- when a column is read again, in plain words
+-- ---- when a column is read back, in plain words
 
--- the metadata is there just where the flag asks for it, and eight bytes can tell its length
+-- the metadata is present exactly under the flag, and its length is below 2^64
 abbrev pub MetadataFits : Bool → Option (List ℕ) → Type 0
 MetadataFits sends None = sends ≡ false
 MetadataFits sends (Some bytes) = (sends ≡ true) × (length bytes < 2 ^ 64)

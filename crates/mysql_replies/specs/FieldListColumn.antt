@@ -1,4 +1,4 @@
--- A column definition that answers COM_FIELD_LIST.
+-- A column definition in the answer to COM_FIELD_LIST.
 use Rattle.std.specs.Prelude.{◌≡◌, ℕ, ◌<◌, ◌^◌, List, [], ◌∷◌, length, Option, Some, None, Bool, false, ◌==◌, refl}
 use Rattle.std.proofs.Common.{◌⊎◌, inl, inr}
 use Rattle.mysql_wire.specs.Codec.{Codec, Fields}
@@ -9,7 +9,7 @@ use Rattle.mysql_replies.specs.ExtendedColumn.{ExtendedColumnFits, extended_colu
 use Rattle.mysql_replies.specs.GreetingError.{looking_at}
 use Rattle.mysql_replies.specs.declared.extended_column.ExtendedColumn.{ExtendedColumn}
 
--- the definition, and the column's default value: NULL, or its text
+-- the definition, and the column's default value: NULL or a text
 pub record Definition : Type 0 where
   pub column : ExtendedColumn
   pub default_value : Option (List ℕ)
@@ -23,17 +23,17 @@ default_of d = d.default_value
 abbrev pub definition : ExtendedColumn → Option (List ℕ) → Definition
 definition column default_value = record { column = column; default_value = default_value }
 
--- the next byte says NULL
+-- the next byte stands for NULL
 abbrev pub starts_null : List ℕ → Bool
 starts_null [] = false
 starts_null (first ∷ rest) = first == 0xfb
 
--- what is written of a text that may be NULL: fb, or a string
+-- the bytes of a text that may be NULL: fb, or a length-encoded string
 abbrev pub nullable : Option (List ℕ) → List ℕ ⊎ List ℕ
 nullable None = inl (0xfb ∷ [])
 nullable (Some text) = inr text
 
--- fb where the next byte says NULL, else a length-encoded string
+-- fb for NULL, otherwise a length-encoded string
 abbrev pub nullable_fields : Fields (MariadbCapabilities × Bool) (Option (List ℕ)) (Option (List ℕ))
 nullable_fields = either (λ c. c.1) nullable (λ null. None) (byte_array 1) Some string_lenenc
 
@@ -44,7 +44,7 @@ nullable-same (Some text) = refl
 abbrev pub nullable_string : Codec MariadbCapabilities (Option (List ℕ))
 nullable_string = looking_at starts_null (packet nullable_fields nullable-same)
 
--- how it is read, whatever the capabilities
+-- its reader, under any capabilities
 abbrev pub nullable_form : Form (Option (List ℕ))
 nullable_form = nullable_string.form (record { 0 = 0; 1 = record {} })
 
@@ -58,9 +58,9 @@ field_list_column_fields = do
 unfoldable pub field_list_column : Codec MariadbCapabilities Definition
 field_list_column = packet field_list_column_fields (λ d. refl)
 
--- ---- when it is read again, in plain words
+-- ---- when it is read back, in plain words
 
--- eight bytes can tell the text's length
+-- the text's length is below 2^64
 abbrev pub DefaultFits : Option (List ℕ) → Type 0
 DefaultFits None = Unit {0}
 DefaultFits (Some text) = length text < 2 ^ 64

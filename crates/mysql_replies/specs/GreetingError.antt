@@ -16,12 +16,12 @@ error_of_greeting g = g.error
 abbrev pub greeting_error_of : ServerError → GreetingError
 greeting_error_of e = record { error = e }
 
--- `#` and five bytes more
+-- `#` and five more bytes
 abbrev pub begins_with_state : List ℕ → Bool
 begins_with_state [] = false
 begins_with_state (marker ∷ state) = (marker == 35) && nat_lt 4 (length state)
 
--- a part whose reader is passed what the bytes there show
+-- a part whose reader depends on the bytes there
 abbrev pub looking_at : {C A : Type 0} → (List ℕ → Bool) → Codec (C × Bool) A → Codec C A
 looking_at test f = record {
   form = λ c. form.looking (λ bytes. f.form (c, test bytes));
@@ -39,7 +39,7 @@ greeting_error_head = do
   code ← field (λ g. raw_int (error_code (error_of_greeting g))) u16
   give code.0
 
--- three bytes with the code, and the error, whose state is there where the bytes begin with one
+-- three bytes with the code, and the error, with a state if the bytes begin with one
 abbrev pub greeting_error_fields : Fields (Unit {0}) GreetingError GreetingError
 greeting_error_fields = do
   code ← block 3 greeting_error_head (λ g. refl)
@@ -49,13 +49,13 @@ greeting_error_fields = do
 unfoldable pub greeting_error : Codec (Unit {0}) GreetingError
 greeting_error = packet greeting_error_fields (λ g. refl)
 
--- ---- when it is read again, in plain words
+-- ---- when it is read back, in plain words
 
--- without a state the message does not begin as a state does
+-- without a state, the message doesn't begin like one
 abbrev pub HasPlainMessage : GreetingError → Type 0
 HasPlainMessage g = sql_state_of (error_of_greeting g) ≡ None → begins_with_state (message (error_of_greeting g)) ≡ false
 
--- a state has five bytes, and without one the message does not begin as a state does
+-- a state has five bytes; without one, the message doesn't begin like one
 abbrev pub IsPlainOf : Option SqlState → List ℕ → Type 0
 IsPlainOf None message = begins_with_state message ≡ false
 IsPlainOf (Some state) message = length (state_bytes state) ≡ 5

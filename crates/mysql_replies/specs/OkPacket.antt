@@ -7,7 +7,7 @@ use Rattle.mysql_replies.specs.declared.ok_kind.OkPacketBody.{OkPacketBody}
 use Rattle.mysql_replies.specs.declared.ok_packet.OkPacket.{OkPacket}
 use Rattle.mysql_replies.specs.declared.ok_packet.OkPacketDeserializer.{OkPacketDeserializer}
 
--- the rows, the insert id, the status, the count of warnings, the bytes of the info and of the state
+-- affected rows, last insert id, status flags, warnings, the bytes of the info and of the session state
 abbrev pub affected_rows : OkPacket → ℕ
 affected_rows p = p.affected_rows
 
@@ -26,7 +26,7 @@ info p = p.info
 abbrev pub session_state : OkPacket → Option (List ℕ)
 session_state p = p.session_state_info
 
--- the state string and the info, empty where there is none
+-- the session state and the info, empty if absent
 abbrev pub bytes_or_none : Option (List ℕ) → List ℕ
 bytes_or_none None = []
 bytes_or_none (Some bytes) = bytes
@@ -45,7 +45,7 @@ abbrev pub unless_empty : List ℕ → Option (List ℕ)
 unless_empty [] = None
 unless_empty (b ∷ bytes) = Some (b ∷ bytes)
 
--- the packet with this body: an insert id of 0, an empty info and an empty state are absent
+-- the packet with this body: a last insert id of 0, an empty info and an empty session state count as absent
 abbrev pub packet_of : OkPacketBody → OkPacket
 packet_of b = record {
   affected_rows = b.affected_rows;
@@ -63,13 +63,13 @@ packet d = d.0
 abbrev pub deserialized : {T : Type 0} → OkPacketBody → OkPacketDeserializer T
 deserialized body = record { 0 = packet_of body; 1 = record {} }
 
--- the header's byte
+-- the header
 unfoldable pub ok_header : ℕ → Form (Unit {0})
 ok_header header = do
   first ← byte
   either (first.0 == header) (give tt) refuse
 
--- the header, and the body
+-- header and body
 unfoldable pub ok_packet : {T : Type 0} → ℕ → Form OkPacketBody → Form (OkPacketDeserializer T)
 ok_packet header body = do
   first ← ok_header header

@@ -1,4 +1,4 @@
--- OK packets as a server sends them: a packet, and what both sides can do.
+-- OK packets as a server sends them: the packet with the capabilities of both sides.
 use Rattle.std.specs.Prelude.{◌≡◌, ℕ, zero, suc, ◌<◌, ◌^◌, List, [], ◌∷◌, ◌++◌, length, Option, Some, None, refl}
 use Rattle.mysql_wire.specs.Flags.{CapabilityFlags, StatusFlags}
 use Rattle.mysql_wire.specs.declared.constant_value.Const.{Const}
@@ -13,11 +13,11 @@ use Rattle.mysql_replies.specs.OkKind.{OkTail, body_of, ok_tail, tail_of}
 use Rattle.mysql_replies.specs.OkPacket.{affected_rows, last_insert_id, status_flags, warnings, info, session_state, state_bytes, bytes_or_none}
 use Rattle.mysql_replies.specs.OkTailSent.{ContentIsShort, tail_bytes, TailFits, tail-again}
 
--- a packet, and what both sides can do
+-- a packet, and the capabilities of both sides
 abbrev pub Sent : Type 0
 Sent = OkPacket × CapabilityFlags
 
--- the insert id, 0 where there is none
+-- the last insert id, 0 if absent
 abbrev pub id_or_zero : Option ℕ → ℕ
 id_or_zero None = 0
 id_or_zero (Some n) = n
@@ -25,14 +25,14 @@ id_or_zero (Some n) = n
 abbrev pub flag_word_of : StatusFlags → Const StatusFlags LeU16
 flag_word_of status = record { 0 = status; 1 = record {} }
 
--- the status and the count of warnings
+-- status flags and warnings
 abbrev pub sent_status : Fields CapabilityFlags Sent (Const StatusFlags LeU16 × RawInt LeU16 ℕ)
 sent_status = do
   status ← field (λ s. flag_word_of (status_flags s.0)) (flags 2)
   warnings ← field (λ s. raw_int (warnings s.0)) u16
   give (status, warnings)
 
--- the info and the state, by what both sides can do
+-- info and session state, by the capabilities
 abbrev pub sent_tail : StatusFlags → Fields CapabilityFlags Sent OkTail
 sent_tail status = record {
   form = λ c. ok_tail c status;
@@ -44,7 +44,7 @@ sent_tail status = record {
   again = tail-again status;
 }
 
--- these rows and this insert id, length-encoded, the status, the warnings, and the tail
+-- affected rows and last insert id, length-encoded, status flags, warnings, and the tail
 abbrev pub sent_body : (rows insert_id : Sent → ℕ) (kept : ℕ → ℕ) → Fields CapabilityFlags Sent OkPacketBody
 sent_body rows insert_id kept = do
   affected ← field (λ s. raw_int (rows s)) int_lenenc
@@ -53,7 +53,7 @@ sent_body rows insert_id kept = do
   tail ← sent_tail numbers.0.0
   give (body_of (kept affected.0) (kept id.0) numbers.0.0 numbers.1.0 tail.info tail.session_state_info)
 
--- a header, these rows and this insert id, and all else of the packet
+-- a header, affected rows and last insert id, and the packet's other fields
 abbrev pub sent_bytes : (header rows insert_id : ℕ) → CapabilityFlags → OkPacket → List ℕ
 sent_bytes header rows insert_id capabilities p = header ∷ (sent_body (λ s. rows) (λ s. insert_id) (λ n. n)).bytes (p, capabilities)
 
@@ -67,7 +67,7 @@ terminator_bytes_with header capabilities p = sent_bytes header 0 0 capabilities
 unfoldable pub eof_bytes_with : ℕ → OkPacket → List ℕ
 eof_bytes_with header p = header ∷ (le_bytes 2 (warnings p) ++ le_bytes 2 (status_flags p).0)
 
--- with the header of its own
+-- with its own header
 abbrev pub common_bytes : CapabilityFlags → OkPacket → List ℕ
 common_bytes = common_bytes_with 0
 
@@ -81,14 +81,13 @@ eof_bytes = eof_bytes_with 0xfe
 abbrev pub deserializer_of : {T : Type 0} → OkPacket → OkPacketDeserializer T
 deserializer_of p = record { 0 = p; 1 = record {} }
 
--- an insert id is not 0, and has eight bytes
+-- a last insert id is not 0, and fits in eight bytes
 abbrev pub IdFits : Option ℕ → Type 0
 IdFits None = Unit {0}
 IdFits (Some zero) = ⊥
 IdFits (Some (suc n)) = suc n < 2 ^ 64
 
--- what makes an OK packet be read again: the numbers have their widths, an insert id is not 0, and info and state are read
--- again
+-- when an OK packet is read back: numbers within their widths, a last insert id other than 0, and a readable info and session state
 pub record OkPacketFits (capabilities : CapabilityFlags) (p : OkPacket) : Type 0 where
   pub affected_rows : affected_rows p < 2 ^ 64
   pub last_insert_id : IdFits (last_insert_id p)
@@ -96,7 +95,7 @@ pub record OkPacketFits (capabilities : CapabilityFlags) (p : OkPacket) : Type 0
   pub warnings : warnings p < 2 ^ 16
   pub tail : TailFits capabilities p
 
--- the numbers and lengths of a packet have their widths
+-- the packet's numbers and lengths are within their widths
 abbrev pub IdIsShort : Option ℕ → Type 0
 IdIsShort None = Unit {0}
 IdIsShort (Some n) = n < 2 ^ 64
@@ -109,7 +108,7 @@ pub record HasOkWidths (p : OkPacket) : Type 0 where
   pub info : ContentIsShort (info p)
   pub session_state : ContentIsShort (session_state p)
 
--- one that ends a result set has no numbers, and an old end neither info nor state
+-- at the end of a result set the numbers are 0, and an old EOF packet has neither info nor session state
 pub record TerminatorFits (capabilities : CapabilityFlags) (p : OkPacket) : Type 0 where
   pub affected_rows : affected_rows p ≡ 0
   pub last_insert_id : last_insert_id p ≡ None

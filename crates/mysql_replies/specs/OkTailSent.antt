@@ -1,4 +1,4 @@
--- The end of an OK packet as a server sends it: the info and the state.
+-- The tail of an OK packet as a server sends it: info and session state.
 use Rattle.std.specs.Prelude.{◌≡◌, ℕ, suc, ◌<◌, ◌^◌, List, [], ◌∷◌, ◌++◌, length, Option, Some, None, Bool, true, false, if◌then◌else◌, ◌&&◌, not, ◌==◌, refl}
 use Rattle.std.proofs.Common.{arith, append_assoc, sym, ◌∙◌, ap, inl, inr}
 use Rattle.std.proofs.lemmas.Bool.{cases_lt, lt-ltb, le-ltb, ne_eqb}
@@ -13,28 +13,28 @@ use Rattle.mysql_replies.specs.declared.ok_packet.OkPacket.{OkPacket}
 use Rattle.mysql_replies.specs.OkKind.{OkTail, begins_with_no_zero, ok_tail, state_changed, tail_of, tracks}
 use Rattle.mysql_replies.specs.OkPacket.{status_flags, info, session_state, state_bytes, bytes_or_none}
 
--- the state is sent: changes are tracked, and the status says that there are some
+-- the session state is sent: changes are tracked, and the status says that there are some
 abbrev pub sends_state : CapabilityFlags → StatusFlags → Bool
 sends_state capabilities status = tracks capabilities && state_changed status
 
--- where the state is sent, the info and the state, length-encoded; else the info where there is one
+-- if the session state is sent, info and session state, length-encoded; otherwise the info, if there is one
 abbrev pub tail_bytes : CapabilityFlags → OkPacket → List ℕ
 tail_bytes capabilities p =
     if sends_state capabilities (status_flags p) then lenenc_string_bytes (bytes_or_none (info p)) ++ lenenc_string_bytes (state_bytes p)
     else optional_bytes lenenc_string_bytes (info p)
 
--- a content is not empty, and its length has eight bytes
+-- not empty, and shorter than 2^64 bytes
 abbrev pub ContentFits : Option (List ℕ) → Type 0
 ContentFits None = Unit {0}
 ContentFits (Some []) = ⊥
 ContentFits (Some (b ∷ bytes)) = length (b ∷ bytes) < 2 ^ 64
 
--- the length of a content has eight bytes
+-- shorter than 2^64 bytes
 abbrev pub ContentIsShort : Option (List ℕ) → Type 0
 ContentIsShort None = Unit {0}
 ContentIsShort (Some bytes) = length bytes < 2 ^ 64
 
--- a state is there only where it is sent
+-- a session state is present only if it is sent
 abbrev pub StateIsSent : Bool → Option (List ℕ) → Type 0
 StateIsSent true state = Unit {0}
 StateIsSent false None = Unit {0}
@@ -45,9 +45,9 @@ pub record TailFits (capabilities : CapabilityFlags) (p : OkPacket) : Type 0 whe
   pub info : ContentFits (info p)
   pub session_state : ContentFits (session_state p)
 
--- ---- what is sent is read again
+-- ---- what is sent is read back
 
--- a length-encoded number begins with a byte, and one that is not 0 with a byte that is not
+-- a length-encoded number has a first byte, which is not 0 unless the number is
 lenenc-there : (n : ℕ) (rest : List ℕ) → is_there (lenenc_bytes n ++ rest) ≡ true
 unfolding lenenc_bytes
 lenenc-there n rest =
@@ -92,7 +92,7 @@ content-length None h = omega arith
 content-length (Some []) h = absurd h
 content-length (Some (b ∷ bytes)) h = h
 
--- the form of a tail, by what both sides can do and the status
+-- the form of a tail, by the capabilities and the status
 abbrev form_by : (tracked changed : Bool) → Form OkTail
 form_by tracked changed = looking (λ bytes.
     either (tracked && is_there bytes) (do

@@ -1,4 +1,4 @@
--- How far a server is with a long statement.
+-- The progress of a long statement.
 use Rattle.std.specs.Prelude.{ℕ, ◌/◌, ◌%◌, ◌<◌, ◌^◌, List, ◌++◌, length, codes, decimal, refl}
 use Rattle.mysql_wire.specs.declared.int.RawInt.{RawInt}
 use Rattle.mysql_wire.specs.declared.little_endian.LeU24.{LeU24}
@@ -6,7 +6,7 @@ use Rattle.mysql_wire.specs.Text.{lossy_text}
 use Rattle.mysql_wire.specs.Codecs.{Codec, Fields, ◌>>=◌, give, field, block, packet, u8, u24, string_lenenc, raw_int}
 use Rattle.mysql_replies.specs.declared.progress_report.ProgressReport.{ProgressReport}
 
--- the stage, the last stage, the progress in thousandths of a percent, and the bytes of the stage's text
+-- the stage, the last stage, the progress in thousandths of a percent, and the bytes of the stage's name
 abbrev pub stage : ProgressReport → ℕ
 stage r = r.stage.0
 
@@ -19,7 +19,7 @@ progress r = r.progress.0
 abbrev pub stage_info : ProgressReport → List ℕ
 stage_info r = r.stage_info
 
--- the report of these
+-- the report with these fields
 abbrev pub report_of : ℕ → ℕ → ℕ → List ℕ → ProgressReport
 report_of stage max_stage progress stage_info =
     record { stage = raw_int stage; max_stage = raw_int max_stage; progress = raw_int progress; stage_info = stage_info }
@@ -33,7 +33,7 @@ progress_numbers = do
   progress ← field (λ r. r.progress) u24
   give (stage, max_stage, progress)
 
--- six bytes of numbers, and the stage's text
+-- six bytes of numbers, and the stage's name
 abbrev pub progress_report_fields : Fields (Unit {0}) ProgressReport ProgressReport
 progress_report_fields = do
   numbers ← block 6 progress_numbers (λ r. refl)
@@ -49,7 +49,7 @@ progress_text r =
     codes "Stage: " ++ (decimal (stage r) ++ (codes " of " ++ (decimal (max_stage r) ++ (codes " '" ++ (lossy_text (stage_info r) ++ (codes "'  "
     ++ (decimal (progress r / 1000) ++ (codes "." ++ (decimal (progress r % 1000 / 100) ++ (decimal (progress r % 100 / 10) ++ codes "% of stage done"))))))))))
 
--- what makes a report be read again: numbers of their widths
+-- when a report is read back: numbers within their widths
 pub record ProgressReportFits (r : ProgressReport) : Type 0 where
   pub stage : stage r < 2 ^ 8
   pub max_stage : max_stage r < 2 ^ 8

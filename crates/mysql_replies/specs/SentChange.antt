@@ -1,4 +1,4 @@
--- The entry of a change, as servers send it.
+-- The entry of a session change as servers send it.
 use Rattle.std.specs.Prelude.{◌≡◌, ◌<◌, ◌^◌, ℕ, length, List, [], ◌∷◌, Option, Some, None, true, false}
 use Rattle.std.specs.Option.{option_map}
 use Rattle.mysql_wire.specs.declared.codes.session_state_type.SessionStateType.{SessionStateType}
@@ -10,7 +10,7 @@ use Rattle.mysql_session.specs.declared.session_state_change.SessionStateChange.
 use Rattle.mysql_replies.specs.SentGtids.{sent_gtids, sent_text}
 use Rattle.mysql_replies.specs.declared.session_state_info.SessionStateInfo.{SessionStateInfo}
 
--- the type of a change, none of one of another kind
+-- the type of a change, if it is a known one
 abbrev pub type_of : SessionStateChange → Option SessionStateType
 type_of (change.IsTracked b) = Some kind.SESSION_TRACK_STATE_CHANGE
 type_of (change.Schema s) = Some kind.SESSION_TRACK_SCHEMA
@@ -20,7 +20,7 @@ type_of (change.TransactionCharacteristics c) = Some kind.SESSION_TRACK_TRANSACT
 type_of (change.TransactionState s) = Some kind.SESSION_TRACK_TRANSACTION_STATE
 type_of (change.Unsupported u) = None
 
--- the data: of whether changes are tracked `31` or `30` alone, of GTIDs the encoding before the text, and else the defined bytes
+-- the data: `31` or `30` for whether changes are tracked; for GTIDs the encoding before the text; otherwise the defined bytes
 abbrev pub sent_data : SessionStateChange → List ℕ
 sent_data (change.IsTracked true) = 49 ∷ []
 sent_data (change.IsTracked false) = 48 ∷ []
@@ -31,15 +31,15 @@ sent_data (change.TransactionCharacteristics c) = session_state_change_bytes (ch
 sent_data (change.TransactionState s) = session_state_change_bytes (change.TransactionState s)
 sent_data (change.Unsupported u) = session_state_change_bytes (change.Unsupported u)
 
--- an entry of that type, with that data
+-- an entry with this type and data
 abbrev pub info_of : SessionStateType → List ℕ → SessionStateInfo
 info_of type content = record { data_type = record { 0 = type; 1 = record {} }; content = content }
 
--- the entry of a change, none of one of another kind
+-- the entry of a change, if its type is known
 abbrev pub sent_info : SessionStateChange → Option SessionStateInfo
 sent_info c = option_map (λ type. info_of type (sent_data c)) (type_of c)
 
--- what makes the entry of a change be read again: a length of its GTIDs' text that eight bytes can tell, too
+-- when the entry of a change is read back: the length of a GTID text is below 2^64, too
 abbrev pub SentIsShort : SessionStateChange → Type 0
 SentIsShort (change.IsTracked b) = ChangeIsShort (change.IsTracked b)
 SentIsShort (change.Schema s) = ChangeIsShort (change.Schema s)
@@ -49,8 +49,8 @@ SentIsShort (change.TransactionCharacteristics c) = ChangeIsShort (change.Transa
 SentIsShort (change.TransactionState s) = ChangeIsShort (change.TransactionState s)
 SentIsShort (change.Unsupported u) = ChangeIsShort (change.Unsupported u)
 
--- The entry of such a change takes no memory: it is one byte that lies in the program, or no byte, or there is none. A
--- length-encoded text has at least the byte of its length.
+-- The entry of such a change needs no allocation: it is a static byte, or empty, or absent. A length-encoded text has at least its length
+-- byte.
 abbrev pub TakesNoMemory : SessionStateChange → Type 0
 TakesNoMemory (change.IsTracked b) = Unit {0}
 TakesNoMemory (change.Schema s) = ⊥

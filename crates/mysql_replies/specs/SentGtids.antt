@@ -1,9 +1,9 @@
--- The data of a change of GTIDs, as servers send it.
+-- The data of a GTID change as servers send it.
 use Rattle.std.specs.Prelude.{ℕ, List, refl}
 use Rattle.mysql_wire.specs.Codecs.{Codec, Fields, ◌>>=◌, give, field, packet, const_u8, string_lenenc}
 use Rattle.mysql_replies.specs.declared.sent_gtids.SentGtids.{SentGtids}
 
--- the bytes of the text, and the set of that text
+-- the text's bytes, and the set with that text
 abbrev pub gtids_text : SentGtids → List ℕ
 gtids_text g = g.text
 

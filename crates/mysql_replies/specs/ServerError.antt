@@ -1,4 +1,4 @@
--- An error that a server reports.
+-- An error from a server.
 use Rattle.std.specs.Prelude.{◌≡◌, ℕ, List, ◌++◌, length, Option, Some, None, Bool, IsTrue, IsFalse, codes, decimal, refl}
 use Rattle.mysql_wire.specs.Text.{lossy_text}
 use Rattle.mysql_wire.specs.Codecs.{Codec, Fields, ◌>>=◌, give, field, packet, from_context, when, without_context, string_eof}
@@ -6,7 +6,7 @@ use Rattle.mysql_replies.specs.SqlState.{sql_state, state_bytes}
 use Rattle.mysql_replies.specs.declared.sql_state.SqlState.{SqlState}
 use Rattle.mysql_replies.specs.declared.server_error.ServerError.{ServerError}
 
--- the number, the state, and the bytes of the message
+-- the code, the SQL state, and the bytes of the message
 abbrev pub error_code : ServerError → ℕ
 error_code e = e.code
 
@@ -16,11 +16,11 @@ sql_state_of e = e.state
 abbrev pub message : ServerError → List ℕ
 message e = e.message
 
--- the error of these
+-- the error with these fields
 abbrev pub error_of : ℕ → Option SqlState → List ℕ → ServerError
 error_of code state message = record { code = code; state = state; message = message }
 
--- the code that the reader is passed, the state where one is sent, and the message to the end
+-- the code that the reader gets, the SQL state if one is sent, and the message to the end
 abbrev pub server_error_fields : Fields (ℕ × Bool) ServerError ServerError
 server_error_fields = do
   code ← field error_code (from_context (λ c. c.0))
@@ -40,7 +40,7 @@ error_text_of code (Some state) message =
 abbrev pub error_text : ServerError → List ℕ
 error_text e = error_text_of e.code e.state e.message
 
--- the state is there just where the reader is passed so, and has five bytes
+-- the state is present exactly if the reader expects one, and has five bytes
 abbrev pub StateFits : Bool → Option SqlState → Type 0
 StateFits has_state None = IsFalse has_state
 StateFits has_state (Some state) = IsTrue has_state × (length (state_bytes state) ≡ 5)

@@ -1,4 +1,4 @@
--- The session's changes, one after another, in the layouts that servers send.
+-- The session's changes, in order, in the layouts that servers send.
 use Rattle.std.specs.Prelude.{◌≡◌, ◌≢◌, ℕ, List, [], ◌∷◌, length, Option, Some, None, Result, Ok, Err, Bool, true, false, ◌&&◌, ◌==◌, if◌then◌else◌}
 use Rattle.mysql_wire.specs.declared.codes.session_state_type.SessionStateType.{SessionStateType}
 use Rattle.mysql_wire.specs.declared.codes.session_state_type.SessionStateType.TheVariants as kind
@@ -30,18 +30,18 @@ is_gtids kind.SESSION_TRACK_STATE_CHANGE = false
 is_gtids kind.SESSION_TRACK_TRANSACTION_CHARACTERISTICS = false
 is_gtids kind.SESSION_TRACK_TRANSACTION_STATE = false
 
--- what is read; where that is refused, one byte alone is the truth value
+-- the reader's answer; if it refuses, a single byte is the truth value
 abbrev pub sent_unless_read : Bool → List ℕ → Reading SessionStateChange → Reading SessionStateChange
 sent_unless_read one bytes (Ok x) = Ok x
 sent_unless_read true bytes (Err kind) = Ok (is_tracked bytes, [])
 sent_unless_read false bytes (Err kind) = Err kind
 
--- the GTIDs that were read, the bytes after them dropped
+-- the GTIDs that were read, without the bytes after them
 abbrev pub gtids_of : Reading SentGtids → Reading SessionStateChange
 gtids_of (Ok x) = Ok (change.Gtids (text_of (gtids_text x.0)), [])
 gtids_of (Err kind) = Err kind
 
--- the change that data of this type begins with, or the state change that one byte is; GTIDs have an encoding before their text
+-- the change at the beginning of data of this type, or the state change that a single byte is; GTIDs have an encoding before their text
 abbrev pub change_as_sent : SessionStateType → List ℕ → Reading SessionStateChange
 change_as_sent type bytes =
     if is_gtids type then gtids_of ((sent_gtids.form tt).reads bytes)
@@ -50,7 +50,7 @@ change_as_sent type bytes =
 abbrev pub decoded_as_sent : SessionStateInfo → Reading SessionStateChange
 decoded_as_sent i = change_as_sent (data_type i) (data_bytes i)
 
--- what comes after an entry, whatever its type: nothing, where it is cut
+-- the rest after an entry of any type: nothing if the entry is cut off
 abbrev pub rest_of : {A : Type 0} → Reading A → List ℕ
 rest_of (Ok x) = x.1
 rest_of (Err kind) = []
@@ -59,23 +59,23 @@ abbrev pub after_entry : List ℕ → List ℕ
 after_entry [] = []
 after_entry (type ∷ bytes) = rest_of (lenenc_string.reads bytes)
 
--- the next entry of the bytes that are left, or its fault, and what is left then: after a fault what follows an entry of any type
+-- the next entry, or its fault, and the rest of the bytes: after a fault the rest after an entry of any type
 abbrev pub NextEntry : List ℕ → Option (Result SessionStateInfo FaultOf) → List ℕ → Type 0
 NextEntry bytes None rest = (bytes ≡ []) × (rest ≡ [])
 NextEntry bytes (Some (Ok i)) rest = (bytes ≢ []) × ((session_state_info.form tt).reads bytes ≡ Ok (i, rest))
 NextEntry bytes (Some (Err fault)) rest = (bytes ≢ []) × Faults false fault ((session_state_info.form tt).reads bytes) × (rest ≡ after_entry bytes)
 
--- the answer for an entry that was read, with what follows it; or its fault, and what follows an entry of any type
+-- the answer for an entry that was read, with the rest after it; or its fault, and the rest after an entry of any type
 abbrev pub ChangeOf : (SessionStateInfo → Bool) → List ℕ → Reading SessionStateInfo → Result SessionStateChange FaultOf → List ℕ → Type 0
 ChangeOf takes_memory bytes (Ok x) r rest = Answers (takes_memory x.0) r [] (decoded_as_sent x.0) × (rest ≡ x.1)
 ChangeOf takes_memory bytes (Err kind) (Ok change) rest = ⊥
 ChangeOf takes_memory bytes (Err kind) (Err fault) rest = Faults {A = SessionStateInfo} false fault (Err kind) × (rest ≡ after_entry bytes)
 
--- the next change of the bytes that are left, and what is left then, where the entries that the test tells take memory
+-- the next change and the rest of the bytes; the predicate tells which entries take memory
 abbrev pub NextOf : (SessionStateInfo → Bool) → List ℕ → Option (Result SessionStateChange FaultOf) → List ℕ → Type 0
 NextOf takes_memory bytes None rest = (bytes ≡ []) × (rest ≡ [])
 NextOf takes_memory bytes (Some r) rest = (bytes ≢ []) × ChangeOf takes_memory bytes ((session_state_info.form tt).reads bytes) r rest
 
--- the same, where a list of system variables takes memory
+-- `next_change`, where a list of system variables takes memory
 abbrev pub NextChange : List ℕ → Option (Result SessionStateChange FaultOf) → List ℕ → Type 0
 NextChange bytes r rest = NextOf (λ i. lists_variables (data_type i) (data_bytes i)) bytes r rest

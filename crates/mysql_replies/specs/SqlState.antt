@@ -7,7 +7,7 @@ use Rattle.mysql_replies.specs.declared.sql_state.SqlState.{SqlState}
 abbrev pub state_bytes : SqlState → List ℕ
 state_bytes s = s.state
 
--- the state of these bytes
+-- the state with these bytes
 abbrev pub state_of : List ℕ → SqlState
 state_of state = record { marker = record { 0 = record {} }; state = state }
 
@@ -17,6 +17,6 @@ sql_state_fields = do
   state ← field state_bytes (byte_array 5)
   give (record { marker = marker; state = state })
 
--- six bytes: `#`, and five bytes with any values
+-- six bytes: `#`, and any five bytes
 unfoldable pub sql_state : Codec (Unit {0}) SqlState
 sql_state = packet (block 6 sql_state_fields (λ s. refl)) (λ s. refl)

@@ -198,7 +198,7 @@ impl ColumnNames {
         ensures value { IfOk result (λ copy. copy ≡ names.now) }
         ensures err { OnErr result (IsTrue (spec.has_a_name names.now)) }
     {
-        // (no buffer has capacity for `usize::MAX` bytes)
+        // No buffer has capacity for `usize::MAX` bytes.
         let mut bytes = Vec::with_capacity(alloc, names.len())?;
         let schema_end = put(names.schema, &mut bytes);
         let table_end = put(names.table, &mut bytes);

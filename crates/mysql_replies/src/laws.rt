@@ -153,60 +153,18 @@ pub fn borrowed_columns_read_columns()
     ensures read { (bytes : List ℕ) → (⟦<crate::column_ref::ColumnRef<'static> as MyDeserialize<'static>>⟧.form tt).reads bytes ≡ (column.form tt).reads bytes }
 {}
 
-/// A column has no constant size.
-pub fn column_has_no_constant_size() -> Option<usize>
-    ensures value { result ≡ None }
+/// Each packet states its size: the fixed fields of a column take 13 bytes, an SQL state 6, and nothing else has a constant size.
+pub fn each_packet_has_its_size() -> bool
+    ensures value { IsTrue result }
 {
-    <crate::column::Column as MyDeserialize>::SIZE
-}
-
-/// The fixed fields of a column take 13 bytes.
-pub fn column_fields_size() -> Option<usize>
-    ensures value { result ≡ Some 13 }
-{
-    <crate::column_fields::ColumnFields as MyDeserialize>::SIZE
-}
-
-/// An error or a progress report has no constant size.
-pub fn err_packet_has_no_constant_size() -> Option<usize>
-    ensures value { result ≡ None }
-{
-    <crate::err_packet::ErrPacket<'static> as MyDeserialize>::SIZE
-}
-
-/// A request for a local file has no constant size.
-pub fn local_infile_has_no_constant_size() -> Option<usize>
-    ensures value { result ≡ None }
-{
-    <crate::local_infile::LocalInfilePacket<'static> as MyDeserialize>::SIZE
-}
-
-/// A progress report has no constant size.
-pub fn progress_report_has_no_constant_size() -> Option<usize>
-    ensures value { result ≡ None }
-{
-    <crate::progress_report::ProgressReport<'static> as MyDeserialize>::SIZE
-}
-
-/// An error has no constant size.
-pub fn server_error_has_no_constant_size() -> Option<usize>
-    ensures value { result ≡ None }
-{
-    <crate::server_error::ServerError<'static> as MyDeserialize>::SIZE
-}
-
-/// An entry of a state string has no constant size.
-pub fn session_state_info_has_no_constant_size() -> Option<usize>
-    ensures value { result ≡ None }
-{
-    <crate::session_state_info::SessionStateInfo<'static> as MyDeserialize>::SIZE
-}
-
-/// An SQL state takes 6 bytes.
-pub fn sql_state_size() -> Option<usize>
-    ensures value { result ≡ Some 6 }
-{
-    <crate::sql_state::SqlState as MyDeserialize>::SIZE
+    crate::column_fields::ColumnFields::SIZE == Some(13)
+        && crate::SqlState::SIZE == Some(6)
+        && crate::Column::SIZE.is_none()
+        && crate::ErrPacket::<'static>::SIZE.is_none()
+        && crate::LocalInfilePacket::<'static>::SIZE.is_none()
+        && crate::ProgressReport::<'static>::SIZE.is_none()
+        && crate::ServerError::<'static>::SIZE.is_none()
+        && crate::SessionStateInfo::<'static>::SIZE.is_none()
 }
 
 /// Columns are equal exactly where they are the same.

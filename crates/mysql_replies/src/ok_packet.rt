@@ -328,7 +328,7 @@ impl<'de, T: OkPacketKind> MyDeserialize<'de> for OkPacketDeserializer<'de, T> {
 
     ghost form = { λ capabilities. spec.ok_packet T.HEADER (T.body capabilities) };
 
-    // (a caller that has it in line knows that the texts are borrowed, and need not be released)
+    // Inlined: a caller then knows that the texts are borrowed, and drops nothing.
     #[inline(always)]
     #[tactic(auto, unfolding(crate::specs::OkPacket::ok_packet))]
     fn deserialize<'s>(agreed: Self::Ctx, buf: &mut ParseBuf<'de>) -> Result<Self, FaultOf<'s>> {

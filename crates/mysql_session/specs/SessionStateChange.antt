@@ -1,4 +1,4 @@
--- A change of a session's state.
+-- A change of the session's state.
 use Rattle.std.specs.Prelude.{refl, ◌≡◌, ℕ, ◌<◌, ◌^◌, length, All, List, [], ◌∷◌, None, Bool, true, false, codes, nat_eq}
 use Rattle.std.specs.Cmp.Lexicographic.{pointwise}
 use Rattle.mysql_wire.specs.declared.codes.session_state_type.SessionStateType.{SessionStateType}
@@ -16,7 +16,7 @@ use Rattle.mysql_session.specs.SystemVariables.{system_variables, begins_with_va
 abbrev pub is_tracked : List ℕ → SessionStateChange
 is_tracked content = change.IsTracked (pointwise nat_eq content (codes "1"))
 
--- what the data of each type is
+-- the data of each type
 unfoldable pub session_state_change : SessionStateType → Form SessionStateChange
 session_state_change kind.SESSION_TRACK_SYSTEM_VARIABLES = map change.SystemVariables (system_variables.form tt)
 session_state_change kind.SESSION_TRACK_SCHEMA = map change.Schema (lenenc_text.form tt)
@@ -43,7 +43,7 @@ lists_variables kind.SESSION_TRACK_GTIDS bytes = false
 lists_variables kind.SESSION_TRACK_TRANSACTION_CHARACTERISTICS bytes = false
 lists_variables kind.SESSION_TRACK_TRANSACTION_STATE bytes = false
 
--- the bytes of each kind; `01 31` or `01 30` of whether changes are tracked
+-- the bytes of each type; `01 31` or `01 30` says whether changes are tracked
 unfoldable pub session_state_change_bytes : SessionStateChange → List ℕ
 session_state_change_bytes (change.IsTracked true) = 1 ∷ 49 ∷ []
 session_state_change_bytes (change.IsTracked false) = 1 ∷ 48 ∷ []
@@ -54,7 +54,7 @@ session_state_change_bytes (change.TransactionCharacteristics c) = lenenc_text.b
 session_state_change_bytes (change.TransactionState s) = lenenc_text.bytes s
 session_state_change_bytes (change.Unsupported u) = lenenc_text.bytes u
 
--- The reader is passed the kind of the change. A change of another kind is never read.
+-- The reader gets the type of the change. A change of another type is never read.
 abbrev pub ChangeFits : SessionStateType → SessionStateChange → List ℕ → Type 0
 ChangeFits k (change.IsTracked b) rest = k ≡ kind.SESSION_TRACK_STATE_CHANGE
 ChangeFits k (change.Schema s) rest = (k ≡ kind.SESSION_TRACK_SCHEMA) × lenenc_text.fits tt s rest
@@ -64,9 +64,9 @@ ChangeFits k (change.TransactionCharacteristics c) rest = (k ≡ kind.SESSION_TR
 ChangeFits k (change.TransactionState s) rest = (k ≡ kind.SESSION_TRACK_TRANSACTION_STATE) × lenenc_text.fits tt s rest
 ChangeFits k (change.Unsupported u) rest = ⊥
 
--- ---- what makes a change be read again, in plain words
+-- ---- when a change is read back, in plain words
 
--- the type that the reader of such a change is passed; none reads a change of another kind
+-- the type that the reader of this change gets; no reader takes a change of another type
 abbrev pub IsOfKind : SessionStateType → SessionStateChange → Type 0
 IsOfKind k (change.IsTracked b) = k ≡ kind.SESSION_TRACK_STATE_CHANGE
 IsOfKind k (change.Schema s) = k ≡ kind.SESSION_TRACK_SCHEMA
@@ -76,7 +76,7 @@ IsOfKind k (change.TransactionCharacteristics c) = k ≡ kind.SESSION_TRACK_TRAN
 IsOfKind k (change.TransactionState s) = k ≡ kind.SESSION_TRACK_TRANSACTION_STATE
 IsOfKind k (change.Unsupported u) = ⊥
 
--- a length-encoded string has a length that a number of eight bytes can tell
+-- the length of a length-encoded string is less than 2^64
 abbrev pub ChangeIsShort : SessionStateChange → Type 0
 ChangeIsShort (change.IsTracked b) = Unit {0}
 ChangeIsShort (change.Schema s) = length (text_bytes s) < 2 ^ 64
@@ -86,7 +86,7 @@ ChangeIsShort (change.TransactionCharacteristics c) = length (text_bytes c) < 2 
 ChangeIsShort (change.TransactionState s) = length (text_bytes s) < 2 ^ 64
 ChangeIsShort (change.Unsupported u) = length (text_bytes u) < 2 ^ 64
 
--- nothing of the change lies in memory: no byte of a text, and no variable
+-- the change owns no memory: no byte of a text, and no variable
 abbrev pub OwnsNothing : SessionStateChange → Type 0
 OwnsNothing (change.IsTracked b) = Unit {0}
 OwnsNothing (change.Schema s) = text_bytes s ≡ []

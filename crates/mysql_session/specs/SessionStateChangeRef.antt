@@ -1,4 +1,4 @@
--- A change of a session's state where it lies.
+-- A borrowed change of the session's state.
 use Rattle.std.specs.Prelude.{◌≢◌, []}
 use Rattle.mysql_session.specs.SessionText.{text_of}
 use Rattle.mysql_session.specs.declared.session_state_change.SessionStateChange.{SessionStateChange}
@@ -6,7 +6,7 @@ use Rattle.mysql_session.specs.declared.session_state_change.SessionStateChange.
 use Rattle.mysql_session.specs.declared.session_state_change_ref.ChangeRef.{ChangeRef}
 use Rattle.mysql_session.specs.declared.session_state_change_ref.ChangeRef.TheVariants as place
 
--- the change that lies there
+-- the change that these bytes are
 abbrev pub change_of : ChangeRef → SessionStateChange
 change_of (place.IsTracked is_tracked) = change.IsTracked is_tracked
 change_of (place.Schema schema) = change.Schema (text_of schema.now)

@@ -18,7 +18,7 @@ text_bytes text = text.0
 abbrev pub text_of : {N R : Type 0} → List ℕ → SessionText N R
 text_of bytes = record { 0 = bytes; 1 = record {} }
 
--- a text in the form of its bytes
+-- the wire form of a text
 abbrev pub session_text : {N R : Type 0} → form.Form (List ℕ) → form.Form (SessionText N R)
 session_text bytes = form.◌>>=◌ bytes (λ content. form.give (text_of content))
 
@@ -27,7 +27,7 @@ session_text_fields bytes = do
   content ← field text_bytes bytes
   give (text_of content)
 
--- ---- the texts by their names
+-- ---- the kinds of text
 
 abbrev pub Schema : Type 0
 Schema = SessionText SchemaName LenEnc
@@ -44,10 +44,10 @@ TransactionState = SessionText TransactionStateText LenEnc
 abbrev pub Unsupported : Type 0
 Unsupported = SessionText UnsupportedText LenEnc
 
--- all but GTIDs: the length-encoded bytes
+-- all but GTIDs: length-encoded bytes
 unfoldable pub lenenc_text : {N : Type 0} → Codec (Unit {0}) (SessionText N LenEnc)
 lenenc_text = packet (session_text_fields string_lenenc) (λ text. refl)
 
--- GTIDs: all that is left
+-- GTIDs: the rest of the bytes
 unfoldable pub gtids : Codec (Unit {0}) Gtids
 gtids = packet (session_text_fields string_eof) (λ text. refl)

@@ -10,10 +10,10 @@ pub some-variable : (v : SystemVariable) → 0 < system_variable.len v
 unfolding system_variable
 some-variable v = some-then _ (some-lenenc (variable_name v))
 
--- variables, to the end
+-- variables up to the end of the bytes
 unfoldable pub system_variables : Codec (Unit {0}) (List SystemVariable)
 system_variables = list_to_end system_variable some-variable
 
--- whether the bytes begin with a variable: before one is read, no list is made
+-- whether the bytes begin with a variable: no list is allocated before one is read
 abbrev pub begins_with_variable : List ℕ → Bool
 begins_with_variable = many_asks (λ _. false) (system_variable.form tt)

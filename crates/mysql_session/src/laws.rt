@@ -3,7 +3,7 @@
 //! Each law is a function with nothing in it, whose contract holds for all values.
 #![tactic(auto, using(mysql_wire::proofs::Packets::packets))]
 
-ghost use Rattle.std.specs.Prelude.{◌≡◌, ◌++◌, ◌<◌, ◌^◌, ◌↔◌, [], List, ℕ, length, None, IsTrue};
+ghost use Rattle.std.specs.Prelude.{◌≡◌, ◌++◌, ◌<◌, ◌^◌, ◌↔◌, [], List, ℕ, length, IsTrue};
 ghost use Rattle.std.specs.List.{All};
 ghost use Rattle.mysql_wire.specs.declared.codes.session_state_type.SessionStateType.{SessionStateType};
 ghost use Rattle.mysql_session.specs.declared.session_state_change.SessionStateChange.{SessionStateChange};
@@ -79,25 +79,13 @@ pub fn equal_parts_hash_equally()
     ensures unsupported { (x y : Unsupported) → IsTrue (⟦<crate::Unsupported<'static> as PartialEq>⟧.eq x y) → ⟦<crate::Unsupported<'static> as Hash>⟧.hash_input x ≡ ⟦<crate::Unsupported<'static> as Hash>⟧.hash_input y }
 {}
 
-/// A change of a session's state has no constant size.
-pub fn session_state_change_has_no_constant_size() -> Option<usize>
-    ensures { result ≡ None }
+/// Neither a change of the session's state nor a system variable has a constant size.
+pub fn each_packet_has_its_size() -> bool
+    ensures value { IsTrue result }
 {
-    <crate::session_state_change::SessionStateChange as MyDeserialize>::SIZE
-}
-
-/// A system variable has no constant size.
-pub fn system_variable_has_no_constant_size() -> Option<usize>
-    ensures { result ≡ None }
-{
-    <crate::system_variable::SystemVariable as MyDeserialize>::SIZE
-}
-
-/// System variables have no constant size.
-pub fn system_variables_have_no_constant_size() -> Option<usize>
-    ensures { result ≡ None }
-{
-    <crate::system_variables::SystemVariables as MyDeserialize>::SIZE
+    crate::SessionStateChange::SIZE.is_none()
+        && crate::SystemVariable::SIZE.is_none()
+        && crate::SystemVariables::SIZE.is_none()
 }
 
 /// System variables, and lists of them, compare equal exactly if they are the same.

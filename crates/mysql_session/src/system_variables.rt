@@ -72,7 +72,7 @@ impl Clone for SystemVariables<'_> {
     ghost is_infallible = { λ v. v ≡ [] };
 
     fn clone(&self) -> Result<Self, AllocError> {
-        // (a list's clone may be refused, by its contract)
+        // By its contract, cloning a list may fail.
         if self.0.is_empty() {
             return Ok(SystemVariables(Vec::new(*self.0.allocator())));
         }
@@ -119,7 +119,7 @@ impl<'de> MyDeserialize<'de> for SystemVariables<'de> {
 
     #[tactic(auto, using(mysql_wire::proofs::Packets::packets), unfolding(crate::specs::SystemVariables::system_variables, mysql_wire::specs::Many::many))]
     fn deserialize<'s>(_ctx: (), buf: &mut ParseBuf<'de>) -> Result<Self, FaultOf<'s>> {
-        // (for no variable no memory is taken)
+        // Without variables nothing is allocated.
         if buf.is_empty() {
             return Ok(SystemVariables(Vec::new(buf.alloc())));
         }

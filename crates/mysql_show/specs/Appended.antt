@@ -1,6 +1,6 @@
--- What is left of a text that is written to.
+-- Text that is appended.
 use Rattle.std.specs.Prelude.{◌≡◌, ℕ, List, ◌++◌}
 
--- what stood before stays
+-- the earlier text is unchanged
 abbrev pub Stays : List ℕ → List ℕ → Type 0
 Stays old new = (more : List ℕ) × (new ≡ old ++ more)

@@ -13,11 +13,11 @@ use Rattle.mysql_show.specs.Fields.{Held, Number, Bytes, Digits, Word, Flag, Val
 use Rattle.mysql_show.specs.FieldText.{date_text, offset_date_text, time_text}
 use Rattle.mysql_show.specs.Floats.{float_data, float_in, double_in}
 
--- digits, as the one member of an object
+-- digits, as the only member of an object
 abbrev pub digits_data : List ℕ → Data
 digits_data bytes = object (member (codes "hex") (string (encode_lower bytes)) no_members)
 
--- bytes: a text where they are UTF-8, else their digits
+-- bytes: a text if they are UTF-8, otherwise their hexadecimal digits
 abbrev pub bytes_data : List ℕ → Data
 bytes_data bytes = if is_utf8 bytes then string bytes else digits_data bytes
 
@@ -50,24 +50,24 @@ held_data (OptionalBytes bytes) = or_null bytes_data bytes
 abbrev pub has_name : List ℕ → Said → Bool
 has_name name field = bytes_eq field.name name
 
--- the fields of which a packet may have many with one name
+-- the fields of which a packet may have several with one name
 abbrev pub is_item : Said → Bool
 is_item field =
     has_name (codes "attribute") field || (has_name (codes "attribute_value") field || (has_name (codes "parameter") field
     || (has_name (codes "value") field || (has_name (codes "variable") field || (has_name (codes "variable_value") field
     || has_name (codes "expected") field)))))
 
--- a member for each field that is no item
+-- a member for each field that is not an item
 abbrev pub with_members : List Said → Members → Members
 with_members [] members = members
 with_members (field ∷ fields) members = with_members fields (if is_item field then members else put field.name (held_data field.held) members)
 
--- what the fields with this name hold
+-- the contents of the fields with this name
 abbrev pub items_named : List ℕ → List Said → List Data
 items_named name [] = []
 items_named name (field ∷ fields) = if has_name name field then held_data field.held ∷ items_named name fields else items_named name fields
 
--- an array, where there is an item
+-- an array, if there is an item
 abbrev pub with_items : List ℕ → List Data → Members → Members
 with_items name [] members = members
 with_items name (first ∷ more) members = put name (array (items_of (first ∷ more))) members
@@ -75,13 +75,13 @@ with_items name (first ∷ more) members = put name (array (items_of (first ∷ 
 unfoldable pub with_list : List ℕ → List Said → Members → Members
 with_list name fields members = with_items name (items_named name fields) members
 
--- the arrays of the items
+-- arrays of items
 unfoldable pub with_lists : List Said → Members → Members
 with_lists fields members =
     with_list (codes "expected") fields (with_list (codes "variable_value") fields (with_list (codes "variable") fields (with_list (codes "value") fields
     (with_list (codes "parameter") fields (with_list (codes "attribute_value") fields (with_list (codes "attribute") fields members))))))
 
--- the fields of a head, those that are no items, and the arrays of the items
+-- the fields of a head, those that are not items, and the arrays of items
 unfoldable pub object_of : List Said → List Said → Data
 object_of head fields = object (with_lists fields (with_members fields (with_members head no_members)))
 
@@ -89,7 +89,7 @@ object_of head fields = object (with_lists fields (with_members fields (with_mem
 abbrev pub object_line : List Said → List Said → List ℕ
 object_line head fields = compact_text (object_of head fields) ++ codes "\n"
 
--- Also where there are floats, whose digits no clause knows: the text has the object's members, each once and in order, and is read as the object.
+-- With floats, whose digits no clause specifies: the text has the object's members, each once and in order, and parses as the object.
 abbrev pub IsObjectText : List Said → List Said → List ℕ → Type 0
 IsObjectText head fields text = IsInOrder text (object_of head fields) × (depth (object_of head fields) ≤ max_depth → read text ≡ Some (object_of head fields))
 

@@ -11,11 +11,11 @@ use Rattle.mysql_values.specs.declared.temporal.TimeSpan.{TimeSpan}
 use Rattle.mysql_show.specs.Fields.{Held, Number, Bytes, Digits, Word, Flag, Value, WithOffset, OptionalNumber, OptionalBytes, Said}
 use Rattle.mysql_show.specs.Floats.{IsFloatText, float_in, double_in}
 
--- bytes: digits after an x
+-- bytes: hexadecimal digits after an x
 abbrev pub prefixed : List ℕ → List ℕ
 prefixed bytes = codes "x" ++ encode_lower bytes
 
--- a number with zeros before it, of a given number of digits at the least
+-- a number padded with zeros to a given number of digits
 abbrev pub wide : ℕ → ℕ → List ℕ
 wide width n = padded_integral (format_spec 32 0 4 width (2 ^ 64 - 1)) false [] (decimal n)
 
@@ -32,7 +32,7 @@ abbrev pub sign_text : Bool → List ℕ
 sign_text true = codes "-"
 sign_text false = []
 
--- a time: its days before the hours
+-- a time: days before hours
 abbrev pub time_text : TimeSpan → List ℕ
 time_text time = sign_text time.is_negative ++ (decimal time.days ++ (codes " " ++ clock_text time.clock.hour time.clock.minute time.clock.second time.micros))
 
@@ -40,16 +40,16 @@ time_text time = sign_text time.is_negative ++ (decimal time.days ++ (codes " " 
 abbrev pub minutes_text : (sign : List ℕ) → ℕ → List ℕ
 minutes_text sign minutes = sign ++ (wide 2 (minutes / 60) ++ (codes ":" ++ wide 2 (minutes % 60)))
 
--- an offset from UTC: its sign, hours and minutes
+-- a UTC offset: its sign, hours and minutes
 abbrev pub offset_text : ℤ → List ℕ
 offset_text (pos minutes) = minutes_text (codes "+") minutes
 offset_text (negsuc n) = minutes_text (codes "-") (suc n)
 
--- a date and a time with its offset
+-- a date and time with its offset
 abbrev pub offset_date_text : DateTimeWithOffset → List ℕ
 offset_date_text d = date_text (date_of d.year d.month d.day d.hour d.minute d.second d.micros) ++ offset_text d.offset_minutes
 
--- what stands for a value that is no float
+-- a value that is not a float
 abbrev pub value_text : Content → List ℕ
 value_text value.NULL = codes "NULL"
 value_text (value.Bytes bytes) = prefixed bytes
@@ -64,7 +64,7 @@ abbrev pub flag_text : Bool → List ℕ
 flag_text true = codes "yes"
 flag_text false = codes "no"
 
--- what may be absent
+-- an optional value
 abbrev pub or_none : {A : Type 0} → (A → List ℕ) → Option A → List ℕ
 or_none show None = codes "none"
 or_none show (Some value) = show value
@@ -80,7 +80,7 @@ held_text (WithOffset date) = offset_date_text date
 held_text (OptionalNumber n) = or_none decimal n
 held_text (OptionalBytes bytes) = or_none prefixed bytes
 
--- a name and what the field holds
+-- a name and the field's content
 unfoldable pub line_of : Said → List ℕ
 line_of field = field.name ++ (codes ": " ++ (held_text field.held ++ codes "\n"))
 
@@ -88,9 +88,9 @@ line_of field = field.name ++ (codes ": " ++ (held_text field.held ++ codes "\n"
 abbrev pub lines_of : List Said → List ℕ
 lines_of fields = concat (map line_of fields)
 
--- ---- floats, whose digits no clause knows
+-- ---- floats, whose digits no clause specifies
 
--- the text is that of the value, also of a float
+-- the text is that of the value, which may be a float
 abbrev pub IsValueText : Content → List ℕ → Type 0
 IsValueText (value.Float bits) text = IsFloatText (float_in bits) text
 IsValueText (value.Double bits) text = IsFloatText (double_in bits) text
@@ -100,7 +100,7 @@ abbrev pub IsHeldText : Held → List ℕ → Type 0
 IsHeldText (Value v) text = IsValueText v text
 IsHeldText held text = text ≡ held_text held
 
--- a name and what the field holds
+-- a name and the field's content
 abbrev pub IsLine : Said → List ℕ → Type 0
 IsLine field line = (text : List ℕ) × IsHeldText field.held text × (line ≡ field.name ++ (codes ": " ++ (text ++ codes "\n")))
 

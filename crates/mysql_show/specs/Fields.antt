@@ -1,4 +1,4 @@
--- What fields hold.
+-- The contents of fields.
 use Rattle.std.specs.Prelude.{ℕ, ◌||◌, List, [], ◌∷◌, Bool, true, false, Option, option_map}
 use Rattle.mysql_values.specs.Value.{Content}
 use Rattle.mysql_values.specs.Value as value
@@ -9,7 +9,7 @@ use Rattle.mysql_values.specs.declared.date_time_with_offset.DateTimeWithOffset.
 use Rattle.mysql_show.specs.declared.field.Shown.{Shown}
 use Rattle.mysql_show.specs.declared.field.Shown.TheVariants as shows
 
--- what a field holds, whoever keeps its bytes
+-- what a field contains, borrowed or not
 pub data Held : Type 0 where
   Number : ℕ → Held
   Bytes : List ℕ → Held
@@ -21,7 +21,7 @@ pub data Held : Type 0 where
   OptionalNumber : Option ℕ → Held
   OptionalBytes : Option (List ℕ) → Held
 
--- a field: its name, and what it holds
+-- a field: its name and its content
 pub record Said : Type 0 where
   pub name : List ℕ
   pub held : Held
@@ -40,12 +40,12 @@ held_of (shows.DateTimeWithOffset date) = WithOffset date
 held_of (shows.OptionalNumber n) = OptionalNumber n
 held_of (shows.OptionalBytes bytes) = OptionalBytes (option_map (λ b. b.now) bytes)
 
--- a value of a parameter or an attribute
+-- the value of a parameter or an attribute
 abbrev pub param_held : ParamContent → Held
 param_held (param.Plain value) = Value value
 param_held (param.WithOffset date) = WithOffset date
 
--- a float, whose digits no clause knows
+-- a float, whose digits no clause specifies
 abbrev pub value_is_float : Content → Bool
 value_is_float (value.Float bits) = true
 value_is_float (value.Double bits) = true

@@ -1,4 +1,4 @@
--- The fields of packets before the commands, and of a change of user. None of those of the client proves who the user is.
+-- The fields of packets before the commands, and of a change of user. Scrambles' answers and passwords are not shown.
 use Rattle.std.specs.Prelude.{ℕ, List, [], ◌∷◌, ◌++◌, Option, Some, None, codes, option_map}
 use Rattle.mysql_auth.specs.AuthPlugin.{plugin_name}
 use Rattle.mysql_auth.specs.ComChangeUser as change
@@ -14,14 +14,14 @@ use Rattle.mysql_auth.specs.declared.plugin_request.PluginRequest.{PluginRequest
 use Rattle.mysql_auth.specs.declared.ssl_request.SslRequest.{SslRequest}
 use Rattle.mysql_show.specs.Fields.{Said, said, Number, Bytes, OptionalBytes}
 
--- the greeting's versions
+-- the versions in the greeting
 abbrev pub version_fields : HandshakePacket → List Said
 version_fields p =
     said (codes "protocol_version") (Number (greeting.protocol_version p))
     ∷ said (codes "server_version") (Bytes (greeting.server_version p))
     ∷ []
 
--- what the greeting says of the connection: the scramble's halves, what the server can do, and its plugin
+-- the rest of the greeting: both halves of the scramble, the server's capabilities, and its plugin
 abbrev pub greeting_fields : HandshakePacket → List Said
 greeting_fields p =
     said (codes "connection_id") (Number (greeting.connection_id p))
@@ -42,7 +42,7 @@ ssl_request_fields r =
     ∷ said (codes "mariadb_ext_capabilities") (Number (tls.mariadb_capabilities r).0)
     ∷ []
 
--- a login's flags, its user and its database, and the name of its plugin
+-- a login's flags, user, database and plugin name
 abbrev pub login_head : HandshakeResponse → List Said
 login_head l =
     said (codes "capabilities") (Number (login.capabilities l).0)
@@ -61,7 +61,7 @@ zstd_fields (Some level) = said (codes "zstd_level") (Number level) ∷ []
 abbrev pub login_fields : HandshakeResponse → List Said
 login_fields l = login_head l ++ zstd_fields (login.zstd_level l)
 
--- a switch of the plugin, or a request for the next factor
+-- a switch of plugins, or a request for the next factor
 abbrev pub plugin_fields : {T : Type 0} → {header : ℕ} → PluginRequest T header → List Said
 plugin_fields r = said (codes "auth_plugin_name") (Bytes (request.plugin_name r)) ∷ said (codes "plugin_data") (Bytes (without_last_zero (request.plugin_data r))) ∷ []
 

@@ -42,11 +42,11 @@ ok_fields ok =
     ∷ said (codes "info") (OptionalBytes (info ok))
     ∷ []
 
--- an EOF packet says no more than these two
+-- an EOF packet has only these two
 abbrev pub end_fields : OkPacket → List Said
 end_fields ok = said (codes "status_flags") (Number (status_flags ok).0) ∷ said (codes "warnings") (Number (warnings ok)) ∷ []
 
--- the end of a result says no numbers of rows and of the last inserted one
+-- the end of a result has no affected rows and no last insert id
 abbrev pub terminator_fields : OkPacket → List Said
 terminator_fields ok =
     said (codes "status_flags") (Number (status_flags ok).0)

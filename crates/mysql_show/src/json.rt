@@ -37,7 +37,7 @@ pub fn append_object(
 {
     let object = object_of(alloc, head, fields)?;
     let text = object.to_string(alloc)?;
-    // (what `write!` leaves where it is refused, no clause says)
+    // No clause says what text a refused `write!` leaves.
     out.push_str(text.as_str())?;
     out.push_str("\n")
 }

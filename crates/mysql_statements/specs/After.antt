@@ -11,7 +11,7 @@ abbrev pub for_data : Option (ℕ × ℕ) → Table → Table
 for_data None t = otherwise t
 for_data (Some x) t = sent_ahead x.0 x.1 t
 
--- a command that is of one statement
+-- a command on one statement
 abbrev pub asked_one : Agreed → ℕ → List ℕ → Option ℕ → Table → Table
 asked_one a code p None t = otherwise t
 asked_one a code p (Some id) t =
@@ -38,7 +38,7 @@ abbrev pub prepared_by : Bool → Option ℕ → (columns params : ℕ) → Bool
 prepared_by memory None columns params follow t = otherwise t
 prepared_by memory (Some id) columns params follow t = prepared memory id params columns follow t
 
--- the table after a packet of this kind, where there is memory or not
+-- the table after a packet of this kind; `memory` says whether an allocation succeeds
 abbrev pub after : Bool → Agreed → PacketKind → List ℕ → Table → Table
 after memory a (kind.Command code) p t = asked a code p t
 after memory a (kind.PrepareOk columns params follow) p t = prepared_by memory (prepared_at p) columns params follow t

@@ -1,4 +1,4 @@
--- How much a table keeps, and which packets have it take memory.
+-- How much a table keeps, and which packets make it allocate.
 use Rattle.std.specs.Prelude.{◌≡◌, ℕ, zero, suc, ◌+◌, ◌≤◌, nat_lt, Bool, true, false, not, ◌&&◌, ◌||◌, List, length, Option, Some, None, is_some, Result, OnOk, OnErr, IsTrue}
 use Rattle.mysql_conversation.specs.Agreements.{Agreed}
 use Rattle.mysql_conversation.specs.declared.packet_kind.PacketKind.{PacketKind}
@@ -10,14 +10,14 @@ use Rattle.mysql_statements.specs.Table.{Table, held, without, has_place, place_
 use Rattle.mysql_statements.specs.declared.task.Task.{Task}
 use Rattle.mysql_statements.specs.declared.task.Task.TheVariants.{Other, Prepare, Definitions, Execution}
 
--- how many definitions of columns are still to be kept
+-- the number of definitions of columns that are still expected
 abbrev pub expected : Task → ℕ
 expected Other = 0
 expected Prepare = 0
 expected (Definitions id params columns) = columns
 expected (Execution id columns) = columns
 
--- no more is kept than may be, nor will be when the definitions have come that are expected
+-- no more is kept than the limits allow, also after the definitions that are expected
 pub record IsWithin (t : Table) : Type 0 where
   pub statements : length t.statements ≤ t.limits.statements
   pub types : held t.statements + expected t.task ≤ t.limits.types
@@ -27,24 +27,24 @@ pub record IsWithin (t : Table) : Type 0 where
 abbrev pub is_known : ℕ → List Kept → Bool
 is_known id ss = is_some (place_of id ss)
 
--- the next definition is that of a column of a statement that is known, and is kept
+-- the next definition is that of a column of a known statement, and is kept
 abbrev pub keeps_column : Task → List Kept → Bool
 keeps_column (Definitions id zero (suc left)) ss = is_known id ss
 keeps_column (Execution id (suc left)) ss = is_known id ss
 keeps_column _ ss = false
 
--- The statement gets a place. It takes memory for its parameters, and for itself where it doesn't stand in the place of one of its number.
+-- The statement is kept. Its parameters take memory, and so does the statement itself unless it replaces one with the same number.
 abbrev pub keeps_statement : Option ℕ → (params columns : ℕ) → Table → Bool
 keeps_statement None params columns t = false
 keeps_statement (Some id) params columns t = has_place t.limits (without id t.statements) (params + columns) && (nat_lt 0 params || not (is_known id t.statements))
 
--- the packet has the table keep a statement, or the definition of a column
+-- the packet makes the table keep a statement or the definition of a column
 abbrev pub takes_memory : Agreed → PacketKind → List ℕ → Table → Bool
 takes_memory a (kind.PrepareOk columns params follow) p t = keeps_statement (prepared_at p) params columns t
 takes_memory a kind.Column p t = is_some (column_at a p) && keeps_column t.task t.statements
 takes_memory a _ p t = false
 
--- the table now is the one after the packet, where there was memory or not, which is asked for alone where something is to be kept
+-- the table is the one after the packet, with or without memory; memory is requested only if something is to be kept
 abbrev pub IsTaken : {A E : Type 0} → Agreed → PacketKind → List ℕ → Table → Result A E → Table → Type 0
 IsTaken a k p t result now =
     (OnOk result (now ≡ after true a k p t)) × (OnErr result (now ≡ after false a k p t)) × (OnErr result (IsTrue (takes_memory a k p t)))

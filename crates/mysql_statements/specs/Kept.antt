@@ -1,15 +1,15 @@
--- What is kept of a prepared statement.
+-- What a table keeps of a prepared statement.
 use Rattle.std.specs.Prelude.{ℕ, Bool, List}
 use Rattle.mysql_prepared.specs.declared.execute_view.BoundParam.{BoundParam}
 use Rattle.mysql_statements.specs.declared.row_column.RowColumn.{RowColumn}
 
 pub record Kept : Type 0 where
-  -- the number that the server gave it
+  -- the number that the server assigned
   pub id : ℕ
-  -- each parameter with its type, and whether its data was sent ahead
+  -- each parameter with its type, and whether long data was sent for it
   pub params : List BoundParam
-  -- an execution gave them their types
+  -- an execution has sent the types
   pub is_bound : Bool
-  -- how many columns its last result has, and those of them whose definitions came
+  -- the number of columns of its last result, and those whose definitions were received
   pub width : ℕ
   pub columns : List RowColumn

@@ -1,4 +1,4 @@
--- What the packets say of statements.
+-- What packets say about statements.
 use Rattle.std.specs.Prelude.{ℕ, List, Option, Some, None, Ok, Err}
 use Rattle.mysql_wire.specs.FlagMasks.{UNSIGNED_FLAG}
 use Rattle.mysql_wire.specs.Flags.{has}
@@ -16,7 +16,7 @@ use Rattle.mysql_prepared.specs.declared.stmt.StmtPacket.{StmtPacket}
 use Rattle.mysql_conversation.specs.Agreements.{Agreed}
 use Rattle.mysql_statements.specs.declared.row_column.RowColumn.{RowColumn}
 
--- the number of a statement, after the first byte of a command
+-- the statement's number, after the command byte
 abbrev pub numbered : Form ℕ
 numbered = do
   code ← byte
@@ -30,7 +30,7 @@ number_in (Err e) = None
 unfoldable pub number_at : List ℕ → Option ℕ
 number_at p = number_in (numbered.reads p)
 
--- the number of a statement that is prepared
+-- the number of a prepared statement
 abbrev pub prepared_in : Reading StmtPacket → Option ℕ
 prepared_in (Ok x) = Some (statement_id x.0)
 prepared_in (Err e) = None
@@ -38,7 +38,7 @@ prepared_in (Err e) = None
 unfoldable pub prepared_at : List ℕ → Option ℕ
 prepared_at p = prepared_in ((stmt.form tt).reads p)
 
--- a column, or a parameter, by its definition
+-- a column or a parameter, by its definition
 abbrev pub row_column : Column → RowColumn
 row_column c = record { column_type = column_type c; is_unsigned = has (flags c).0 UNSIGNED_FLAG }
 
@@ -49,7 +49,7 @@ column_in (Err e) = None
 unfoldable pub column_at : Agreed → List ℕ → Option RowColumn
 column_at a p = column_in ((extended_column.form a.mariadb).reads p)
 
--- the number of a statement, and its parameter whose data is sent ahead
+-- the statement's number, and the parameter whose long data is sent
 abbrev pub data_in : Reading ComStmtSendLongData → Option (ℕ × ℕ)
 data_in (Ok x) = Some (stmt_id x.0, param_index x.0)
 data_in (Err e) = None

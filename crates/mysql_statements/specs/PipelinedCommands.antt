@@ -1,4 +1,4 @@
--- Commands that came before the answers to earlier ones, and wait.
+-- Pipelined commands, which were sent before earlier ones were answered.
 use Rattle.std.specs.Prelude.{◌≡◌, ℕ, ◌<◌, ◌≤◌, nat_lt, nat_le, Bool, ◌&&◌, List, [], ◌∷◌, ◌++◌, length, if◌then◌else◌}
 use Rattle.mysql_statements.specs.declared.limits.PipelinedLimits.{PipelinedLimits}
 
@@ -7,7 +7,7 @@ pub record Command : Type 0 where
   pub number : ℕ
   pub payload : List ℕ
 
--- how many may wait, and those that do, in order
+-- how many may wait, and those that wait, in order
 pub record Queue : Type 0 where
   pub limits : PipelinedLimits
   pub commands : List Command
@@ -27,15 +27,15 @@ waiting q = length q.commands
 abbrev pub none_waits : PipelinedLimits → Queue
 none_waits limits = record { limits = limits; commands = [] }
 
--- a command more may wait
+-- one more command may wait
 abbrev pub has_place : Queue → List ℕ → Bool
 has_place q p = nat_lt (length q.commands) q.limits.commands && nat_le (length p) q.limits.bytes
 
--- the command waits, where it may
+-- the command waits, if there is a place
 abbrev pub held : ℕ → List ℕ → Queue → Queue
 held n p q = if has_place q p then record { limits = q.limits; commands = q.commands ++ command n p ∷ [] } else q
 
--- the first that waits is served, where the server has come to the exchange of this number
+-- the first waiting command is processed if the server has reached its exchange
 abbrev pub Serves : ℕ → Queue → Command → Queue → Type 0
 Serves n old c new = (c.number ≤ n) × (old.commands ≡ c ∷ new.commands) × (new.limits ≡ old.limits)
 

@@ -1,4 +1,4 @@
--- The columns of the result that came last, by its own definitions.
+-- The columns of the latest result, by its own definitions.
 use Rattle.std.specs.Prelude.{ℕ, zero, suc, nat_le, Bool, true, false, ◌&&◌, List, [], ◌∷◌, ◌++◌, Option, Some, None, is_some, if◌then◌else◌}
 use Rattle.mysql_conversation.specs.Agreements.{Agreed}
 use Rattle.mysql_conversation.specs.declared.packet_kind.PacketKind.{PacketKind}
@@ -7,7 +7,7 @@ use Rattle.mysql_statements.specs.Packets.{column_at}
 use Rattle.mysql_statements.specs.Run.{Item}
 use Rattle.mysql_statements.specs.declared.row_column.RowColumn.{RowColumn}
 
--- how many columns may be kept, how many definitions are still to come, where all of those before them are kept, and these
+-- how many columns may be kept, how many definitions are still expected if all before them are kept, and the columns so far
 pub record ResultColumns : Type 0 where
   pub limit : ℕ
   pub left : Option ℕ
@@ -17,23 +17,23 @@ pub record ResultColumns : Type 0 where
 abbrev pub unknown : ℕ → ResultColumns
 unknown limit = record { limit = limit; left = None; columns = [] }
 
--- a result of a given number of columns, whose definitions follow or not
+-- a result with a given number of columns, whose definitions follow or not
 abbrev pub begun : ℕ → Bool → ResultColumns → ResultColumns
 begun count follow r = if follow && nat_le count r.limit then record { limit = r.limit; left = Some count; columns = [] } else unknown r.limit
 
--- The next definition. Without memory, and after one that can't be read, no column is known.
+-- The next definition. If there is no memory for it, or it is malformed, no column is known.
 abbrev pub next : Bool → ℕ → Option RowColumn → ResultColumns → ResultColumns
 next memory left None r = unknown r.limit
 next false left (Some c) r = unknown r.limit
 next true left (Some c) r = record { limit = r.limit; left = Some left; columns = r.columns ++ c ∷ [] }
 
--- a definition, where one is still to come
+-- a definition, if one is expected
 abbrev pub defined_at : Option ℕ → Bool → Option RowColumn → ResultColumns → ResultColumns
 defined_at None memory c r = r
 defined_at (Some zero) memory c r = r
 defined_at (Some (suc left)) memory c r = next memory left c r
 
--- After a packet of this kind. Definitions that follow a prepared statement are those of no result, and an error ends those that come.
+-- After a packet of this kind. The definitions after a prepared statement belong to no result, and an error ends the definitions.
 abbrev pub after : Bool → Agreed → PacketKind → List ℕ → ResultColumns → ResultColumns
 after memory a (kind.ColumnCount count follow) p r = begun count follow r
 after memory a kind.Column p r = defined_at r.left memory (column_at a p) r
@@ -46,12 +46,12 @@ abbrev pub keeps : Option ℕ → Option RowColumn → Bool
 keeps (Some (suc left)) c = is_some c
 keeps _ c = false
 
--- the packet has a column kept
+-- the packet makes it keep a column
 abbrev pub takes_memory : Agreed → PacketKind → List ℕ → ResultColumns → Bool
 takes_memory a kind.Column p r = keeps r.left (column_at a p)
 takes_memory a _ p r = false
 
--- the columns, where all of their definitions came and are kept
+-- the columns, if all of their definitions were received and kept
 abbrev pub known_at : Option ℕ → List RowColumn → Option (List RowColumn)
 known_at (Some zero) cs = Some cs
 known_at _ cs = None
@@ -59,7 +59,7 @@ known_at _ cs = None
 abbrev pub known : ResultColumns → Option (List RowColumn)
 known r = known_at r.left r.columns
 
--- packets one after another, for which there is memory
+-- a sequence of packets, with enough memory
 abbrev pub after_all : Agreed → List Item → ResultColumns → ResultColumns
 after_all a [] r = r
 after_all a (x ∷ xs) r = after_all a xs (after true a x.kind x.payload r)

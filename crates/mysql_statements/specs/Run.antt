@@ -1,4 +1,4 @@
--- Packets one after another.
+-- A sequence of packets.
 use Rattle.std.specs.Prelude.{◌≡◌, ◌⊎◌, ℕ, List, [], ◌∷◌, length, map, true, false, Some}
 use Rattle.mysql_prepared.specs.declared.execute_view.BoundParam.{BoundParam}
 use Rattle.mysql_conversation.specs.Agreements.{Agreed}
@@ -11,12 +11,12 @@ use Rattle.mysql_statements.specs.Table.{Table}
 use Rattle.mysql_statements.specs.After.{after}
 use Rattle.mysql_statements.specs.declared.row_column.RowColumn.{RowColumn}
 
--- a packet, of a kind
+-- a packet, with its kind
 pub record Item : Type 0 where
   pub kind : PacketKind
   pub payload : List ℕ
 
--- the table after packets, for which there is memory
+-- the table after a sequence of packets, with enough memory
 abbrev pub after_all : Agreed → List Item → Table → Table
 after_all a [] t = t
 after_all a (x ∷ xs) t = after_all a xs (after true a x.kind x.payload t)
@@ -25,7 +25,7 @@ after_all a (x ∷ xs) t = after_all a xs (after true a x.kind x.payload t)
 abbrev pub IsDefinition : Agreed → Item → RowColumn → Type 0
 IsDefinition a x c = (x.kind ≡ kind.Column) × (column_at a x.payload ≡ Some c)
 
--- the packets are the definitions of these columns, in order, among which EOF packets may be
+-- the packets are the definitions of these columns, in order; EOF packets may be among them
 abbrev pub AreDefinitions : Agreed → List Item → List RowColumn → Type 0
 AreDefinitions a [] cs = cs ≡ []
 AreDefinitions a (x ∷ xs) cs =
@@ -36,6 +36,6 @@ AreDefinitions a (x ∷ xs) cs =
 abbrev pub defined_param : RowColumn → BoundParam
 defined_param c = record { param_type = param_type_of c; is_sent_ahead = false }
 
--- a statement of that number with these parameters and columns, which was not executed
+-- a statement with that number, these parameters and these columns, which was not executed
 abbrev pub defined_as : ℕ → (params columns : List RowColumn) → Kept
 defined_as id ps cs = record { id = id; params = map defined_param ps; is_bound = false; width = length cs; columns = cs }

@@ -80,7 +80,7 @@ impl ResultColumns {
     ) -> Result<(), AllocError>
         ensures taken { OnOk result (self.new ≡ spec.after true agreed kind payload.now self.old) }
         ensures memory { OnErr result (self.new ≡ spec.after false agreed kind payload.now self.old) }
-        // Memory is asked for alone where a column is kept.
+        // Memory is requested only if a column is kept.
         ensures asked { OnErr result (IsTrue (spec.takes_memory agreed kind payload.now self.old)) }
     {
         match kind {

@@ -55,9 +55,9 @@ impl Statements {
     ) -> Result<(), AllocError>
         ensures taken { OnOk result (self.new ≡ spec.after true agreed kind payload.now self.old) }
         ensures memory { OnErr result (self.new ≡ spec.after false agreed kind payload.now self.old) }
-        // Memory is asked for alone where the packet has the table keep a statement, or the definition of a column.
+        // Memory is requested only if the packet makes the table keep a statement or the definition of a column.
         ensures asked { OnErr result (IsTrue (bounds.takes_memory agreed kind payload.now self.old)) }
-        // No more is kept than may be.
+        // The limits are respected.
         ensures within { bounds.IsWithin self.old → bounds.IsWithin self.new }
     {
         self.change(agreed, kind, payload)

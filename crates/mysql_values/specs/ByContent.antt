@@ -1,4 +1,4 @@
--- Conversions that go by what a value holds.
+-- Conversions that depend only on a value's content.
 use Rattle.std.specs.Prelude.{◌≡◌, ℕ, ℤ, List, Some, None, IsUtf8, refl}
 use Rattle.std.specs.Global.{Vec}
 use Rattle.std.proofs.Common.{sym}
@@ -7,17 +7,17 @@ use Rattle.mysql_values.specs.declared.value.Value.TheVariants as value
 use Rattle.mysql_values.specs.Value.{NULL, Bytes, Int, UInt, content_of}
 use Rattle.mysql_values.specs.FromValue.{AsI64, AsU64, AsBytes, AsText, AsOption}
 
--- some value of the type is what this value converts to
+-- this value is converted to some value of the type
 abbrev pub IsConvertible : {X : Type 0} → (Value → X → Type 0) → Value → Type 0
 IsConvertible {X} Converts v = (x : X) × Converts v x
 
--- of two values that hold the same, both convert or neither does
+-- of two values with the same content, both can be converted or neither
 abbrev pub GoesByContent : {X : Type 0} → (Value → X → Type 0) → Type 0
 GoesByContent Converts = (a b : Value) → content_of a ≡ content_of b → IsConvertible Converts a → IsConvertible Converts b
 
--- ---- the value that holds a content
+-- ---- the value with a given content
 
--- a value that holds these bytes
+-- a value of these bytes
 pub record IsOfBytes (v : Value) (content : List ℕ) : Type 0 where
   pub bytes : Vec ℕ
   pub is : v ≡ value.Bytes bytes

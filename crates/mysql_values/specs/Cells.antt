@@ -1,4 +1,4 @@
--- The cells of a row: a value for each column, if it is there.
+-- The cells of a row: an optional value for each column.
 use Rattle.std.specs.Prelude.{◌≡◌, ℕ, ◌++◌, ◌∷◌, [], Bool, List, map, Option, Some, Result, Ok, Err, option_map}
 use Rattle.mysql_wire.specs.declared.fault.FaultOf.{FaultOf}
 use Rattle.mysql_wire.specs.Reading.{Reading, Faults, then_read}
@@ -7,19 +7,19 @@ use Rattle.mysql_values.specs.declared.value.Value.{Value}
 use Rattle.mysql_values.specs.Value.{Content, content_of}
 use Rattle.mysql_values.specs.ValueDeserializer.{reads_bytes}
 
--- what the values hold, whoever keeps their bytes
+-- what the values contain, borrowed or not
 abbrev pub held : List (Option Value) → List (Option Content)
 held cells = map (option_map content_of) cells
 
--- the cells, with a value that is read after them
+-- the cells, followed by a value that is read
 abbrev pub with_cell : List (Option Content) → form.Form Content → form.Form (List (Option Content))
 with_cell cells value = form.map (λ v. cells ++ Some v ∷ []) value
 
--- the fault is the one that reading the value gives; or memory ran out for its bytes
+-- the fault is that of reading the value; or memory ran out for its bytes
 abbrev pub RefusesValue : FaultOf → Reading Content → Type 0
 RefusesValue fault read = Faults (reads_bytes read) fault read
 
--- what is read stands after the cells before it, with these bytes left; or reading gives the fault, or memory ran out
+-- what is read follows the cells before it, with these bytes left; or reading has the fault, or memory ran out
 abbrev pub PutsOne : {E : Type 0} → (takes_memory : Bool) → Result E FaultOf → (before after : List (Option Content)) → List ℕ → Reading Content → Type 0
 PutsOne takes_memory (Ok x) before after rest read = then_read read (λ v left. Ok (before ++ Some v ∷ [], left)) ≡ Ok (after, rest)
 PutsOne takes_memory (Err e) before after rest read = Faults takes_memory e read

@@ -5,7 +5,7 @@ use Rattle.std.specs.Cmp.{IsEquivalence, IsPartialEquivalence, and_equiv, on_equ
 use Rattle.std.specs.Cmp.Lexicographic.{pointwise, lists_equiv}
 use Rattle.mysql_values.specs.Value.{Content, NULL, Bytes, Int, UInt, Float, Double, Date, Time}
 
--- what a content is compared by: its kind, a signed number, and the other numbers that it holds
+-- what contents are compared by: the kind, a signed number, and the other numbers
 abbrev pub kind_of : Content → ℕ
 kind_of NULL = 0
 kind_of (Bytes bytes) = 1

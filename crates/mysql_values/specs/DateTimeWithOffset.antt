@@ -1,4 +1,4 @@
--- A date and a time with their offset from UTC, as parameters have them.
+-- A date and time with its UTC offset, as parameters have it.
 use Rattle.std.specs.Prelude.{ℤ, refl}
 use Rattle.std.specs.Int.{w16, cast_signed, cast_unsigned}
 use Rattle.std.specs.Int.RustNames.{FitsSigned}
@@ -15,7 +15,7 @@ use Rattle.mysql_wire.specs.Writing.{le_bytes}
 use Rattle.mysql_values.specs.declared.date_time_with_offset.DateTimeWithOffset.{DateTimeWithOffset}
 use Rattle.mysql_values.specs.declared.date_time_with_offset.InvalidOffsetDateLength.{InvalidOffsetDateLength}
 
--- a number of two bytes in two's complement
+-- a number of two bytes, in two's complement
 abbrev pub signed_u16 : Form ℤ
 signed_u16 = map (cast_signed w16) (number 2)
 
@@ -28,7 +28,7 @@ abbrev pub i16 : {C : Type 0} → Codec C ℤ
 i16 = leaf signed_u16 (λ z. le_bytes 2 (cast_unsigned w16 z)) (λ z. 2) (λ z. FitsSigned w16 z)
     (λ z h. length-le_bytes 2 (cast_unsigned w16 z)) (λ z h. signed_u16-again z h)
 
--- 13, the year, the month, the day, the hour, the minute, the second, the microseconds, the offset in minutes
+-- 13, year, month, day, hour, minute, second, microseconds, and the offset in minutes
 abbrev pub date_with_offset_fields : Fields (Unit {0}) DateTimeWithOffset DateTimeWithOffset
 date_with_offset_fields = do
   length ← field (λ d. record { 0 = record {} }) (const_u8 {T = InvalidOffsetDateLength} 13)
@@ -46,7 +46,7 @@ date_with_offset_fields = do
 unfoldable pub date_with_offset : Codec (Unit {0}) DateTimeWithOffset
 date_with_offset = packet (block 14 date_with_offset_fields (λ d. refl)) (λ d. refl)
 
--- the numbers have their widths
+-- numbers within their widths
 pub record DateWithOffsetFits (d : DateTimeWithOffset) : Type 0 where
   pub year : d.year < 2 ^ 16
   pub month : d.month < 2 ^ 8

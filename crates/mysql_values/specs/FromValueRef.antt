@@ -1,9 +1,9 @@
--- What contents convert to, whoever keeps their bytes.
+-- What contents are converted to, borrowed or not.
 use Rattle.std.specs.Prelude.{◌≡◌, ℕ, ℤ, pos, ◌<◌, ◌^◌, List, Option, Some, None, IsUtf8}
 use Rattle.mysql_values.specs.Value.{Content, NULL, Bytes, Int, UInt}
 use Rattle.mysql_values.specs.Numeral.{WritesSigned, WritesUnsigned}
 
--- a number in range, or bytes that write it
+-- a number in range, or bytes that write one
 abbrev pub ContentAsI64 : Content → ℤ → Type 0
 ContentAsI64 (Int x) y = x ≡ y
 ContentAsI64 (UInt n) y = (y ≡ pos n) × (n < 2 ^ 63)
@@ -21,12 +21,12 @@ abbrev pub ContentAsBytes : Content → List ℕ → Type 0
 ContentAsBytes (Bytes bytes) v = v ≡ bytes
 ContentAsBytes _ v = ⊥
 
--- the same bytes, which are UTF-8
+-- the same bytes, if they are UTF-8
 abbrev pub ContentAsText : Content → List ℕ → Type 0
 ContentAsText (Bytes bytes) text = (text ≡ bytes) × IsUtf8 bytes
 ContentAsText _ text = ⊥
 
--- None for NULL, and else what the content converts to
+-- None for NULL, otherwise the converted content
 abbrev pub ContentAsOption : {X : Type 0} → (Content → X → Type 0) → Content → Option X → Type 0
 ContentAsOption P NULL None = Unit {0}
 ContentAsOption P NULL (Some x) = ⊥

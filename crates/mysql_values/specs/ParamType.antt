@@ -31,7 +31,7 @@ typed t unsigned = record { column_type = t; flags = record { 0 = if unsigned th
 abbrev pub type_of : Content → ParamType
 type_of value = typed (sent_type value) (is_uint value)
 
--- ---- in the bytes
+-- ---- bytes
 
 -- a byte that is the code of a column type
 abbrev pub column_type_byte : {C : Type 0} → Codec C (Const ColumnType ℕ)

@@ -1,4 +1,4 @@
--- The values that parameters give.
+-- The values of parameters.
 use Rattle.std.specs.Prelude.{◌≡◌, ◌≢◌, ℕ, Bool, true, false, List, [], ◌∷◌, Option, Some, None, Result, Ok, Err, nat_eq, ◌&&◌}
 use Rattle.std.specs.Cmp.Lexicographic.{pointwise}
 use Rattle.std.specs.Global.{Vec}
@@ -15,11 +15,11 @@ use Rattle.mysql_values.specs.Value.{Content, content_of, contents_of}
 abbrev pub NamedValues : Type 0
 NamedValues = IndexMap (Vec ℕ) Value (BuildHasherDefault FoldHasher)
 
--- the value of a name
+-- the value with a name
 abbrev pub value_of : NamedValues → Vec ℕ → Option Value
 value_of values name = get_by (λ key. pointwise nat_eq name.items key.items) values
 
--- why parameters give no values
+-- why parameters have no values for a statement
 pub data Refusal : Type 0 where
   Missing : List ℕ → Refusal
   NamedForPositional : Refusal
@@ -31,12 +31,12 @@ then_values name None others = Err (Missing name.items)
 then_values name (Some value) (Ok others) = Ok (content_of value ∷ others)
 then_values name (Some value) (Err refusal) = Err refusal
 
--- the value of each name in order; the refusal names the first without a value
+-- the value of each name, in order; the error has the first name without a value
 unfoldable pub values_of_names : NamedValues → List (Vec ℕ) → Result (List Content) Refusal
 values_of_names values [] = Ok []
 values_of_names values (name ∷ names) = then_values name (value_of values name) (values_of_names values names)
 
--- the values of the parameters of a statement, which has names for them or has none
+-- the values for a statement's parameters, which are named or not
 abbrev pub values_of : Params → Option (List (Vec ℕ)) → Result (List Content) Refusal
 values_of params.Empty names = Ok []
 values_of (params.Named values) None = Err NamedForPositional
@@ -51,19 +51,19 @@ RefusesName found name error.NamedForPositional = ⊥
 RefusesName found name error.PositionalForNamed = ⊥
 RefusesName found name error.Memory = Unit {0}
 
--- the refusal is that of the names, or memory ran out
+-- the error is that of the names, or memory ran out
 abbrev pub RefusesNames : NamedValues → List (Vec ℕ) → ParamsError → Type 0
 RefusesNames values names (error.Missing name) = values_of_names values names ≡ Err (Missing name.items)
 RefusesNames values names error.NamedForPositional = ⊥
 RefusesNames values names error.PositionalForNamed = ⊥
 RefusesNames values names error.Memory = names ≢ []
 
--- values are looked up by names, of which there is one at least: this alone takes memory
+-- values are looked up by names, at least one: only this allocates
 abbrev pub TakesMemory : Params → Option (List (Vec ℕ)) → Type 0
 TakesMemory (params.Named values) (Some names) = names ≢ []
 TakesMemory _ _ = ⊥
 
--- the refusal is that of the parameters, or memory ran out
+-- the error is that of the parameters, or memory ran out
 abbrev pub Refuses : Params → Option (List (Vec ℕ)) → ParamsError → Type 0
 Refuses given names (error.Missing name) = values_of given names ≡ Err (Missing name.items)
 Refuses given names error.NamedForPositional = values_of given names ≡ Err NamedForPositional

@@ -1,4 +1,4 @@
--- Which values are read again from their binary form.
+-- Which values are read back from their binary form.
 use Rattle.std.specs.Prelude.{◌≡◌, ◌<◌, ◌^◌, Bool, IsTrue, IsFalse, length}
 use Rattle.std.specs.Int.{w64}
 use Rattle.std.specs.Int.RustNames.{FitsSigned}
@@ -12,18 +12,18 @@ use Rattle.mysql_values.specs.ValueDeserializer.{bin_value}
 use Rattle.mysql_values.specs.Temporal.{is_midnight}
 use Rattle.mysql_values.specs.ValueKind.{kind_of, is_date}
 
--- numbers that have their widths
+-- numbers within their widths
 pub record DateFits (t : DateTime) : Type 0 where
   pub year : t.day.year < 2 ^ 16
   pub micros : t.micros < 2 ^ 32
 
--- numbers that have their widths; a span of no time has no sign
+-- numbers within their widths; a zero duration has no sign
 pub record TimeFits (t : TimeSpan) : Type 0 where
   pub days : t.days < 2 ^ 32
   pub micros : t.micros < 2 ^ 32
   pub sign : t.days ≡ 0 → IsTrue (is_midnight t.clock) → t.micros ≡ 0 → IsFalse t.is_negative
 
--- the type is the one that the content's binary form is read under, and its numbers have their widths
+-- the type is the one under which the content's binary form is read, and its numbers are within their widths
 abbrev pub ReadsBack : ColumnType → Bool → Content → Type 0
 ReadsBack type is_unsigned NULL = kind_of type ≡ kind.Null
 ReadsBack type is_unsigned (Bytes bytes) = (kind_of type ≡ kind.String) × (length bytes < 2 ^ 64)
@@ -34,7 +34,7 @@ ReadsBack type is_unsigned (Double bits) = (kind_of type ≡ kind.Double) × (bi
 ReadsBack type is_unsigned (Date date) = IsTrue (is_date (kind_of type)) × DateFits date
 ReadsBack type is_unsigned (Time time) = (kind_of type ≡ kind.Time) × TimeFits time
 
--- its numbers have their widths, and its sign is not lost
+-- numbers within their widths, and a sign that isn't lost
 abbrev pub IsInRange : Content → Type 0
 IsInRange NULL = Unit {0}
 IsInRange (Bytes bytes) = length bytes < 2 ^ 64
@@ -45,7 +45,7 @@ IsInRange (Double bits) = bits < 2 ^ 64
 IsInRange (Date date) = DateFits date
 IsInRange (Time time) = TimeFits time
 
--- a content agrees with a column's type: it is none, or its binary form is read as that content, whatever follows
+-- a content matches a column's type: it is absent, or its binary form is read as that content, whatever follows
 abbrev pub Agrees : ColumnType → Bool → Content → Type 0
 Agrees type is_unsigned NULL = Unit {0}
 Agrees type is_unsigned content = IsSpelling (bin_value type is_unsigned) content (bin content)

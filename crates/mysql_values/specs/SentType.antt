@@ -14,7 +14,7 @@ sent_type (Double bits) = column.MYSQL_TYPE_DOUBLE
 sent_type (Date date) = column.MYSQL_TYPE_DATETIME
 sent_type (Time time) = column.MYSQL_TYPE_TIME
 
--- the type has the flag of unsigned numbers
+-- the type has the flag for unsigned numbers
 abbrev pub is_uint : Content → Bool
 is_uint (UInt n) = true
 is_uint _ = false

@@ -1,4 +1,4 @@
--- Dates and times, as the binary protocol writes them.
+-- Dates and times in the binary protocol.
 use Rattle.std.specs.Prelude.{◌≡◌, ℕ, Bool, true, false, List, [], ◌∷◌, ◌++◌, ◌==◌, ◌&&◌, Some, None, if◌then◌else◌, refl}
 use Rattle.mysql_wire.specs.Writing.{le_bytes}
 use Rattle.mysql_wire.specs.Form.{Form, ◌>>=◌, give, refuse, either, block, bytes}
@@ -22,7 +22,7 @@ day_bytes d = le_bytes 2 d.year ++ (d.month ∷ d.day ∷ [])
 abbrev pub clock_bytes : Clock → List ℕ
 clock_bytes c = c.hour ∷ c.minute ∷ c.second ∷ []
 
--- the length, and the fields: those at the end are left out where they are all zero
+-- the length, and the fields: trailing fields that are all zero are left out
 unfoldable pub date_time_bytes : DateTime → List ℕ
 date_time_bytes t =
     if t.micros == 0
@@ -33,12 +33,12 @@ date_time_bytes t =
     else 7 ∷ [] ++ day_bytes t.day ++ clock_bytes t.clock
     else 11 ∷ [] ++ day_bytes t.day ++ clock_bytes t.clock ++ le_bytes 4 t.micros
 
--- 1 for what is negative
+-- 1 if negative
 abbrev pub sign_byte : Bool → ℕ
 sign_byte true = 1
 sign_byte false = 0
 
--- the length, the sign, and the fields: all of them are left out where they are zero, and so are the microseconds alone
+-- the length, the sign, and the fields: left out if they are all zero; so are zero microseconds
 unfoldable pub time_span_bytes : TimeSpan → List ℕ
 time_span_bytes t =
     if t.micros == 0
@@ -47,7 +47,7 @@ time_span_bytes t =
     else 8 ∷ sign_byte t.is_negative ∷ [] ++ le_bytes 4 t.days ++ clock_bytes t.clock
     else 12 ∷ sign_byte t.is_negative ∷ [] ++ le_bytes 4 t.days ++ clock_bytes t.clock ++ le_bytes 4 t.micros
 
--- the length byte, and what stands after it
+-- the length byte, and what follows it
 abbrev pub date_time_size : DateTime → ℕ
 date_time_size t =
     if t.micros == 0
@@ -62,7 +62,7 @@ time_span_size t =
     then if t.days == 0 && is_midnight t.clock then 1 else 9
     else 13
 
--- ---- what is read
+-- ---- reading
 
 abbrev pub day_fields : Form Day
 day_fields = do
@@ -108,7 +108,7 @@ date_clock_and_micros = do
   micros ← le_u32
   give (record { day = day; clock = clock; micros = micros.0 })
 
--- the fields that the length leaves out are zero
+-- fields that the length leaves out are zero
 abbrev pub date_time_from : ℕ → Form DateTime
 date_time_from length =
     either (length == 0) (give (record { day = zero_day; clock = midnight; micros = 0 }))
@@ -143,7 +143,7 @@ time_span_from length =
     (either (length == 8) span_without_micros
     (either (length == 12) span_with_micros refuse))
 
--- a length of 0, 8 or 12, and the fields; every sign but 1 is not negative
+-- a length of 0, 8 or 12, and the fields; any sign but 1 means not negative
 unfoldable pub time_span : Form TimeSpan
 time_span = do
   length ← byte

@@ -9,7 +9,7 @@ use Rattle.mysql_values.specs.declared.temporal.DateTime.{DateTime}
 use Rattle.mysql_values.specs.declared.temporal.TimeSpan.{TimeSpan}
 use Rattle.mysql_values.specs.Temporal.{date_time_bytes, date_time_size, time_span_bytes, time_span_size}
 
--- what a value holds, whoever keeps its bytes
+-- what a value contains, borrowed or not
 pub data Content : Type 0 where
   NULL : Content
   Bytes : List ℕ → Content
@@ -45,7 +45,7 @@ content_of (value.Double bits) = Double bits
 content_of (value.Date year month day hour minute second micros) = Date (date_of year month day hour minute second micros)
 content_of (value.Time is_negative days hour minute second micros) = Time (time_of is_negative days hour minute second micros)
 
--- the binary form: nothing, a length-encoded string, 4 or 8 bytes, or a date or time of the shortest length
+-- the binary form: nothing, a length-encoded string, 4 or 8 bytes, or a date or time in its shortest form
 abbrev pub bin : Content → List ℕ
 bin NULL = []
 bin (Bytes bytes) = lenenc_string_bytes bytes
@@ -56,7 +56,7 @@ bin (Double bits) = le_bytes 8 bits
 bin (Date date) = date_time_bytes date
 bin (Time time) = time_span_bytes time
 
--- the bytes that a length-encoded length takes
+-- the size of a length-encoded length
 abbrev pub length_size : ℕ → ℕ
 length_size n =
     if nat_lt n 251 then 1
@@ -78,7 +78,7 @@ bin_size (Time time) = time_span_size time
 abbrev pub size_of : Value → ℕ
 size_of v = bin_size (content_of v)
 
--- what the value that was read holds
+-- what a value that was read contains
 abbrev pub contents : {E : Type 0} → Result Value E → Result Content E
 contents (Ok v) = Ok (content_of v)
 contents (Err e) = Err e

@@ -13,17 +13,17 @@ use Rattle.mysql_values.specs.declared.value_kind.ValueKind.{ValueKind}
 use Rattle.mysql_values.specs.declared.value_kind.ValueKind.TheVariants as kind
 use Rattle.mysql_values.specs.ValueKind.{kind_of}
 
--- the content is a string of at least one byte
+-- the content is a string that is not empty
 abbrev pub has_bytes : Content → Bool
 has_bytes (Bytes (first ∷ rest)) = true
 has_bytes _ = false
 
--- a string of at least one byte is there, which is copied: this alone takes memory
+-- a string that is not empty is copied: only this allocates
 abbrev pub reads_bytes : Reading Content → Bool
 reads_bytes (Ok x) = has_bytes x.0
 reads_bytes (Err e) = false
 
--- the next byte says that there is no value
+-- the next byte stands for NULL
 abbrev pub starts_null : List ℕ → Bool
 starts_null [] = false
 starts_null (first ∷ rest) = first == 0xfb
@@ -42,9 +42,9 @@ pub size-text_value : text_value.size ≡ None
 unfolding text_value
 size-text_value = refl
 
--- ---- the binary form
+-- ---- binary form
 
--- a number of a width, which has a sign unless its column is unsigned
+-- a number of a given width, signed unless its column is unsigned
 abbrev pub integer_of : Width → Bool → ℕ → ℤ
 integer_of w true n = pos n
 integer_of w false n = cast_signed w n
@@ -67,7 +67,7 @@ date_value = map Date date_time
 abbrev pub time_value : Form Content
 time_value = map Time time_span
 
--- how a value of the kind is spelled
+-- the form of a value of a kind
 abbrev pub value_of_kind : ValueKind → Bool → Form Content
 value_of_kind kind.String u = string_value
 value_of_kind kind.Tiny u = short_integer w8 1 u
@@ -82,10 +82,10 @@ value_of_kind kind.Time u = time_value
 value_of_kind kind.Null u = give NULL
 value_of_kind kind.Unsupported u = refuse
 
--- how a value is spelled, by the type of its column
+-- the form of a value, by the type of its column
 abbrev pub bin_value : ColumnType → Bool → Form Content
 bin_value type u = value_of_kind (kind_of type) u
 
--- how a value is spelled in a column, of whose flags it is passed whether numbers have no sign
+-- the form of a value in a column; the reader gets whether the column's flags say unsigned
 abbrev pub value_in_column : ColumnType × ColumnFlags → Form Content
 value_in_column column = bin_value column.0 (has column.1.0 UNSIGNED_FLAG)

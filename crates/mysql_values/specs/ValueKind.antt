@@ -1,4 +1,4 @@
--- What the values of a column are, by its type.
+-- What a column's values are, by its type.
 use Rattle.std.specs.Prelude.{Bool, true, false, ◌&&◌, ◌==◌}
 use Rattle.mysql_wire.specs.declared.codes.column_type.ColumnType.{ColumnType}
 use Rattle.mysql_wire.specs.declared.codes.column_type.ColumnType.TheVariants as column
@@ -60,7 +60,7 @@ is_date _ = false
 abbrev pub is_string : ColumnType → Bool
 is_string type = is_string_kind (kind_of type)
 
--- NULL, or a value of the kind, which is not one of integers; a date alone has no time of day
+-- NULL, or a value of the kind, except for integers; a DATE has no time of day
 abbrev pub matches_type : ValueKind → Content → Bool
 matches_type _ NULL = true
 matches_type kind.String (Bytes bytes) = true

@@ -38,7 +38,7 @@ fn read_other<'s>(
 
 /// Reads a value of the given type. The most frequent types have an arm of their own, so that a value's parts are written
 /// directly to its cell instead of being assembled and taken apart again.
-// (the compiler makes one choice of the types, where it would make two of their kinds)
+// One match on the type: the compiler would otherwise match its kind as well.
 #[inline(always)]
 #[tactic(auto, unfolding(mysql_wire::specs::Int::raw))]
 fn put_value<'s>(
@@ -73,7 +73,7 @@ fn put_value<'s>(
             Ok(())
         }
         _ => {
-            // (the buffer that is handed on is another, so that the caller's own stays in registers)
+            // Another buffer is passed on, so that the caller's own stays in registers.
             let mut rest = buf.rest();
             let value = read_other(column_type, is_unsigned, &mut rest)?;
             *buf = rest;

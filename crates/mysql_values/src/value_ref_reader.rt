@@ -139,7 +139,7 @@ pub fn read_kind_ref<'s, 'de>(
             Ok(ValueRef::Double(bits.0))
         }
         ValueKind::Date | ValueKind::DateTime => {
-            // (a buffer of its own, so that no other arm's stands in memory)
+            // A buffer of its own, so that those of the other arms stay in registers.
             let mut rest = buf.rest();
             let value = date_ref(&mut rest)?;
             *buf = rest;

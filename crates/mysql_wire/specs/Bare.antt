@@ -1,4 +1,4 @@
--- Byte strings whose count stands elsewhere.
+-- Byte strings whose length is elsewhere.
 use Rattle.std.specs.Prelude.{ℕ, List}
 use Rattle.mysql_wire.specs.Form.{Form, bytes, unsized}
 

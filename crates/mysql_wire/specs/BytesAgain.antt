@@ -1,4 +1,4 @@
--- What is written of a byte string is read again.
+-- Byte strings are read back.
 use Rattle.std.specs.Prelude.{◌≡◌, ℕ, zero, suc, ◌<◌, ◌≤◌, ◌^◌, List, [], ◌∷◌, ◌++◌, length, take, Some, true, nat_eq, refl}
 use Rattle.std.proofs.Common.{ap, arith, append_assoc, eq-eqb}
 use Rattle.std.proofs.lemmas.List.{append-nil, take_all}
@@ -14,7 +14,7 @@ use Rattle.mysql_wire.specs.declared.const_bytes.ConstBytes.{ConstBytes}
 use Rattle.mysql_wire.specs.Spelling.{IsSpelling, byte-again, le_u32-again}
 use Rattle.mysql_wire.specs.Writing.{le_bytes}
 
--- ---- a zero at the end
+-- ---- terminated by a zero
 
 pub before_zero-whole : (content : List ℕ) → HasNoZero content → before_zero content ≡ content
 unfolding before_zero
@@ -26,9 +26,9 @@ pub null_string-again : (content : List ℕ) → HasNoZero content → IsSpellin
 unfolding null_string
 null_string-again content no_zero rest = (no_zero, rw (before_zero-whole content no_zero) (append_assoc content (0 ∷ []) rest))
 
--- ---- a count in front
+-- ---- after a length
 
--- the count's spelling is read again, and so is the content after it
+-- the length is read back, and so is the content after it
 counted_bytes-again : {R : Type 0} (count : Form (RawInt R ℕ)) (width most : ℕ) (content : List ℕ) → length content ≤ most
     → IsSpelling count (raw_int (length content)) (le_bytes width (length content)) → IsSpelling (counted_bytes count) content (counted_bytes_of width most content)
 unfolding counted_bytes counted_bytes_of bytes
@@ -42,18 +42,18 @@ u8_string-again content short = counted_bytes-again byte 1 255 content (omega ar
 pub u32_string-again : (content : List ℕ) → length content < 2 ^ 32 → IsSpelling u32_string content (u32_string_bytes content)
 u32_string-again content short = counted_bytes-again le_u32 4 4294967295 content (omega arith) (le_u32-again (length content) short)
 
--- ---- a count that stands elsewhere
+-- ---- with a length elsewhere
 
 pub bare-again : (most n : ℕ) (content : List ℕ) → length content ≡ n → n ≤ most → IsSpelling (bare n) content (take most content)
 unfolding bytes
 bare-again most n content len short rest = rw (take_all most content (omega (arith, len))) (len, refl)
 
--- ---- up to the end
+-- ---- to the end of the bytes
 
 pub all_left-again : (content : List ℕ) → all_left.Spells content (content ++ []) []
 all_left-again content = (append-nil content, refl)
 
--- ---- a length that the type tells
+-- ---- with a length given by the type
 
 pub bytes-again : (n : ℕ) (content : List ℕ) → length content ≡ n → IsSpelling (bytes n) content content
 unfolding bytes

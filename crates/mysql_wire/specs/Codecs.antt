@@ -1,4 +1,4 @@
--- The codecs of the wire forms, and how a packet's codec is put together. What each packet's file names is passed on.
+-- The codecs of the wire forms, and combinators for packets. Each packet's file uses the names that are exported here.
 pub use Rattle.mysql_wire.specs.Codec.{Codec, Fields}
 pub use Rattle.mysql_wire.specs.Int.{raw_int}
 use Rattle.std.specs.Prelude.{◌≡◌, ℕ, ◌+◌, ◌<◌, ◌≤◌, ◌^◌, List, [], ◌∷◌, length, replicate, take, Option, Bool, true, false, refl}
@@ -43,7 +43,7 @@ use Rattle.mysql_wire.specs.Writing.{le_bytes}
 use Rattle.mysql_wire.specs.CodecFits.{then_bytes, then_fits, option_len, option_fits, choice_of, choice_bytes, choice_len, choice_fits, each_fits, is_there, if_left_fits}
 use Rattle.mysql_wire.specs.CodecAgain as law
 
--- ---- fields, in the layout's order
+-- ---- fields, in layout order
 
 abbrev pub give : {C P A : Type 0} → A → Fields C P A
 give x = record {
@@ -68,7 +68,7 @@ f >>= g = record {
   again = law.then-again f g;
 }
 
--- the field of a packet that is read and written so
+-- the field of a packet, with its codec
 abbrev pub field : {C P A : Type 0} → (P → A) → Codec C A → Fields C P A
 field get f = record {
   form = f.form;
@@ -80,7 +80,7 @@ field get f = record {
   again = λ c p rest h. f.again c (get p) rest h;
 }
 
--- fields in a block of a given number of bytes
+-- fields in a block of a given length
 abbrev pub block : {C P A : Type 0} (n : ℕ) (f : Fields C P A) → ((p : P) → f.len p ≡ n) → Fields C P A
 block n f is_n = record {
   form = λ c. form.block n (f.form c);
@@ -92,7 +92,7 @@ block n f is_n = record {
   again = law.block_of-again n f is_n;
 }
 
--- the packet of all its fields
+-- the packet with all its fields
 abbrev pub packet : {C P : Type 0} (f : Fields C P P) → ((p : P) → f.value p ≡ p) → Codec C P
 packet f same = record {
   form = f.form;
@@ -105,7 +105,7 @@ packet f same = record {
 
 -- ---- parts of a packet
 
--- a part whose reader is passed something else
+-- a part whose reader gets another context
 abbrev pub with_context : {C D A : Type 0} → (C → D) → Codec D A → Codec C A
 with_context tell f = record {
   form = λ c. f.form (tell c);
@@ -116,11 +116,11 @@ with_context tell f = record {
   again = λ c a rest h. f.again (tell c) a rest h;
 }
 
--- a part whose reader is passed nothing
+-- a part whose reader gets no context
 abbrev pub without_context : {C A : Type 0} → Codec (Unit {0}) A → Codec C A
 without_context f = with_context (λ c. tt) f
 
--- what the reader is passed, and no byte says
+-- a value from the reader's context, which has no bytes
 abbrev pub from_context : {C A : Type 0} → (C → A) → Codec C A
 from_context of_reader = record {
   form = λ c. form.give (of_reader c);
@@ -131,7 +131,7 @@ from_context of_reader = record {
   again = λ c a rest h. (h, refl);
 }
 
--- a part that is there exactly where the flag is set
+-- a part that is present exactly if the flag is set
 abbrev pub when : {C A : Type 0} → (C → Bool) → Codec C A → Codec C (Option A)
 when flag f = record {
   form = λ c. form.when (flag c) (f.form c);
@@ -142,12 +142,12 @@ when flag f = record {
   again = λ c o rest h. law.option-again f (flag c) c o rest h;
 }
 
--- the one codec or the other
+-- one codec or the other
 abbrev pub one_of : {C A : Type 0} → Bool → Codec C A → Codec C A → Codec C A
 one_of true left right = left
 one_of false left right = right
 
--- a left part exactly where the test says so, else a right one
+-- a left part exactly if the test says so, otherwise a right one
 abbrev pub either : {C P A B X : Type 0} (test : C → Bool) (part : P → A ⊎ B) (of_left : A → X) (l : Codec C A) (of_right : B → X) (r : Codec C B) → Fields C P X
 either test part of_left l of_right r = record {
   form = λ c. form.either (test c) (form.map of_left (l.form c)) (form.map of_right (r.form c));
@@ -170,7 +170,7 @@ list_of n f = record {
   again = law.so_many-again f n;
 }
 
--- values to the end, each of at least one byte
+-- values to the end of the bytes, each of at least one byte
 abbrev pub list_to_end : {C A : Type 0} (f : Codec C A) → ((x : A) → 0 < f.len x) → Codec C (List A)
 list_to_end f some = record {
   form = λ c. many (f.form c);
@@ -183,7 +183,7 @@ list_to_end f some = record {
 
 -- ---- leaves
 
--- a form whose values fit, or don't, whatever stands after them
+-- a form whose values fit, or don't, independently of what follows
 abbrev pub leaf : {C A : Type 0} (f : Form A) (bytes : A → List ℕ) (len : A → ℕ) (Fits : A → Type 0)
     → ((a : A) → Fits a → length (bytes a) ≡ len a) → ((a : A) → Fits a → IsSpelling f a (bytes a)) → Codec C A
 leaf f bytes len Fits exact again = record {
@@ -195,7 +195,7 @@ leaf f bytes len Fits exact again = record {
   again = λ c a rest h. again a h rest;
 }
 
--- a number of a given number of bytes, little-endian
+-- a number with a given number of bytes, little-endian
 abbrev pub int : {C R : Type 0} → ℕ → Codec C (RawInt R ℕ)
 int {R} width = leaf (raw (form.number width)) (λ n. le_bytes width n.0) (λ n. width) (λ n. n.0 < 256 ^ width)
     (λ n h. length-le_bytes width n.0) (λ n h. raw-again R (form.number width) n.0 (le_bytes width n.0) (number-again width n.0 h))
@@ -215,12 +215,12 @@ u32 = int 4
 abbrev pub u64 : {C : Type 0} → Codec C (RawInt LeU64 ℕ)
 u64 = int 8
 
--- a flag word of a given number of bytes
+-- a flag word with a given number of bytes
 abbrev pub flags : {C N U : Type 0} → ℕ → Codec C (Const (FlagWord N ℕ) U)
 flags width = leaf (flag_word width) (λ v. le_bytes width v.0.0) (λ v. width) (λ v. v.0.0 < 256 ^ width)
     (λ v h. length-le_bytes width v.0.0) (λ v h. flag_word-again width v h)
 
--- a byte that has one value
+-- a byte with a constant value
 abbrev pub const_u8 : {C T : Type 0} (value : ℕ) → Codec C (ConstU8 T value)
 const_u8 value = leaf (const_byte value) (λ v. value ∷ []) (λ v. 1) (λ v. Unit {0})
     (λ v h. refl) (λ v h. const_byte-again value v)
@@ -240,11 +240,11 @@ abbrev pub string_lenenc : {C : Type 0} → Codec C (List ℕ)
 string_lenenc = leaf lenenc_string lenenc_string_bytes (λ content. length (lenenc_string_bytes content)) (λ content. length content < 2 ^ 64)
     (λ content h. refl) lenenc_string-again
 
--- a byte string that ends in a zero
+-- a byte string terminated by a zero
 abbrev pub string_null : {C : Type 0} → Codec C (List ℕ)
 string_null = leaf null_string null_bytes (λ content. length (null_bytes content)) HasNoZero (λ content h. refl) null_string-again
 
--- all that is left
+-- the rest of the bytes
 abbrev pub string_eof : {C : Type 0} → Codec C (List ℕ)
 string_eof = record {
   form = λ c. form.all_left;
@@ -255,17 +255,17 @@ string_eof = record {
   again = λ c content rest h. law.all_left-again content rest h;
 }
 
--- a number of four bytes that has one value
+-- a number of four bytes with a constant value
 abbrev pub const_u32 : {C T : Type 0} (value : ℕ) → Codec C (ConstU32 T value)
 const_u32 value = leaf (constant_form.const_le_u32 value) (λ v. le_bytes 4 value) (λ v. 4) (λ v. value < 2 ^ 32)
     (λ v h. length-le_bytes 4 value) (λ v h. const_u32-again value v h)
 
--- bytes that have one value
+-- constant bytes
 abbrev pub const_bytes : {C T : Type 0} (n : ℕ) (value : List ℕ) → Codec C (ConstBytes T n)
 const_bytes n value = leaf (const_form.const_bytes n value) (λ v. value) (λ v. n) (λ v. length value ≡ n)
     (λ v h. h) (λ v h. const_bytes-again n value v h)
 
--- a byte that is the code of a value
+-- a byte that is a value's code
 abbrev pub coded : {C X U : Type 0} (code : X → ℕ) (of_code : ℕ → Option X)
     → ((v : Const X U) → IsSpelling (value_form.coded of_code (form.number 1)) v (le_bytes 1 (code v.0))) → Codec C (Const X U)
 coded code of_code again = leaf (value_form.coded of_code (form.number 1)) (λ v. le_bytes 1 (code v.0)) (λ v. 1) (λ v. Unit {0})
@@ -276,14 +276,14 @@ abbrev pub int_lenenc : {C : Type 0} → Codec C (RawInt LenEnc ℕ)
 int_lenenc = leaf (raw lenenc_form.lenenc) (λ n. lenenc_form.lenenc_bytes n.0) (λ n. length (lenenc_form.lenenc_bytes n.0)) (λ n. n.0 < 2 ^ 64)
     (λ n h. refl) (λ n h. raw-again LenEnc lenenc_form.lenenc n.0 (lenenc_form.lenenc_bytes n.0) (lenenc-again n.0 h))
 
--- a byte string after a count of one byte, and of four
+-- a byte string after a length of one byte, and of four
 abbrev pub string_u8 : {C : Type 0} → Codec C (List ℕ)
 string_u8 = leaf u8_string u8_string_bytes (λ content. length (u8_string_bytes content)) (λ content. length content < 2 ^ 8) (λ content h. refl) u8_string-again
 
 abbrev pub string_u32 : {C : Type 0} → Codec C (List ℕ)
 string_u32 = leaf u32_string u32_string_bytes (λ content. length (u32_string_bytes content)) (λ content. length content < 2 ^ 32) (λ content h. refl) u32_string-again
 
--- a given number of bytes, a number read before, of which this many at most are written
+-- as many bytes as a number that was read before says; at most this many are written
 abbrev pub string_bare : {C : Type 0} (most n : ℕ) → Codec C (List ℕ)
 string_bare most n = leaf (bare_form.bare n) (take most) (λ content. length (take most content)) (λ content. (length content ≡ n) × (n ≤ most))
     (λ content h. refl) (λ content h. law.bare_at-again most n content h)
@@ -299,7 +299,7 @@ u64_counted_list f = record {
   again = law.u64_list-again f;
 }
 
--- a part that is there exactly where bytes are left
+-- a part that is present exactly if bytes are left
 abbrev pub if_bytes_left : {C A : Type 0} (f : Codec C A) → ((a : A) → 0 < f.len a) → Codec C (Option A)
 if_bytes_left f some = record {
   form = λ c. form.looking (λ bytes. form.when (is_there bytes) (f.form c));

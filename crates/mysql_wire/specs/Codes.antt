@@ -1,4 +1,4 @@
--- Values that are coded in one byte.
+-- Values with a code of one byte.
 use Rattle.std.specs.Prelude.{◌≡◌, ◌==◌, ◌<◌, ◌^◌, ℕ, List, [], ◌∷◌, Option, Some, None, Result, Ok, Err, Bool, true, false, ◌&&◌, nat_lt, if◌then◌else◌, refl}
 use Rattle.std.proofs.Common.{subst, ltb-true, eqb-true, ◌⊎◌, inl, inr}
 use Rattle.std.proofs.lemmas.Bool.{and_parts}
@@ -8,7 +8,7 @@ use Rattle.mysql_wire.specs.Form.{number}
 use Rattle.mysql_wire.specs.Spelling.{IsSpelling, number-again}
 use Rattle.mysql_wire.specs.Writing.{le_bytes}
 
--- the value, or else the error
+-- the value, or the error
 abbrev pub known_or : {X E : Type 0} → E → Option X → Result X E
 known_or error None = Err error
 known_or error (Some value) = Ok value
@@ -18,12 +18,12 @@ first_or true x v rest e = inl (refl, cc)
 first_or false x v rest e = inr e
 
 module _ {X : Type 0} (code : X → ℕ) where
-  -- the first of the values that has the code
+  -- the first value with this code
   abbrev pub with_code : List X → ℕ → Option X
   with_code [] n = None
   with_code (x ∷ xs) n = if code x == n then Some x else with_code xs n
 
-  -- the value that a code stands for has that code
+  -- the value of a code has that code
   pub with_code-code : (xs : List X) (n : ℕ) (v : X) → with_code xs n ≡ Some v → code v ≡ n
   with_code-code [] n v e = absurd cc
   with_code-code (x ∷ xs) n v e =
@@ -32,7 +32,7 @@ module _ {X : Type 0} (code : X → ℕ) where
         | inr later ↦ with_code-code xs n v later
       ]
 
-  -- every code fits a byte
+  -- every code fits in a byte
   abbrev pub are_bytes : List X → Bool
   are_bytes [] = true
   are_bytes (x ∷ xs) = nat_lt (code x) (2 ^ 8) && are_bytes xs
@@ -46,7 +46,7 @@ module _ {X : Type 0} (code : X → ℕ) where
         | inr later ↦ with_code-byte xs n v s.1 later
       ]
 
-  -- what is written of a value is read again
+  -- a value is read back
   pub code-again : {U : Type 0} (xs : List X) → are_bytes xs ≡ true → ((x : X) → with_code xs (code x) ≡ Some x) → (v : Const X U) → IsSpelling (coded (with_code xs) (number 1)) v (le_bytes 1 (code v.0))
   code-again xs small back v =
       coded-again (with_code xs) (number 1) (code v.0) v (le_bytes 1 (code v.0)) (back v.0) (number-again 1 (code v.0) (with_code-byte xs (code v.0) v.0 small (back v.0)))

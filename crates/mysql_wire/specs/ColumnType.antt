@@ -83,7 +83,7 @@ column_types =
     ∷ variant.MYSQL_TYPE_GEOMETRY
     ∷ []
 
--- the type with that code
+-- the type with this code
 unfoldable pub column_type_of : ℕ → Option ColumnType
 column_type_of n = with_code column_type_code column_types n
 
@@ -124,11 +124,11 @@ column_type-back variant.MYSQL_TYPE_VAR_STRING = refl
 column_type-back variant.MYSQL_TYPE_STRING = refl
 column_type-back variant.MYSQL_TYPE_GEOMETRY = refl
 
--- a byte that is the code of a type
+-- a byte that is a type's code
 abbrev pub column_type : Form (Const ColumnType ℕ)
 column_type = coded column_type_of (number 1)
 
--- what is written of a type is read again
+-- a type is read back
 pub column_type-again : (v : Const ColumnType ℕ) → IsSpelling column_type v (le_bytes 1 (column_type_code v.0))
 unfolding column_type_code column_type_of
 column_type-again v = code-again column_type_code column_types refl column_type-back v

@@ -1,8 +1,8 @@
--- One of each form, in order.
+-- One value of each form, in order.
 use Rattle.std.specs.Prelude.{◌≡◌, ℕ, ◌+◌, List, [], ◌∷◌, None, refl}
 use Rattle.mysql_wire.specs.Form.{Form, ◌>>=◌, give}
 
--- a value of each form, whose function is passed the place
+-- a value of each form; the function gets the index
 unfoldable pub each : {A C : Type 0} → (ℕ → C → Form A) → ℕ → List C → Form (List A)
 each form place [] = give []
 each form place (c ∷ cs) = do

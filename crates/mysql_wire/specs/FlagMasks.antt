@@ -1,4 +1,4 @@
--- The masks of the flags, each under the name that its constant has in src/flags.
+-- The masks of the flags, each named like its constant in src/flags.
 use Rattle.std.specs.Prelude.{ℕ}
 
 -- ---- BinlogDumpFlags

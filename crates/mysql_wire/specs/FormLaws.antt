@@ -1,4 +1,4 @@
--- What a form spells and what it reads agree, for each way to put forms together.
+-- What a form encodes and what it reads agree, for each combinator.
 use Rattle.std.specs.Prelude.{◌≡◌, ℕ, ◌≤◌, List, [], ◌∷◌, ◌++◌, length, take, drop, Option, Some, None, Ok, Err, false, nat_lt, refl}
 use Rattle.std.proofs.Common.{sym, ap, ◌∙◌, arith}
 use Rattle.std.proofs.lemmas.Bool.{ltb-false, le-ltb, lt-ltb}
@@ -7,7 +7,7 @@ use Rattle.mysql_wire.specs.declared.fault.FaultKind.TheVariants as kind
 use Rattle.mysql_wire.specs.Reading.{Reading, IsTail, IsTail-trans, IsSized, HasSize, then_read, then_read-ok, done-value, done-rest, done-both, guard_ok}
 use Rattle.mysql_wire.specs.Grammar.{Form, then_Spells, then_reads, bytes_Spells, bytes_reads, map_Spells, map_reads, looked_up, decode_Spells, decode_reads, ended, whole, within_Spells, within_reads, beginning_Spells, beginning_reads}
 
--- ---- a value that takes no bytes
+-- ---- a value without bytes
 
 pub give-found : {A : Type 0} (x v : A) (bytes rest : List ℕ) → ◌≡◌ {A = Reading A} (Ok (x, bytes)) (Ok (v, rest)) → (v ≡ x) × (bytes ≡ rest)
 give-found x v bytes rest e = (sym (done-value x v bytes rest e), done-rest x v bytes rest e)
@@ -18,7 +18,7 @@ give-only x v bytes rest s = done-both x v bytes rest (sym s.0) s.1
 pub give-front : {A : Type 0} (x v : A) (bytes rest : List ℕ) → ◌≡◌ {A = Reading A} (Ok (x, bytes)) (Ok (v, rest)) → IsTail rest bytes
 give-front x v bytes rest e = record { front = []; parts = done-rest x v bytes rest e }
 
--- ---- one form, and then another, which may depend on the value of the first
+-- ---- one form, and then another that may depend on the first one's value
 
 module _ {A B : Type 0} (f : Form A) (g : A → Form B) where
   pub then-found : (v : B) (bytes rest : List ℕ) → then_reads f g bytes ≡ Ok (v, rest) → then_Spells f g v bytes rest
@@ -59,7 +59,7 @@ module _ (n : ℕ) where
     short = λ bytes lt. rw (lt-ltb _ _ lt) refl;
   }
 
--- ---- a value made of another
+-- ---- a value computed from another
 
 module _ {A B : Type 0} (make : A → B) (f : Form A) where
   pub map-from : (v : B) (bytes rest : List ℕ) → map_reads make f bytes ≡ Ok (v, rest) → (x : A) × (make x ≡ v) × (f.reads bytes ≡ Ok (x, rest))
@@ -85,7 +85,7 @@ map-sized make (Some n) reads h = record {
   short = λ bytes lt. rw (h.short bytes lt) refl;
 }
 
--- ---- a value that a table gives
+-- ---- a value from a table
 
 pub looked_up-ok : {B : Type 0} (o : Option B) (v : B) (mid rest : List ℕ) → looked_up o mid ≡ Ok (v, rest) → (o ≡ Some v) × (mid ≡ rest)
 looked_up-ok None v mid rest e = absurd cc
@@ -117,7 +117,7 @@ decode-sized table (Some n) reads h = record {
   short = λ bytes lt. rw (h.short bytes lt) refl;
 }
 
--- ---- a value whose spelling is the whole of a part, as of a block
+-- ---- a value whose bytes are the whole of a part, such as a block
 
 pub ended-ok : {A : Type 0} (w v : A) (left mid rest : List ℕ) → ended w left mid ≡ Ok (v, rest) → (w ≡ v) × (left ≡ []) × (mid ≡ rest)
 ended-ok w v [] mid rest e = (done-value w v mid rest e, refl, done-rest w v mid rest e)
@@ -153,7 +153,7 @@ within-sized (Some n) part reads h = record {
   short = λ bytes lt. rw (h.short bytes lt) refl;
 }
 
--- ---- a value whose spelling is the beginning of a part
+-- ---- a value whose bytes begin a part
 
 module _ {A : Type 0} (part : Form (List ℕ)) (f : Form A) where
   pub beginning-from : (v : A) (bytes rest : List ℕ) → beginning_reads part f bytes ≡ Ok (v, rest)
@@ -174,11 +174,11 @@ module _ {A : Type 0} (part : Form (List ℕ)) (f : Form A) where
   pub beginning-front : (v : A) (bytes rest : List ℕ) → beginning_reads part f bytes ≡ Ok (v, rest) → IsTail rest bytes
   beginning-front v bytes rest e = let a = beginning-from v bytes rest e in part.front a.0 bytes rest a.2
 
-  -- what is the whole of a part is the beginning of it
+  -- the whole of a part is also its beginning
   pub whole-beginning : (v : A) (bytes rest : List ℕ) → within_Spells part f v bytes rest → beginning_Spells part f v bytes rest
   whole-beginning v bytes rest s = (s.0, [], s.1, s.2)
 
--- ---- all that is left
+-- ---- the rest of the bytes
 
 pub rest-found : (c bytes rest : List ℕ) → ◌≡◌ {A = Reading (List ℕ)} (Ok (bytes, [])) (Ok (c, rest)) → (bytes ≡ c) × (rest ≡ [])
 rest-found c bytes rest e = (done-value bytes c [] rest e, sym (done-rest bytes c [] rest e))
@@ -189,7 +189,7 @@ rest-only c bytes rest s = done-both bytes c [] rest s.0 (sym s.1)
 pub rest-front : (c bytes rest : List ℕ) → ◌≡◌ {A = Reading (List ℕ)} (Ok (bytes, [])) (Ok (c, rest)) → IsTail rest bytes
 rest-front c bytes rest e = record { front = bytes; parts = rw (← done-rest bytes c [] rest e) (sym (append-nil bytes)) }
 
--- ---- nothing is spelled so
+-- ---- the form that no bytes have
 
 pub refuse-none : {A : Type 0} {P : Type 0} (v : A) (bytes rest : List ℕ) → ◌≡◌ {A = Reading A} (Err kind.InvalidData) (Ok (v, rest)) → P
 refuse-none v bytes rest e = absurd cc

@@ -1,4 +1,4 @@
--- Integers in their wire form.
+-- Integers on the wire.
 use Rattle.std.specs.Prelude.{◌≡◌, ℕ, Option}
 use Rattle.mysql_wire.specs.declared.int.RawInt.{RawInt}
 use Rattle.mysql_wire.specs.declared.little_endian.LeU16.{LeU16}

@@ -5,7 +5,7 @@ use Rattle.mysql_wire.specs.Writing.{le_bytes}
 use Rattle.mysql_wire.specs.Form.{Form, ◌>>=◌, give, refuse, either, bytes}
 use Rattle.mysql_wire.specs.Int.{raw, byte, le_u16, le_u24, le_u64, number_of}
 
--- what stands after the first byte
+-- what follows the first byte
 abbrev pub lenenc_from : ℕ → Form ℕ
 lenenc_from first =
     either (nat_lt first 251) (give first)
@@ -33,7 +33,7 @@ pub size-lenenc_string : lenenc_string.size ≡ None
 unfolding lenenc_string
 size-lenenc_string = refl
 
--- the shortest spelling of a number
+-- the shortest encoding of a number
 unfoldable pub lenenc_bytes : ℕ → List ℕ
 lenenc_bytes n =
     if nat_lt n 251 then n ∷ []
@@ -41,6 +41,6 @@ lenenc_bytes n =
     else if nat_lt n (2 ^ 24) then 253 ∷ le_bytes 3 n
     else 254 ∷ le_bytes 8 n
 
--- the shortest spelling of a content
+-- the shortest encoding of a content
 unfoldable pub lenenc_string_bytes : List ℕ → List ℕ
 lenenc_string_bytes content = lenenc_bytes (length content) ++ content

@@ -1,4 +1,4 @@
--- What is written of a list is read again.
+-- Lists are read back.
 use Rattle.std.specs.Prelude.{ℕ, ◌<◌, ◌^◌, List, [], ◌∷◌, ◌++◌, length, refl}
 use Rattle.std.specs.List.{All, flat_map}
 use Rattle.std.proofs.Common.{arith, append_assoc}
@@ -29,7 +29,7 @@ module _ {A : Type 0} (Fits : A → Type 0) (f : Form A) (spelling : A → List 
       let less : length (flat_map spelling xs) < length (spelling x ++ flat_map spelling xs) = omega (arith, length-append (spelling x) (flat_map spelling xs), some x (All-head Fits x xs fits)) in
       (flat_map spelling xs, less, again x (All-head Fits x xs fits) (flat_map spelling xs), many-again some xs (All-tail Fits x xs fits))
 
--- a count in eight bytes
+-- a count of eight bytes
 pub count_u64-again : (n : ℕ) → n < 2 ^ 64 → IsSpelling (number_of le_u64) n (le_bytes 8 n)
 count_u64-again n lt rest = (raw_int n, refl, le_u64-again n lt rest)
 

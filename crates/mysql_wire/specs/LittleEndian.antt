@@ -1,4 +1,4 @@
--- Numbers and their bytes, the lowest first, at any width.
+-- Little-endian numbers of any width.
 use Rattle.std.specs.Prelude.{◌≡◌, ℕ, zero, suc, ◌+◌, ◌*◌, ◌/◌, ◌%◌, ◌^◌, ◌<◌, List, [], ◌∷◌, length, slice_index, refl}
 use Rattle.std.specs.Int.{byte_at, byte_worth, bytes_low_first, sum_through}
 use Rattle.std.proofs.Common.{sym, ap, ◌∙◌, arith}
@@ -25,7 +25,7 @@ value-bytes_from i (suc k) n =
     let both : n / 256 ^ i % (256 ^ k * 256) ≡ (n / 256 ^ i / 256 % 256 ^ k) * 256 + n / 256 ^ i % 256 = mod-mul (n / 256 ^ i) (pow_256-pos k) (omega arith) in
     rw (low, high, ← shifted, pow-suc 256 k, both) (omega arith)
 
--- the bytes of a number that has the width are worth the number
+-- the bytes of a number within the width have its value
 pub value-le_bytes : (width n : ℕ) → n < 256 ^ width → le_value (le_bytes width n) ≡ n
 unfolding le_bytes
 value-le_bytes width n lt = value-bytes_from 0 width n ∙ ap (λ (m : ℕ). m % 256 ^ width) (div-one n) ∙ mod-eq_of_lt lt
@@ -55,7 +55,7 @@ sum-shifted b bs (suc k) =
     let next : byte_worth (suc (suc k)) (slice_index bs (suc k)) ≡ 256 * byte_worth (suc k) (slice_index bs (suc k)) = worth-shifted (suc k) (slice_index bs (suc k)) in
     regroup b (sum_through (λ i. byte_worth i (slice_index (b ∷ bs) i)) (suc k)) _ _ _ so_far next
 
--- `from_le_bytes` of all the bytes
+-- `from_le_bytes` of all bytes
 pub sum-value : (bs : List ℕ) (k : ℕ) → length bs ≡ suc k → sum_through (λ i. byte_worth i (slice_index bs i)) k ≡ le_value bs
 sum-value [] k e = absurd (omega arith)
 sum-value (b ∷ []) zero e = omega arith

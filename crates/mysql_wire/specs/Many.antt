@@ -1,4 +1,4 @@
--- Values one after another, until the bytes end.
+-- Values up to the end of the bytes.
 pub mod Grammar
 pub mod Laws
 use Rattle.std.specs.Prelude.{◌≡◌, List, None, refl}

@@ -1,4 +1,4 @@
--- How a value of a bulk request is given.
+-- How a value in a bulk request is sent.
 use Rattle.std.specs.Prelude.{◌≡◌, ℕ, List, [], ◌∷◌, Option, Some, refl}
 use Rattle.mysql_wire.specs.declared.codes.mariadb_bulk_indicator.MariadbBulkIndicator.{MariadbBulkIndicator}
 use Rattle.mysql_wire.specs.declared.codes.mariadb_bulk_indicator.MariadbBulkIndicator.TheVariants as variant
@@ -23,7 +23,7 @@ mariadb_bulk_indicators =
     ∷ variant.BULK_INDICATOR_IGNORE
     ∷ []
 
--- the indicator with that code
+-- the indicator with this code
 unfoldable pub mariadb_bulk_indicator_of : ℕ → Option MariadbBulkIndicator
 mariadb_bulk_indicator_of n = with_code mariadb_bulk_indicator_code mariadb_bulk_indicators n
 
@@ -34,11 +34,11 @@ mariadb_bulk_indicator-back variant.BULK_INDICATOR_NULL = refl
 mariadb_bulk_indicator-back variant.BULK_INDICATOR_DEFAULT = refl
 mariadb_bulk_indicator-back variant.BULK_INDICATOR_IGNORE = refl
 
--- a byte that is the code of an indicator
+-- a byte that is an indicator's code
 abbrev pub mariadb_bulk_indicator : Form (Const MariadbBulkIndicator ℕ)
 mariadb_bulk_indicator = coded mariadb_bulk_indicator_of (number 1)
 
--- what is written of an indicator is read again
+-- an indicator is read back
 pub mariadb_bulk_indicator-again : (v : Const MariadbBulkIndicator ℕ) → IsSpelling mariadb_bulk_indicator v (le_bytes 1 (mariadb_bulk_indicator_code v.0))
 unfolding mariadb_bulk_indicator_code mariadb_bulk_indicator_of
 mariadb_bulk_indicator-again v = code-again mariadb_bulk_indicator_code mariadb_bulk_indicators refl mariadb_bulk_indicator-back v

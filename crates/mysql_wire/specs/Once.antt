@@ -1,4 +1,4 @@
--- Bytes spell at most one value in a form, with one rest after it.
+-- In each form, bytes encode at most one value with one rest after it.
 use Rattle.std.specs.Prelude.{◌≡◌, List, ℕ}
 use Rattle.std.proofs.Common.{sym, ◌∙◌}
 use Rattle.mysql_wire.specs.Form.{Form}

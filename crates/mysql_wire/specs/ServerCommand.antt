@@ -93,7 +93,7 @@ server_commands =
     ∷ variant.COM_MULTI
     ∷ []
 
--- the command with that code
+-- the command with this code
 unfoldable pub server_command_of : ℕ → Option ServerCommand
 server_command_of n = with_code server_command_code server_commands n
 
@@ -139,11 +139,11 @@ server_command-back variant.COM_SLAVE_IO = refl
 server_command-back variant.COM_SLAVE_SQL = refl
 server_command-back variant.COM_MULTI = refl
 
--- a byte that is the code of a command
+-- a byte that is a command's code
 abbrev pub server_command : Form (Const ServerCommand ℕ)
 server_command = coded server_command_of (number 1)
 
--- what is written of a command is read again
+-- a command is read back
 pub server_command-again : (v : Const ServerCommand ℕ) → IsSpelling server_command v (le_bytes 1 (server_command_code v.0))
 unfolding server_command_code server_command_of
 server_command-again v = code-again server_command_code server_commands refl server_command-back v

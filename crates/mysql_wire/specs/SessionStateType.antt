@@ -1,4 +1,4 @@
--- What of a session's state has changed.
+-- Which part of a session's state has changed.
 use Rattle.std.specs.Prelude.{◌≡◌, ℕ, List, [], ◌∷◌, Option, Some, refl}
 use Rattle.mysql_wire.specs.declared.codes.session_state_type.SessionStateType.{SessionStateType}
 use Rattle.mysql_wire.specs.declared.codes.session_state_type.SessionStateType.TheVariants as variant
@@ -27,7 +27,7 @@ session_state_types =
     ∷ variant.SESSION_TRACK_TRANSACTION_STATE
     ∷ []
 
--- the type with that code
+-- the type with this code
 unfoldable pub session_state_type_of : ℕ → Option SessionStateType
 session_state_type_of n = with_code session_state_type_code session_state_types n
 
@@ -40,11 +40,11 @@ session_state_type-back variant.SESSION_TRACK_GTIDS = refl
 session_state_type-back variant.SESSION_TRACK_TRANSACTION_CHARACTERISTICS = refl
 session_state_type-back variant.SESSION_TRACK_TRANSACTION_STATE = refl
 
--- a byte that is the code of a type
+-- a byte that is a type's code
 abbrev pub session_state_type : Form (Const SessionStateType ℕ)
 session_state_type = coded session_state_type_of (number 1)
 
--- what is written of a type is read again
+-- a type is read back
 pub session_state_type-again : (v : Const SessionStateType ℕ) → IsSpelling session_state_type v (le_bytes 1 (session_state_type_code v.0))
 unfolding session_state_type_code session_state_type_of
 session_state_type-again v = code-again session_state_type_code session_state_types refl session_state_type-back v

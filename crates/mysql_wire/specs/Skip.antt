@@ -3,11 +3,11 @@ use Rattle.std.specs.Prelude.{◌≡◌, ℕ, List, Some, refl}
 use Rattle.mysql_wire.specs.Form.{Form, map, bytes}
 use Rattle.mysql_wire.specs.declared.skip.Skip.{Skip}
 
--- the skipped bytes leave nothing
+-- skipped bytes aren't kept
 abbrev pub skipped : {N : ℕ} → List ℕ → Skip N
 skipped inside = record {}
 
--- bytes that may have any value
+-- bytes with any values
 unfoldable pub skip : (n : ℕ) → Form (Skip n)
 skip n = map skipped (bytes n)
 

@@ -1,4 +1,4 @@
--- What is written is read again.
+-- What is written is read back.
 use Rattle.std.specs.Prelude.{◌≡◌, ℕ, ◌<◌, ◌^◌, List, [], ◌∷◌, ◌++◌, length, replicate, Some, refl}
 use Rattle.std.proofs.Common.{arith, eq-eqb}
 use Rattle.std.proofs.lemmas.List.{length-replicate}
@@ -12,25 +12,25 @@ use Rattle.mysql_wire.specs.Int.{byte, le_u16, le_u24, le_u32, le_u64, raw, raw_
 use Rattle.mysql_wire.specs.Skip.{skip}
 use Rattle.mysql_wire.specs.Constant.{const_byte, const_u8, const_le_u32, const_u32}
 
--- the text is a spelling of the value, whatever follows
+-- the text encodes the value, whatever follows
 abbrev pub IsSpelling : {A : Type 0} → Form A → A → List ℕ → Type 0
 IsSpelling f v text = (rest : List ℕ) → f.Spells v (text ++ rest) rest
 
 -- ---- blocks
 
--- a block spells what its bytes spell
+-- a block encodes what its bytes encode
 pub block-again : {A : Type 0} (n : ℕ) (f : Form A) (v : A) (text : List ℕ) → length text ≡ n → f.Spells v text [] → IsSpelling (block n f) v text
 unfolding bytes
 block-again n f v text len p rest = (text, (len, refl), p)
 
 -- ---- leaves
 
--- a number in a given number of bytes
+-- a number of a given number of bytes
 pub number-again : (width n : ℕ) → n < 256 ^ width → IsSpelling (number width) n (le_bytes width n)
 unfolding number bytes
 number-again width n lt rest = (le_bytes width n, value-le_bytes width n lt, (length-le_bytes width n, refl))
 
--- an integer of any form that spells its number again
+-- an integer in any form that encodes its number
 pub raw-again : {P : Type 0} (R : Type 0) (form : Form P) (n : P) (text : List ℕ) → IsSpelling form n text → IsSpelling (raw {R = R} form) (raw_int n) text
 unfolding raw
 raw-again R form n text again rest = (n, refl, again rest)

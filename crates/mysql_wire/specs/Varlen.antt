@@ -1,4 +1,4 @@
--- Numbers of varying length: the low ones of the first byte count the bytes that follow it. And strings after such a length.
+-- Numbers of variable length: the low ones of the first byte are the number of bytes that follow. And strings after such a length.
 pub mod Grammar
 pub mod Laws
 pub mod Again
@@ -8,7 +8,7 @@ use Rattle.mysql_wire.specs.Varlen.Laws as law
 use Rattle.mysql_wire.specs.Writing.{le_bytes}
 pub use Rattle.mysql_wire.specs.Varlen.Grammar.{varlen_Spells, low_ones, above_ones, varlen_reads}
 
--- in k + 1 bytes, the number above a zero above k ones; or the byte ff, and the number in eight bytes
+-- in k + 1 bytes, the number above a zero and k ones; or the byte ff, and the number in eight bytes
 unfoldable pub varlen : Form ℕ
 varlen = record {
   size = None;
@@ -34,7 +34,7 @@ pub size-varlen_string : varlen_string.size ≡ None
 unfolding varlen_string
 size-varlen_string = refl
 
--- ---- what is written
+-- ---- writing
 
 -- the fewest bytes that hold the number at seven bits each, from k + 1 on; or nine
 abbrev pub fewest_from : ℕ → ℕ → ℕ → ℕ
@@ -44,12 +44,12 @@ fewest_from (suc left) k n = if nat_lt n (2 ^ (7 * suc k)) then suc k else fewes
 unfoldable pub varlen_size : ℕ → ℕ
 varlen_size n = fewest_from 8 0 n
 
--- the shortest spelling of a number
+-- the shortest encoding of a number
 unfoldable pub varlen_bytes : ℕ → List ℕ
 varlen_bytes n =
     if varlen_size n == 9 then 255 ∷ le_bytes 8 n
     else le_bytes (varlen_size n) (n * 2 ^ varlen_size n + (2 ^ (varlen_size n - 1) - 1))
 
--- the content after the shortest spelling of its length
+-- the content after the shortest encoding of its length
 abbrev pub varlen_string_bytes : List ℕ → List ℕ
 varlen_string_bytes content = varlen_bytes (length content) ++ content

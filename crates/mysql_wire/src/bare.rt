@@ -8,7 +8,7 @@ use crate::bytes::BytesRepr;
 use crate::fault::FaultOf;
 use std::cmp::min;
 
-// The first bytes, this many at most.
+// At most this many of the first bytes.
 #[inline(always)]
 pub(crate) fn first_bytes(content: &[u8], most: usize) -> &[u8]
     ensures value { result.now ≡ take most content.now }

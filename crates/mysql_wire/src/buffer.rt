@@ -69,7 +69,7 @@ impl Buffer for Vec<u8> {
         self.push_reserved(byte);
     }
 
-    // That there is capacity is tested here once more: the compiler then leaves out the buffer's growth and what it would change.
+    // The capacity is checked once more: the compiler then drops the code that grows the buffer.
     #[inline(always)]
     fn push_bytes(&mut self, bytes: &[u8]) {
         if bytes.len() <= self.capacity() - self.len() {

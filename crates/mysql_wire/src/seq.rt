@@ -298,7 +298,7 @@ impl<'de, T: MyDeserialize<'de, Ctx = ()> + Drop, L: SeqRepr> MyDeserialize<'de>
     fn deserialize<'s>(ctx: L::Ctx, buf: &mut ParseBuf<'de>) -> Result<Self, FaultOf<'s>> {
         let mut rest = buf.rest();
         let count = L::read_count(ctx, &mut rest)?;
-        // (for no value no memory is taken)
+        // Without values nothing is allocated.
         if count == 0 {
             *buf = rest;
             return Ok(Seq::borrowed(&[]));

@@ -24,7 +24,7 @@ impl<'a> ComStmtBulkExecuteRequestBuilder<'a> {
     /// If the row fits with those that wait, its copy waits too, and the result is `Ok(true)`; if it doesn't, the result is
     /// `Ok(false)`, and the caller builds a request. The errors are those of `add_row`. If no copy waits, the builder is
     /// unchanged.
-    // (inlined: a loop that offers rows of a known length is faster then)
+    // Inlined: a loop over rows of a known length is faster then.
     #[inline(always)]
     pub fn add_row_slice(&mut self, row: &[Value]) -> Result<bool, BulkRowError>
         ensures { AddsCopy self.old (contents_of row.now) result self.new }
@@ -34,7 +34,7 @@ impl<'a> ComStmtBulkExecuteRequestBuilder<'a> {
 
     /// Adds copies of values that borrow their bytes, for example from the packet of a row: see
     /// [`add_row_slice`](Self::add_row_slice). A byte is only copied once the row is known to fit up to it.
-    // (inlined as that one is)
+    // Inlined for the same reason.
     #[inline(always)]
     pub fn add_row_refs(&mut self, row: &[ValueRef<'_>]) -> Result<bool, BulkRowError>
         ensures { AddsCopy self.old (map ref_content row.now) result self.new }
@@ -56,7 +56,7 @@ impl<'a> ComStmtBulkExecuteRequestBuilder<'a> {
         if self.takes_copy(row) {
             return Ok(true);
         }
-        // (nothing changed: why no copy waits is found out apart)
+        // Nothing has changed: why no copy was added is determined separately.
         if self.size_after(row).is_some() {
             Err(BulkRowError::Memory)
         } else if self.has_rows() {
@@ -68,7 +68,7 @@ impl<'a> ComStmtBulkExecuteRequestBuilder<'a> {
 
     /// Copies a row, which may come next, if it fits with the rows that wait. Returns whether it waits now; after an error it
     /// doesn't.
-    // (its bytes are counted while it is copied, so that they are looked at once)
+    // The bytes are counted while they are copied, in one pass.
     #[inline(always)]
     fn takes_copy<V: RowValue>(&mut self, row: &[V]) -> bool
         requires { TakesRow self.old (map V.content row.now) }

@@ -12,7 +12,7 @@ use mysql_values::{Params, Value};
 
 impl<'a> ComStmtBulkExecuteRequestBuilder<'a> {
     /// Adds a row, or returns it if it doesn't fit with those that wait.
-    // (inlined with `size_after`: a loop over rows is faster then)
+    // Inlined with `size_after`: a loop over rows is faster then.
     #[inline(always)]
     pub(crate) fn add(
         &mut self,

@@ -95,7 +95,7 @@ impl<'a> BulkRequestWriter<'a> {
     /// also returned if a request that is due can't be allocated, and its rows then wait.
     pub fn build_all_values(&mut self, alloc: Global, rows: &[Vec<BulkValue<'_>>]) -> BulkValuesRun
         ensures gives { (before : List (List Cell)) → HoldsCells self.old before → spec.CellsRunGives self.old before (spec.cells_of_rows rows.now) (spec.bytes_of result.requests.items) result.refusal self.new }
-        // The memory of the buffer stays, whatever is sent.
+        // The buffer's capacity never shrinks, whatever is sent.
         ensures capacity { self.old.capacity ≤ self.new.capacity }
     {
         let mut requests = Vec::new(alloc);

@@ -220,7 +220,7 @@ fn refusal_name(refusal: &BulkExecuteRequestBuilderError) -> &'static str
             BulkExecuteRequestError::NoParams => "NoParams",
             BulkExecuteRequestError::Memory => "Memory",
         },
-        // No parameters are offered.
+        // Unreachable: this command has no parameters.
         BulkExecuteRequestBuilderError::Params(_) => "Params",
     }
 }

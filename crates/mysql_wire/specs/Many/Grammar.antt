@@ -1,4 +1,4 @@
--- Values one after another, until the bytes end: what they spell, and what reading them gives.
+-- Values up to the end of the bytes: their encodings, and the result of reading them.
 use Rattle.std.specs.Prelude.{◌≡◌, ℕ, zero, suc, ◌<◌, List, [], ◌∷◌, length, Ok, Err, Bool, false, nat_lt, if◌then◌else◌}
 use Rattle.mysql_wire.specs.declared.fault.FaultKind.TheVariants as kind
 use Rattle.mysql_wire.specs.Reading.{Reading, then_read}
@@ -9,7 +9,7 @@ use Rattle.mysql_wire.specs.Seq.{asks_memory}
 abbrev pub value_and_more : {A : Type 0} → ℕ → (List ℕ → Reading (List A)) → A → List ℕ → Reading (List A)
 value_and_more before next x mid = if nat_lt (length mid) before then then_read (next mid) (λ xs rest. Ok (x ∷ xs, rest)) else Err kind.InvalidData
 
--- whether the reader of the values may take memory: where the first one is read, and takes a byte, or may take memory itself
+-- whether the reader of the values may allocate: if the first one is read and takes a byte, or may allocate itself
 abbrev pub many_asks : {A : Type 0} → (List ℕ → Bool) → Form A → List ℕ → Bool
 many_asks takes_memory f [] = false
 many_asks takes_memory f (b ∷ bs) = asks_memory (takes_memory (b ∷ bs)) (then_read (f.reads (b ∷ bs)) (value_and_more (length (b ∷ bs)) (λ mid. Ok ([], mid))))
@@ -26,6 +26,6 @@ module _ {A : Type 0} (f : Form A) where
   many_within zero (b ∷ bs) = Err kind.InvalidData
   many_within (suc steps) (b ∷ bs) = then_read (f.reads (b ∷ bs)) (value_and_more (length (b ∷ bs)) (many_within steps))
 
-  -- as many values as there can be, each of at least one byte
+  -- as many values as possible, each of at least one byte
   abbrev pub many_reads : List ℕ → Reading (List A)
   many_reads bytes = many_within (length bytes) bytes

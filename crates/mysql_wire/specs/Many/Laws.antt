@@ -1,4 +1,4 @@
--- What values one after another spell and what reading them gives agree.
+-- The encodings of values up to the end of the bytes, and the result of reading them, agree.
 use Rattle.std.specs.Prelude.{◌≡◌, ℕ, zero, suc, ◌<◌, ◌≤◌, List, [], ◌∷◌, length, Ok, Err, refl}
 use Rattle.std.proofs.Common.{sym, ◌∙◌, arith, inl, inr}
 use Rattle.std.proofs.lemmas.Bool.{cases_lt, lt-ltb, le-ltb}
@@ -62,7 +62,7 @@ module _ {A : Type 0} (f : Form A) where
   pub many-front : (v : List A) (bytes rest : List ℕ) → many_reads f bytes ≡ Ok (v, rest) → IsTail rest bytes
   many-front v bytes rest e = record { front = bytes; parts = rw (rest-none v bytes rest (many-found v bytes rest e)) (sym (append-nil bytes)) }
 
-  -- the count of steps does not matter, where it is enough
+  -- the number of steps doesn't matter, as long as it is enough
   steps-same : (n m : ℕ) (bytes : List ℕ) → length bytes ≤ n → length bytes ≤ m → many_within f n bytes ≡ many_within f m bytes
   steps-same zero zero [] p q = refl
   steps-same zero (suc m) [] p q = refl

@@ -1,4 +1,4 @@
--- What byte strings that end in a zero spell and what reading one gives agree.
+-- The encodings of byte strings terminated by a zero, and the result of reading them, agree.
 use Rattle.std.specs.Prelude.{◌≡◌, ℕ, zero, suc, List, [], ◌∷◌, ◌++◌, Ok, refl}
 use Rattle.std.proofs.Common.{ap, sym, ◌∙◌, append_assoc}
 use Rattle.mysql_wire.specs.Reading.{IsTail, then_read-ok, done-along}

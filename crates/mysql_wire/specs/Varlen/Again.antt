@@ -1,4 +1,4 @@
--- What is written of a number of varying length, and of a string after such a length, is read again.
+-- Numbers of variable length, and strings after such a length, are read back.
 use Rattle.std.specs.Prelude.{◌≡◌, ◌≢◌, ℕ, zero, suc, ◌+◌, ◌-◌, ◌*◌, ◌^◌, ◌<◌, ◌≤◌, ◌⊎◌, List, ◌∷◌, ◌++◌, length, ◌==◌, Bool, true, false, refl}
 use Rattle.std.proofs.Common.{arith, append_assoc, inl, inr}
 use Rattle.std.proofs.lemmas.Bool.{cases_lt, lt-ltb, le-ltb, eqb-false}
@@ -19,7 +19,7 @@ fewest-fits (suc left) k n le =
       | inr more ↦ rw (le-ltb _ _ more) (fewest-fits left (suc k) n (omega (arith, le)))
     ]
 
--- the bytes hold the number, where they are not nine
+-- fewer than nine bytes hold the number
 pub size_fits : (n : ℕ) → varlen_size n ≢ 9 → (0 < varlen_size n) × (varlen_size n ≤ 8) × (n < 2 ^ (7 * varlen_size n))
 unfolding varlen_size
 size_fits n ne = elim (fewest-fits 8 0 n (omega arith)) [ inl nine ↦ absurd (ne nine) | inr fits ↦ fits ]

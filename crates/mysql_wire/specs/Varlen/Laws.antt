@@ -1,4 +1,4 @@
--- What numbers of varying length spell and what reading one gives agree.
+-- The encodings of numbers of variable length, and the result of reading them, agree.
 use Rattle.std.specs.Prelude.{◌≡◌, ℕ, zero, suc, ◌+◌, ◌-◌, ◌*◌, ◌/◌, ◌%◌, ◌^◌, ◌<◌, ◌⊎◌, List, [], ◌∷◌, Ok, Err, Bool, true, false, ◌==◌, refl}
 use Rattle.std.proofs.Common.{sym, ap, subst, ◌∙◌, arith, inl, inr, get_or}
 use Rattle.std.proofs.lemmas.Bool.{cases_lt, lt-ltb, le-ltb, eq-eqb, ne_eqb, eqb-true}
@@ -80,7 +80,7 @@ which : (b : Bool) → (b ≡ true) ⊎ (b ≡ false)
 which true = inl refl
 which false = inr refl
 
--- a number above a zero above k ones
+-- a number above a zero and k ones
 parts : (v k n : ℕ) → v % 2 ^ suc k + 1 ≡ 2 ^ k → v / 2 ^ suc k ≡ n → v ≡ n * 2 ^ suc k + (2 ^ k - 1)
 parts v k n low high = let whole = div-add-mod' v (2 ^ suc k) in rw (← high) (omega (arith, whole, low))
 
