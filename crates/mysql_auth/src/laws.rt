@@ -4,7 +4,7 @@
 //! with `this` speak of the value at hand.
 #![tactic(auto, using(mysql_wire::proofs::Packets::packets, crate::proofs::WholePackets::whole_packets, crate::proofs::HandshakeFits::handshakes, crate::proofs::HandshakeResponseFits::responses, crate::proofs::ChangeUserFits::changes))]
 
-ghost use Rattle.std.specs.Prelude.{◌≡◌, ◌++◌, ℕ, List, [], true};
+ghost use Rattle.std.specs.Prelude.{◌≡◌, ◌++◌, ℕ, List, [], Some, None, true};
 ghost use Rattle.mysql_auth.specs.declared.auth_more_data.AuthMoreData.{AuthMoreData};
 ghost use Rattle.mysql_auth.specs.AuthNextFactor.{AuthNextFactor};
 ghost use Rattle.mysql_auth.specs.AuthSwitchRequest.{AuthSwitchRequest};
