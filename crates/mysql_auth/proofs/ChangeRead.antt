@@ -1,4 +1,4 @@
--- A change of user, whose last part is more data, whose last part is its attributes.
+-- A change of user ends in its optional fields, and these end in the attributes.
 use Rattle.std.proofs.Common.{◌≡◌, ℕ, List, Ok, Option, Some, Bool, true, false, refl, sym, ap, ◌∙◌}
 use Rattle.mysql_wire.specs.declared.fault.FaultOf.{FaultOf}
 use Rattle.mysql_wire.specs.CountedBytes.{u8_string}
@@ -78,7 +78,7 @@ module _ (c : CapabilityFlags) where
   unfolding more_data
   more-attributes_fault e p bytes mid same h = rw same (data-last_fault sent_attributes c (counts_any ((sent_room (sends_attributes c)).reads mid)) e p bytes mid same h)
 
-  -- the former is the latter, except for keys that come again
+  -- both agree, except for repeated keys
   attributes-once : (mid : List ℕ) → made (option_map merged) ((pairs_as_sent.form c).reads mid) ≡ (sent_attributes.form c).reads mid
   unfolding pairs_as_sent sent_attributes
   attributes-once mid = given-once (sends_attributes c) mid
@@ -158,7 +158,7 @@ module _ (c : CapabilityFlags) where
   unfolding change_user
   change-more_fault e p bytes mid same h = rw same (whole-last_fault last_part c (counts_any ((in_last_part c).reads mid)) e p bytes mid same h)
 
-  -- the former is the latter, except for keys that come again
+  -- both agree, except for repeated keys
   there-once : (there : Bool) (mid : List ℕ) → made (option_map more_with_each_key_once) ((when there (more_data_as_sent.form c)).reads mid) ≡ (when there (more_data.form c)).reads mid
   there-once true mid =
       last-put more_with_each_key_once (option_map more_with_each_key_once) Some ((more_data_as_sent.form c).reads mid) (λ more. refl)

@@ -55,7 +55,7 @@ session_change-fits : (c : CapabilityFlags) (p : ComChangeUser) (rest : List ℕ
 unfolding session_change_user
 session_change-fits c p rest h = (tt, (h.user, (h.auth_plugin_data, (h.database, (session_last-fits c (more_data_in p) rest h.more_data, tt)))))
 
--- a session reads as the others do
+-- a session reads the same fields
 pub session_data-again : (c : CapabilityFlags) (p : ComChangeUserMoreData) (rest : List ℕ) → SessionMoreDataFits c p → (more_data.form c).Spells p ((session_more_data c).bytes p ++ rest) rest
 unfolding more_data named_plugin sent_attributes session_more_data
 session_data-again c p rest h = (session_more_data c).again tt p rest (session_data-fits c p rest h)

@@ -1,4 +1,4 @@
--- Plugins that have a variant of their own, and those of another name.
+-- Plugins with a variant of their own, and others by name.
 use Rattle.std.proofs.Common.{◌≡◌, Option, Some, None, refl}
 use Rattle.mysql_auth.specs.AuthPlugin.{IsKnown, known, plugin_name}
 use Rattle.mysql_auth.specs.declared.auth_plugin.AuthPlugin.{AuthPlugin}

@@ -1,23 +1,23 @@
--- A packet that is read in two parts, of which the last one is read by itself.
+-- A packet is read in two parts, the last of them by a reader of its own.
 use Rattle.std.proofs.Common.{◌≡◌, ℕ, List, Ok, Err, Bool, false, refl}
 use Rattle.mysql_wire.specs.declared.fault.FaultOf.{FaultOf}
 use Rattle.mysql_wire.specs.declared.fault.FaultOf.TheVariants as fault
 use Rattle.mysql_wire.specs.Reading.{Reading, Faults, then_read}
 
--- one part more that stands in front
+-- one more part at the front
 pub step : {A B C : Type 0} (read : Reading A) (front : A → List ℕ → Reading B) (last : B → List ℕ → Reading C) (whole : A → List ℕ → Reading C)
     → ((x : A) (rest : List ℕ) → whole x rest ≡ then_read (front x rest) last) → then_read read whole ≡ then_read (then_read read front) last
 step (Ok x) front last whole h = h x.0 x.1
 step (Err e) front last whole h = refl
 
--- a fault in front is the packet's
+-- a fault in the front part is the packet's
 pub front-fault : {A B : Type 0} (takes_memory : Bool) (e : FaultOf) (read : Reading A) (next : A → List ℕ → Reading B) → Faults false e read → Faults takes_memory e (then_read read next)
 front-fault takes_memory fault.Memory read next h = absurd cc
 front-fault takes_memory fault.UnexpectedEof read next h = rw h refl
 front-fault takes_memory (fault.InvalidData text) read next h = rw h refl
 front-fault takes_memory (fault.InvalidInput text) read next h = rw h refl
 
--- so is one of the last part
+-- a fault in the last part is the packet's too
 pub last-fault : {A B : Type 0} (takes_memory : Bool) (e : FaultOf) (read : Reading A) (next : A → List ℕ → Reading B) → Faults takes_memory e read → Faults takes_memory e (then_read read next)
 last-fault takes_memory fault.Memory read next h = h
 last-fault takes_memory fault.UnexpectedEof read next h = rw h refl

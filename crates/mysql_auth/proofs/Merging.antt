@@ -1,4 +1,4 @@
--- Pairs that are put into a map one after another.
+-- Pairs are inserted into a map in order.
 use Rattle.std.proofs.Common.{◌≡◌, ℕ, suc, ◌+◌, ◌<◌, Bool, true, false, ◌||◌, List, [], ◌∷◌, ◌++◌, length, take, get_or, map, arith, if◌then◌else◌, refl, sym, subst, ap, ◌∙◌, append_assoc}
 use Rattle.std.proofs.Math.Seq.{take-suc}
 use Rattle.std.proofs.lemmas.List.{append-nil, map-append}
@@ -17,12 +17,12 @@ use Rattle.mysql_auth.specs.Attributes.{Attribute, merged, text_pair, lossy_pair
 abbrev same : List ℕ → List ℕ → Bool
 same = pointwise nat_eq
 
--- what holds of each key holds of one in the middle
+-- what holds for each key holds for one in the middle
 middle : (P : List ℕ → Type 0) (front more : List Attribute) (e : Attribute) → AllByRecursion P (keys_of (front ++ e ∷ more)) → P e.0
 middle P [] more e all = all.0
 middle P (f ∷ front) more e all = middle P front more e all.1
 
--- a key that stands once goes last
+-- a key that occurs once is inserted at the end
 goes-last : (front more : List Attribute) (e : Attribute) → IsDistinct same (keys_of (front ++ e ∷ more)) → insert_entry same front e.0 e.1 ≡ front ++ e ∷ []
 goes-last [] more e once = refl
 goes-last (f ∷ front) more e once =
@@ -37,13 +37,13 @@ merged-after front (e ∷ es) once =
     rw (goes-last front es e once)
     (merged-after (front ++ e ∷ []) es (subst (λ (all : List Attribute). IsDistinct same (keys_of all)) (sym regrouped) once) ∙ regrouped)
 
--- pairs of which each key stands once stay as they are
+-- pairs with distinct keys are unchanged
 pub merged-once : (es : List Attribute) → IsDistinct same (keys_of es) → merged es ≡ es
 merged-once es once = merged-after [] es once
 
 -- ---- a key that no other has
 
--- it goes last
+-- it is inserted at the end
 pub new-last : (es : List Attribute) (k v : List ℕ) → list_any (λ e. same k e.0) es ≡ false → insert_entry same es k v ≡ es ++ (k, v) ∷ []
 new-last [] k v none = refl
 new-last (e ∷ es) k v none =
@@ -58,7 +58,7 @@ keys-last : (es : List Attribute) (p : Attribute) → keys_of (es ++ p ∷ []) �
 keys-last [] p = refl
 keys-last (e ∷ es) p = ap (λ (ks : List (List ℕ)). e.0 ∷ ks) (keys-last es p)
 
--- and each key stands once again
+-- and the keys are still distinct
 pub new-once : (es : List Attribute) (p : Attribute) → IsDistinct same (keys_of es) → list_any (λ e. same p.0 e.0) es ≡ false → IsDistinct same (keys_of (es ++ p ∷ []))
 new-once es p once none =
     subst (IsDistinct same) (sym (keys-last es p)) (IsDistinct-push nat_list_eq_equiv (keys_of es) p.0 once (keys-any es p.0 ∙ none))
@@ -94,18 +94,18 @@ unfolding IsDistinct
 texts-once [] once = tt
 texts-once (e ∷ es) once = (others-apart e.0 es once.0, texts-once es once.1)
 
--- the bytes of a map's texts are pairs of which each key stands once
+-- the bytes of a map's texts are pairs with distinct keys
 pub merged-texts : (es : List (String Global × String Global)) → IsDistinct string_eq (keys_of es) → merged (map text_pair es) ≡ map text_pair es
 merged-texts es once = merged-once (map text_pair es) (texts-once es once)
 
--- a list that is the pairs of a map
+-- a list that has the pairs of a map
 pub once-listed : (list es : List Attribute) → IsDistinct same (keys_of es) → list ≡ es → merged list ≡ list
 once-listed list es once is = rw is (merged-once es once)
 
 pub texts-listed : (list : List Attribute) (es : List (String Global × String Global)) → IsDistinct string_eq (keys_of es) → list ≡ map text_pair es → merged list ≡ list
 texts-listed list es once is = rw is (merged-texts es once)
 
--- the texts of one pair more
+-- the texts of one more pair
 pub texts-next : (pairs : List Attribute) (i : ℕ) (d : Attribute) (es : List (String Global × String Global)) (k v : String Global) → i < length pairs
     → map text_pair es ≡ lossy_pairs (take i pairs) → text_pair (k, v) ≡ lossy_pair (get_or pairs i d)
     → map text_pair (insert_entry string_eq es k v) ≡ lossy_pairs (take (i + 1) pairs)

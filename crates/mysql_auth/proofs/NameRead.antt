@@ -1,4 +1,4 @@
--- A name that is read up to a zero or to the end.
+-- A name ends before a zero byte or at the end of the packet.
 use Rattle.std.proofs.Common.{◌≡◌, ℕ, zero, suc, List, [], ◌∷◌, ◌++◌, Ok, true, false, refl}
 use Rattle.mysql_wire.specs.Null.{HasNoZero, null_Spells, null_string}
 use Rattle.mysql_auth.specs.PluginName.{has_zero, name_to_zero_or_end}

@@ -1,4 +1,4 @@
--- The flags of three options, each switched by itself.
+-- Three flags, each set or cleared independently.
 use Rattle.std.proofs.Common.{◌≡◌, ◌≢◌, ◌∙◌, ℕ, ◌<◌, Bool, arith}
 use Rattle.std.specs.Int.{bit_at}
 use Rattle.mysql_wire.specs.FlagMasks.{CLIENT_CONNECT_WITH_DB, CLIENT_PLUGIN_AUTH, CLIENT_CONNECT_ATTRS}

@@ -1,4 +1,4 @@
--- Pairs are read one after another, and are those that all of the bytes spell.
+-- Pairs are read in order, and are those that the whole content spells.
 use Rattle.std.proofs.Common.{◌≡◌, ◌≢◌, ℕ, List, [], ◌∷◌, ◌++◌, length, Option, None, Result, Ok, Err, false, refl, sym, ◌∙◌}
 use Rattle.std.specs.Result.{result_ok}
 use Rattle.mysql_wire.proofs.AllRead as all_read
@@ -17,7 +17,7 @@ use Rattle.mysql_auth.proofs.PairsRead.{f, opened, pair-shorter}
 
 -- ---- a loop that reads all of them
 
--- what is read of the rest, after what was read before, is what is read of the bytes
+-- the pairs read before, and then those of the rest, are those of all bytes
 pub record Passed (rest bytes : List ℕ) : Type 0 where
   pub before : List Attribute
   pub same : with_front before ((many f).reads rest) ≡ (many f).reads bytes
@@ -75,7 +75,7 @@ merged-read bytes w = merged-of ((many f).reads bytes) (pairs_in bytes) w
 pub merged-found : (bytes : List ℕ) (found : List Attribute) → ArePairs bytes → pairs.reads bytes ≡ Ok (found, []) → found ≡ merged (pairs_in bytes)
 merged-found bytes found w e = done-value found (merged (pairs_in bytes)) [] [] (sym e ∙ merged-read bytes w)
 
--- bytes that spell no pair are none
+-- only the empty content spells no pair
 no-pairs-by : (bytes : List ℕ) (read : Reading Attribute) → f.reads bytes ≡ read → bytes ≢ [] → ArePairs bytes → pairs_in bytes ≡ [] → ⊥
 no-pairs-by bytes (Ok x) e some w none =
     let first : pairs_in bytes ≡ x.0 ∷ pairs_in x.1 = (all_read.goes-on f pairs_read (λ x. refl) bytes x.1 x.0 some w e).1 in
@@ -86,7 +86,7 @@ no-pairs-by bytes (Err k) e some w none = all_read.refused f pairs_read (λ x. r
 read-once : (bytes : List ℕ) (k : FaultKind) → ArePairs bytes → pairs.reads bytes ≡ Err k → ⊥
 read-once bytes k w h = let same : ◌≡◌ {A = Reading (List Attribute)} (Ok (merged (pairs_in bytes), [])) (Err k) = sym (merged-read bytes w) ∙ h in cc
 
--- so no pair is read again without memory
+-- so a refusal for memory means that there is a pair
 none-refused_again : (bytes : List ℕ) (e : FaultOf) → ArePairs bytes → pairs_in bytes ≡ [] → Faults (is_any (pairs_room (length bytes))) e (pairs.reads bytes) → ⊥
 none-refused_again [] fault.Memory w none h = cc
 none-refused_again (b ∷ bytes) fault.Memory w none h = no-pairs-by (b ∷ bytes) (f.reads (b ∷ bytes)) refl (λ e. cc) w none

@@ -23,7 +23,7 @@ use Rattle.mysql_auth.proofs.Merging.{new-last}
 abbrev same : List ℕ → List ℕ → Bool
 same = pointwise nat_eq
 
--- the pairs that are read put into a map after these entries
+-- the pairs that are read, inserted into a map after these entries
 abbrev pub put_after : List Attribute → Reading (List Attribute) → Reading (List Attribute)
 put_after entries read = then_read read (λ pairs rest. Ok (insert_all same entries pairs, rest))
 
@@ -44,7 +44,7 @@ string-shorter content bytes rest s =
     let content_after : length s.1 ≡ length content + length rest = ap length s.3.1 ∙ length-append content rest in
     omega (arith, number-shorter _ bytes s.1 s.2.2.2, content_after)
 
--- so a pair takes two
+-- so a pair takes at least two
 pub pair-takes-two : (p : Attribute) (bytes rest : List ℕ) → (attribute.form tt).reads bytes ≡ Ok (p, rest) → length rest + 2 ≤ length bytes
 unfolding attribute
 pair-takes-two p bytes rest e =
@@ -80,20 +80,20 @@ no-pair entries = refl
 pair-fails : (entries : List Attribute) (bytes : List ℕ) (e : FaultKind) → bytes ≢ [] → f.reads bytes ≡ Err e → put_after entries ((many f).reads bytes) ≡ Err e
 pair-fails entries bytes e some h = rw (opened bytes some, h) refl
 
--- the first pair that has a fault
+-- the first pair with a fault
 pub pair-faults : (entries : List Attribute) (bytes : List ℕ) (takes_memory : Bool) (e : FaultOf) → bytes ≢ [] → Faults false e (f.reads bytes) → Faults takes_memory e (put_after entries ((many f).reads bytes))
 pair-faults entries bytes takes_memory fault.Memory some h = absurd cc
 pair-faults entries bytes takes_memory fault.UnexpectedEof some h = pair-fails entries bytes _ some h
 pair-faults entries bytes takes_memory (fault.InvalidData text) some h = pair-fails entries bytes _ some h
 pair-faults entries bytes takes_memory (fault.InvalidInput text) some h = pair-fails entries bytes _ some h
 
--- where some bytes are left, there were some
+-- if bytes are left, there were some before
 pub any-left : (bytes whole : List ℕ) → bytes ≢ [] → length bytes ≤ length whole → is_any (length whole) ≡ true
 any-left [] whole some le = absurd (some refl)
 any-left (b ∷ bytes) [] some le = absurd (omega (arith, le))
 any-left (b ∷ bytes) (w ∷ whole) some le = refl
 
--- where a pair was read, the bytes can hold one
+-- if a pair was read, the bytes can hold one
 any-above : (n : ℕ) → 0 < n → is_any n ≡ true
 any-above zero lt = absurd (omega (arith, lt))
 any-above (suc n) lt = refl
@@ -101,7 +101,7 @@ any-above (suc n) lt = refl
 pub any-held : (p : Attribute) (bytes rest whole : List ℕ) → length bytes ≤ length whole → f.reads bytes ≡ Ok (p, rest) → is_any (pairs_room (length whole)) ≡ true
 any-held p bytes rest whole le e = any-above (length whole / 2) (omega (arith, pair-takes-two p bytes rest e, le))
 
--- one pair whose key is new, and those after it
+-- a pair with a new key, and those after it
 pub new-pair : (entries : List Attribute) (p : Attribute) (bytes after : List ℕ) → bytes ≢ [] → f.reads bytes ≡ Ok (p, after) → list_any (λ e. same p.0 e.0) entries ≡ false
     → put_after (entries ++ p ∷ []) ((many f).reads after) ≡ put_after entries ((many f).reads bytes)
 new-pair entries p bytes after some e new =

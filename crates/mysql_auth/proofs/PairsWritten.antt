@@ -1,4 +1,4 @@
--- A content that is written after its length.
+-- A content after its length.
 use Rattle.std.proofs.Common.{◌≡◌, ℕ, ◌+◌, ◌-◌, ◌<◌, ◌≤◌, ◌^◌, List, [], ◌++◌, length, min, replicate, refl, inl, inr, arith}
 use Rattle.std.proofs.lemmas.Bool.{cases_lt}
 use Rattle.std.proofs.lemmas.List.{length-append}
@@ -11,14 +11,14 @@ pub string-length : (content : List ℕ) → length (lenenc_string_bytes content
 unfolding lenenc_string_bytes
 string-length content = length-append (lenenc_bytes (length content)) content
 
--- what has limit has a length that is not cut
+-- a length within the limit is not truncated
 pub whole-count : (content : List ℕ) (len limit : ℕ) → len + length (lenenc_string_bytes content) ≤ limit → limit < 2 ^ 64 → saturated (length content) ≡ length content
 unfolding saturated lenenc_string_bytes
 whole-count content len limit capacity small =
     let long : length (lenenc_bytes (length content) ++ content) ≡ length (lenenc_bytes (length content)) + length content = length-append (lenenc_bytes (length content)) content in
     omega (arith, long, capacity, small, some-lenenc content)
 
--- a length that is cut is past what a machine can hold, whatever stands in front
+-- a truncated length exceeds the address space, whatever precedes it
 pub counted-length : (content : List ℕ) → min (length (lenenc_bytes (saturated (length content))) + saturated (length content)) (2 ^ 64 - 1) ≡ saturated (length (lenenc_string_bytes content))
 unfolding saturated lenenc_string_bytes
 counted-length content =

@@ -1,4 +1,4 @@
--- The parts of packets that were read fit, except for what their lengths have to tell.
+-- The parts of packets that were read fit, up to conditions on their lengths.
 use Rattle.std.proofs.Common.{◌≡◌, ℕ, List, Option, Some, None, Bool, true, false, refl, sym, subst, ap, ◌∙◌}
 use Rattle.std.specs.Option.{option_map}
 use Rattle.mysql_wire.specs.declared.int.RawInt.{RawInt}
@@ -44,7 +44,7 @@ attributes-fit : (sent : Bool) (given : Option (List Attribute)) (bytes rest : L
 attributes-fit true given bytes rest s = subst (λ (o : Option (List Attribute)). AreShortIn o → PartFits AreShort true o) s.1 (λ short. (refl, short))
 attributes-fit false given bytes rest s = subst (λ (o : Option (List Attribute)). AreShortIn o → PartFits AreShort false o) (sym s.0) (λ short. refl)
 
--- a level that was read was sent
+-- a level is read only if it was sent
 level-fits : (sent : Bool) (level : Option (RawInt ℕ ℕ)) (bytes rest more : List ℕ) → ((level_codec sent).form tt).Spells level bytes rest
     → LevelIsByte sent (option_map (λ n. n.0) level) more → LevelFits sent (option_map (λ n. n.0) level) more
 level-fits true None bytes rest more s h = h
@@ -126,7 +126,7 @@ change-parts c p bytes rest more s =
     let whole : p ≡ made = given.3.0 in
     subst (λ (q : ComChangeUser). ChangeUserIsShort q more → SessionChangeUserPartsFit c q more) (sym whole) parts
 
--- ---- where attributes are sent, they are there
+-- ---- attributes are present if they are sent
 
 given-there : (sent : Bool) (given : Option (List Attribute)) → sent ≡ true → PartFits AreShort sent given → GivenFits AreShort sent given
 given-there sent None is_sent h = let none : ◌≡◌ {A = Bool} true false = sym is_sent ∙ h in absurd cc

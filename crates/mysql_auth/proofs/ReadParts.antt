@@ -1,4 +1,4 @@
--- The parts of what was read: texts up to a zero have none, and a plugin is that of its name.
+-- The parts of what was read: null-terminated texts have no zero, and a plugin is the one with its name.
 use Rattle.std.proofs.Common.{◌≡◌, ℕ, zero, suc, ◌-◌, ◌<◌, ◌==◌, nat_lt, nat_eq, List, [], ◌∷◌, length, get_or, codes, Option, Bool, true, false, if◌then◌else◌, refl, sym, subst, ap, ◌∙◌, arith}
 use Rattle.std.proofs.lemmas.Bool.{ne_eqb, and_right}
 use Rattle.std.specs.Cmp.Lexicographic.{pointwise}
@@ -55,11 +55,11 @@ name-kept name =
     (step name (codes "mysql_native_password") _ _ refl (step name (codes "mysql_old_password") _ _ refl
     (step name (codes "mysql_clear_password") _ _ refl (step name (codes "client_ed25519") _ _ refl (step name (codes "parsec") _ _ refl refl)))))
 
--- a name without a zero is that of its plugin
+-- a name without a zero is the name of its plugin
 pub name-told : (content : List ℕ) → HasNoZero content → plugin_name (plugin_of content) ≡ content
 name-told content h = ap (λ (x : List ℕ). plugin_name (plugin_named x)) (stays content h) ∙ name-kept content
 
--- a plugin of a name without a zero
+-- the plugin with a name without a zero
 plugin-fits : (content : List ℕ) (p : AuthPlugin) → HasNoZero content → plugin_of content ≡ p → PluginFits p
 plugin-fits content p h e =
     let name : plugin_name p ≡ content = ap plugin_name (sym e) ∙ name-told content h in
@@ -73,7 +73,7 @@ pub to-zero-or-end-fits : (p : AuthPlugin) (bytes rest : List ℕ) → (plugin_n
 unfolding plugin_null_or_eof
 to-zero-or-end-fits p bytes rest s = plugin-fits s.0 p (either-no_zero (has_zero bytes) s.0 bytes rest refl s.2) s.1
 
--- ---- a part that is there where it is sent
+-- ---- a part that is present if it is sent
 
 pub read-part : {A : Type 0} (f : Form A) (Fits : A → Type 0) → ((a : A) (bytes rest : List ℕ) → f.Spells a bytes rest → Fits a)
     → (sent : Bool) (part : Option A) (bytes rest : List ℕ) → (when sent f).Spells part bytes rest → PartFits Fits sent part

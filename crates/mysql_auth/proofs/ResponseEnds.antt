@@ -6,7 +6,7 @@ use Rattle.mysql_auth.specs.Attributes.{Attribute, attributes}
 use Rattle.mysql_auth.specs.HandshakeResponse.{before_attributes, handshake_response, level_bytes, level_codec, sends_zstd_level, sent_attributes, sent_zstd_level}
 use Rattle.mysql_auth.specs.declared.handshake_response.HandshakeResponse.{HandshakeResponse}
 
--- a level is written alike, whether it is sent or not
+-- a level has the same bytes whether or not the flags ask for it
 level-written : (sent : Bool) (level : Option (RawInt ℕ ℕ)) → (level_codec sent).bytes level ≡ level_bytes level
 level-written true level = refl
 level-written false level = refl

@@ -1,4 +1,4 @@
--- A packet whose last parts are read by themselves: a response, whose last parts are its attributes and a level of compression.
+-- A response ends in its attributes and a compression level, each with a reader of its own.
 use Rattle.std.proofs.Common.{◌≡◌, ℕ, List, Ok, Err, Option, Bool, refl, sym, ap, ◌∙◌}
 use Rattle.std.specs.Option.{option_map}
 use Rattle.std.specs.Prelude.{false}
@@ -19,17 +19,17 @@ use Rattle.mysql_auth.specs.AttributeBytes.{in_response, sent_room}
 use Rattle.mysql_auth.proofs.EachKeyOnce.{made, after-front, given-once}
 use Rattle.mysql_auth.proofs.LastPart.{step, front-fault, last-fault}
 
--- ---- a response, whose attributes are read so
+-- ---- a response, with attributes read in either way
 
 module _ (given : SslRequest → Codec (Unit {0}) (Option (List Attribute))) where
   abbrev whole_of : Codec (Unit {0}) HandshakeResponse
   whole_of = packet (handshake_response_fields given) (λ p. refl)
 
-  -- the level of compression, after the attributes
+  -- the compression level, after the attributes
   abbrev level_after : HandshakeResponse → Option (List Attribute) → List ℕ → Reading HandshakeResponse
   level_after p found later = then_read (((sent_zstd_level p.head).form tt).reads later) (λ level rest. Ok (with_last found level p, rest))
 
-  -- the attributes and the level of compression, after what stands in front of them
+  -- the attributes and the compression level, after the front of the packet
   abbrev last_after : HandshakeResponse → List ℕ → Reading HandshakeResponse
   last_after p mid = then_read (((given p.head).form tt).reads mid) (level_after p)
 
@@ -94,7 +94,7 @@ attributes-fault e p bytes mid same h = rw same (whole-last_fault sent_attribute
 
 pub ruleset responses_read = (response-read, response-front_fault, attributes-fault)
 
--- ---- the former is the latter, except for keys that come again
+-- ---- both agree, except for repeated keys
 
 level-once : (p : HandshakeResponse) (found : Option (List Attribute)) (level : Reading (Option (RawInt ℕ ℕ)))
     → made with_each_key_once (then_read level (λ level rest. Ok (with_last found level p, rest))) ≡ then_read level (λ level rest. Ok (with_last (option_map merged found) level p, rest))

@@ -28,7 +28,7 @@ count-more (suc most) (suc i) (b ∷ text) lt within e =
     let next : suc i + 1 ≡ suc (i + 1) = omega arith in
     rw (less, less_too, next) (count-more most i text (omega (arith, lt)) (omega (arith, within)) e)
 
--- no more digits are counted: there are enough, the text ends, or no digit stands there
+-- counting stops: three digits were counted, the text ends, or the next character is no digit
 pub count-enough : (most i : ℕ) (text : List ℕ) → most ≤ i → digit_count (most - i) text ≡ 0
 count-enough most i text le = rw (let z : most - i ≡ 0 = omega (arith, le) in z) refl
 
@@ -47,20 +47,20 @@ count-none (suc most) (suc i) (b ∷ text) e =
     let less : suc most - suc i ≡ most - i = omega arith in
     rw less (count-none most i text e)
 
--- fewer than a thousand are written by three digits
+-- a number below 1,000 has at most three digits
 pub power-small : (i : ℕ) → i < 3 → 10 ^ i ≤ 100
 power-small i lt = pow-le-pow_right (omega arith) (let le : i ≤ 2 = omega (arith, lt) in le)
 
 pub power-more : (i : ℕ) → 10 ^ (i + 1) ≡ 10 ^ i * 10
 power-more i = pow_more 10 i
 
--- the digits that were counted write the number
+-- the counted digits denote the number
 pub number-is : (most count number : ℕ) (text : List ℕ) → digit_count most text ≡ count → count ≢ 0 → number ≡ digits_value 10 (take count text)
     → digits_reads most text ≡ Ok (number, take (length text - count) (drop count text))
 number-is most count number text counted some value =
     rw (counted, ne_eqb count 0 some, value, take_all (length text - count) (drop count text) (omega (arith, length-drop count text))) refl
 
--- what a scanner's answer says of a form
+-- what a scanner's result says about a form
 module _ {A : Type 0} (f : Form A) (text : List ℕ) where
   pub scans-some : (v : A) (rest : List ℕ) → f.reads text ≡ Ok (v, rest) → (tail : List ℕ) × f.Spells v text tail
   scans-some v rest e = (rest, f.found v text rest e)
@@ -70,7 +70,7 @@ module _ {A : Type 0} (f : Form A) (text : List ℕ) where
       let read : f.reads text ≡ Ok (v, s.0) = f.only v text s.0 s.1 in
       absurd cc
 
--- a version of MariaDB after 5.5.5- is one of what stands there
+-- a version of MariaDB after 5.5.5- is that of the text there
 pub after-none : (text rest : List ℕ) (r : Option (ℕ × ℕ × ℕ)) → (literal (codes "5.5.5-")).reads text ≡ Ok (tt, rest)
     → IfNone r ((v : ℕ × ℕ × ℕ) → HasMariadbVersion rest v → ⊥) → IfNone r ((v : ℕ × ℕ × ℕ) → HasMariadbVersionAfter text v → ⊥)
 after-none text rest None e h = λ v s.

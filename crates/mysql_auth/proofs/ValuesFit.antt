@@ -1,4 +1,4 @@
--- Packets at hand: what always holds of them and the plain conditions on their parts are enough.
+-- For a packet value, its type's invariants and the plain conditions on its parts imply that it fits.
 use Rattle.std.proofs.Common.{◌≡◌, ℕ, ◌<◌, ◌^◌, List, ◌++◌, length, Option, Some, None, Bool, refl}
 use Rattle.mysql_wire.specs.Flags.{CapabilityFlags}
 use Rattle.mysql_auth.specs.Attributes.{Attribute, AreShort, AttributesFit, merged}
@@ -17,7 +17,7 @@ use Rattle.mysql_auth.proofs.ChangeUserFits.{more_data-fits, change-fits, sessio
 use Rattle.mysql_auth.proofs.HandshakeFits.{handshake-fits}
 use Rattle.mysql_auth.proofs.HandshakeResponseFits.{response-fits}
 
--- each key stands once, where there are attributes
+-- if there are attributes, their keys are distinct
 abbrev Once : Option (List Attribute) → Type 0
 Once given = (pairs : List Attribute) → given ≡ Some pairs → merged pairs ≡ pairs
 
@@ -69,7 +69,7 @@ given-full : (sent : Bool) (given : Option (List Attribute)) → Once given → 
 given-full sent None once h = h
 given-full sent (Some pairs) once h = (h.0, record { once = once pairs refl; short = h.1 })
 
--- the characters' set has two bytes, and each key stands once
+-- the character set has two bytes, and the keys are distinct
 record IsWhole (p : ComChangeUserMoreData) : Type 0 where
   width : change.character_set p < 2 ^ 16
   once : Once (change.connect_attributes p)
@@ -77,7 +77,7 @@ record IsWhole (p : ComChangeUserMoreData) : Type 0 where
 abbrev Given : Type 1
 Given = (List Attribute → Type 0) → Bool → Option (List Attribute) → Type 0
 
--- where the attributes fit, the fields do
+-- if the attributes fit, so do the fields
 module _ (G : Given) (fit : (sent : Bool) (given : Option (List Attribute)) → Once given → G AreShort sent given → G AttributesFit sent given) (c : CapabilityFlags) where
   abbrev Parts : ComChangeUserMoreData → Type 0
   Parts = MoreFieldsFit G AreShort c

@@ -1,4 +1,4 @@
--- What is written of the small packets is read again.
+-- The small packets round-trip.
 use Rattle.std.proofs.Common.{◌≡◌, ℕ, List, [], ◌++◌, refl, subst}
 use Rattle.std.proofs.lemmas.List.{append-nil}
 use Rattle.mysql_wire.specs.Codec.{Codec}
@@ -24,7 +24,7 @@ use Rattle.mysql_auth.specs.declared.public_key_request.PublicKeyRequest.{Public
 use Rattle.mysql_auth.specs.declared.public_key_response.PublicKeyResponse.{PublicKeyResponse}
 use Rattle.mysql_auth.specs.declared.ssl_request.SslRequest.{SslRequest}
 
--- where nothing follows
+-- if nothing follows
 at-end : {A : Type 0} (f : Codec (Unit {0}) A) (p : A) → f.fits tt p [] → (f.form tt).Spells p (f.bytes p) []
 at-end f p h = subst (λ (t : List ℕ). (f.form tt).Spells p t []) (append-nil (f.bytes p)) (f.again tt p [] h)
 
@@ -32,7 +32,7 @@ pub plugin-again : (p : AuthPlugin) → plugin_named (plugin_name p) ≡ p → (
 unfolding auth_plugin
 plugin-again p h = at-end auth_plugin p (h, refl)
 
--- a plugin that was read is that of its name
+-- a plugin that was read is the one with its name
 pub read_plugin-again : (p : AuthPlugin) (bytes rest : List ℕ) → (auth_plugin.form tt).Spells p bytes rest → (auth_plugin.form tt).Spells p (auth_plugin.bytes p) []
 unfolding auth_plugin
 read_plugin-again p bytes rest s =

@@ -4,6 +4,7 @@ use Rattle.mysql_wire.specs.Codec.{Codec, Fields}
 use Rattle.mysql_wire.specs.CodecAgain.{some-then, option-again}
 use Rattle.mysql_wire.specs.CodecFits.{option_fits}
 use Rattle.mysql_wire.specs.Codecs.{◌>>=◌, give, field, packet, when, without_context, if_bytes_left, const_u8, u16, string_null, string_u8}
+use Rattle.mysql_wire.specs.CommandCodes.{COM_CHANGE_USER}
 use Rattle.mysql_wire.specs.FlagMasks.{CLIENT_PLUGIN_AUTH, CLIENT_CONNECT_ATTRS}
 use Rattle.mysql_wire.specs.Flags.{CapabilityFlags, has}
 use Rattle.mysql_wire.specs.Form as form
@@ -177,7 +178,7 @@ last_part_as_sent = if_bytes_left more_data_as_sent some-more_data_as_sent
 -- 11; the user; the authentication data, after a length of one byte; the database; more data if bytes are left
 abbrev pub change_user_fields : {C : Type 0} → Codec C (Option ComChangeUserMoreData) → Fields C ComChangeUser ComChangeUser
 change_user_fields last = do
-  header ← field (λ p. p.header) (const_u8 0x11)
+  header ← field (λ p. p.header) (const_u8 COM_CHANGE_USER)
   user ← field user string_null
   auth_plugin_data ← field auth_plugin_data string_u8
   database ← field database string_null

@@ -1,5 +1,6 @@
 -- The change of a session's user, in parts.
 use Rattle.std.specs.Prelude.{None}
+use Rattle.mysql_wire.specs.CommandCodes.{COM_CHANGE_USER}
 use Rattle.mysql_wire.specs.Constant.{const_byte}
 use Rattle.mysql_wire.specs.CountedBytes.{u8_string}
 use Rattle.mysql_wire.specs.Flags.{CapabilityFlags}
@@ -12,8 +13,8 @@ use Rattle.mysql_auth.specs.declared.com_change_user.ComChangeUser.{ComChangeUse
 use Rattle.mysql_auth.specs.declared.faults.InvalidComChangeUserHeader.{InvalidComChangeUserHeader}
 use Rattle.mysql_auth.specs.declared.com_change_user_more_data.ComChangeUserMoreData.{ComChangeUserMoreData}
 
-abbrev pub change_header : Form (ConstU8 InvalidComChangeUserHeader 0x11)
-change_header = const_byte 0x11
+abbrev pub change_header : Form (ConstU8 InvalidComChangeUserHeader COM_CHANGE_USER)
+change_header = const_byte COM_CHANGE_USER
 
 -- the part before more data: the change without it
 abbrev pub before_more_data : Form ComChangeUser

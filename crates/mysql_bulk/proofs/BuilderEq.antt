@@ -1,4 +1,4 @@
--- The rows that wait are equal where their values are, which stand in one list.
+-- The waiting rows are equal if their values are, which are kept in one list.
 use Rattle.std.proofs.Common.{◌≡◌, ◌≢◌, ℕ, zero, suc, ◌+◌, ◌*◌, ◌≤◌, Bool, true, false, ◌&&◌, List, [], ◌∷◌, length, take, drop, unwrap_or, refl, sym, ◌∙◌, ap, subst, arith, inl, inr}
 use Rattle.std.specs.Prelude.{nat_eq}
 use Rattle.std.specs.Cmp.Lexicographic.{pointwise, unequal}
@@ -17,7 +17,7 @@ use Rattle.mysql_bulk.specs.BuilderEq.{rows_eq}
 use Rattle.mysql_values.specs.declared.param_type.ParamType.{ParamType}
 use Rattle.mysql_bulk.proofs.BuilderRows.{length-rows_of}
 
--- values are equal where they hold the same
+-- values compare equal if their contents are equal
 pub values_eq : (xs ys : List Value) → pointwise value.ghosts.eq xs ys ≡ pointwise content_eq (contents_of xs) (contents_of ys)
 values_eq [] [] = refl
 values_eq [] (y ∷ ys) = refl

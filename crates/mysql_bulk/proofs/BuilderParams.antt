@@ -1,4 +1,4 @@
--- Parameters whose values are offered as a row.
+-- The values of parameters are offered as a row.
 use Rattle.std.proofs.Common.{◌≡◌, Option, Result, Ok, Err}
 use Rattle.std.specs.Global.{Vec}
 use Rattle.mysql_values.specs.declared.value.Value.{Value}
@@ -9,7 +9,7 @@ use Rattle.mysql_bulk.specs.declared.error.BulkExecuteRequestBuilderError.TheVar
 use Rattle.mysql_bulk.specs.Row.{contents_of_row}
 use Rattle.mysql_bulk.specs.Builder.{BuilderState, AddsRow, AddsParams}
 
--- a row that parameters give is offered
+-- the row of the parameters is offered
 pub adds_params : (s t : BuilderState) (params : Params) (row : Vec Value) (r : Result (Option (Vec Value)) BulkExecuteRequestBuilderError) → given_by.values_of params s.names ≡ Ok (contents_of_row row)
     → AddsRow s row r t → AddsParams s params r t
 adds_params s t params row (Ok back) v a = (row, v, a)

@@ -1,4 +1,4 @@
--- Rows of one length, whose values stand in one list.
+-- Rows of one length, with their values in one list.
 use Rattle.std.proofs.Common.{◌≡◌, ℕ, zero, suc, ◌+◌, ◌*◌, ◌≤◌, List, [], ◌∷◌, ◌++◌, length, take, drop, Option, Some, None, unwrap_or, refl, sym, ◌∙◌, ap, subst, arith, length-append, add-one, sum_by}
 use Rattle.std.proofs.Math.Nat.{suc-mul, add-mul}
 use Rattle.std.proofs.lemmas.List.{nil_from_length, take_all, take-append-le, drop-append-le, length-drop, take-append-drop}
@@ -66,7 +66,7 @@ flat_more arity count size total values row f t e = record {
         let e : count * length row ≡ count * a = ap (λ m. count * m) t in
         omega (arith, h, e, add-mul count 1 (length row), length-append values row)
 
--- whether rows wait
+-- whether rows are waiting
 pub flat_none : (arity : Option ℕ) (count : ℕ) (values : List Content) → waiting_rows arity count values ≡ [] → count ≡ 0
 flat_none arity count values e = sym (length-rows_of (unwrap_or arity 0) count values) ∙ ap length e
 

@@ -54,11 +54,11 @@ if_true : {X : Type 0} (b : Bool) (x y : X) → b ≡ true → (if b then x else
 if_true true x y e = refl
 if_true false x y e = cc
 
--- what a list of values holds after those of a row were put after it
+-- the contents of a list of values after those of a row were appended
 pub held_after : (more values row : List Value) → more ≡ values ++ row → contents_of more ≡ contents_of values ++ contents_of row
 held_after more values row e = ap contents_of e ∙ map-append content_of values row
 
--- copies hold what the values hold
+-- copies have the contents of the values
 pub held_by_copies : (values copies : List Value) → AllZip (λ value copy. content_of copy ≡ content_of value) values copies → contents_of copies ≡ contents_of values
 held_by_copies [] [] a = refl
 held_by_copies [] (y ∷ copies) a = absurd a
@@ -91,7 +91,7 @@ module _ {s : BuilderState} {count size : ℕ} {values : List Content} {types : 
   rows_size : size ≡ sum_by row_size s.waiting
   rows_size = k.flat.size_is ∙ ap (sum_by row_size) (sym k.rows_is)
 
-  -- the arity is the length of the rows that wait
+  -- the arity is the length of the waiting rows
   pub stored_arity : count ≢ 0 → unwrap_or s.arity 0 ≡ first_length s.waiting
   stored_arity n = sym (first_long (unwrap_or s.arity 0) s.waiting (stored_rows n) stored_equal)
 
@@ -107,14 +107,14 @@ module _ {s : BuilderState} {count size : ℕ} {values : List Content} {types : 
   pub stored_bytes : count ≢ 0 → 7 + 2 * length types + row_size values ≡ waiting_size s
   stored_bytes n = omega (arith, stored_size n, values_size)
 
-  -- and allowed
+  -- the request is allowed
   pub stored_allowed : count ≢ 0 → WaitingFits s
   stored_allowed n = let F : ℕ → Type 0 = λ a. PartFits (packing s a) s.types_due s.waiting in subst F (stored_arity n) (k.fits (stored_rows n))
 
   pub stored_bound : count ≢ 0 → waiting_size s ≤ s.limit
   stored_bound n = (stored_allowed n).0
 
-  -- before a row that may come next
+  -- before a row that is allowed next
   pub stored_before : (row : List Content) → TakesRow s row → s.types_due ≡ true → MayFollow s.columns types row
   stored_before row t due =
       let is : types ≡ types_so_far s.columns s.waiting = k.types_is ∙ if_true s.types_due (types_so_far s.columns s.waiting) [] due in
@@ -131,7 +131,7 @@ module _ {s : BuilderState} {count size : ℕ} {values : List Content} {types : 
           ]
       so_far (Some declared) taken = (sym (spelled_long declared row taken), types_so_far_declared declared s.waiting)
 
-  -- what is said of as many rows of that size is said of those that wait: a further one fits where it has no more bytes
+  -- what holds for rows of these sizes holds for the waiting rows: a row that has no more bytes fits too
   pub stored_room : (arity : ℕ) (row : List Content) (most : Option ℕ) → arity ≡ length row
       → ((rows : List (List Content)) (row : List Content) → length rows ≡ count → size ≡ sum_by row_size rows → length row ≡ arity →
       MatchOption most (PartFits (rows_packing s.rule s.limit arity) s.types_due (rows ++ row ∷ []) → ⊥) (λ n. PartFits (rows_packing s.rule s.limit arity) s.types_due (rows ++ row ∷ []) ↔ (row_size row ≤ n)))
@@ -142,7 +142,7 @@ module _ {s : BuilderState} {count size : ℕ} {values : List Content} {types : 
       let here = each (waiting_rows s.arity count values) row (length-rows_of (unwrap_or s.arity 0) count values) k.flat.size_is (sym long) in
       subst (λ a. P a s.waiting) long (subst (P arity) (sym k.rows_is) here)
 
-  -- one more row waits
+  -- one more row is waiting
   pub stored_more : (total : ℕ) (row : List Content) → TakesRow s row → RowFits s row → total ≡ sum_by row_size (s.waiting ++ row ∷ [])
       → IsStoredAs (after_row s row) (count + 1) total (values ++ row) (if s.types_due then types_after_row s.columns types row else types)
   stored_more total row t f e =
@@ -172,7 +172,7 @@ module _ {s : BuilderState} {count size : ℕ} {values : List Content} {types : 
   pub state_next : (a n : ℕ) (row more : List Content) → TakesArity s.arity (length row) → a ≡ length row → n ≡ count + 1 → more ≡ values ++ row → with_row a n more ≡ after_row s row
   state_next a n row more t la ln lm = rw (la, ln, lm) (ap (λ (w : List (List Content)). record s { arity = Some (length row); waiting = w }) (rows_more row t))
 
-  -- types are declared where no row waits
+  -- types are declared while no row is waiting
   abbrev pub declared_state : List ParamType → BuilderState
   declared_state declared = record s { columns = Some declared; arity = Some (length declared); types_due = true; waiting = waiting_rows (Some (length declared)) count values }
 
@@ -210,7 +210,7 @@ module _ {s : BuilderState} {count size : ℕ} {values : List Content} {types : 
   pub stored_fits : count ≢ 0 → 7 + 2 * length types + size < 2 ^ 64
   stored_fits n = omega (arith, stored_size n, stored_bound n, k.limit_is)
 
-  -- what holds of every builder
+  -- what holds for every builder
   pub consistent : IsConsistent s
   consistent = record {
     one_length = one (unwrap_or s.arity 0) s.waiting stored_equal;

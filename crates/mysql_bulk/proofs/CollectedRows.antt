@@ -1,4 +1,4 @@
--- A caller's own loop over a builder is a run over its rows.
+-- A caller's own loop over a builder is a run over the rows.
 use Rattle.std.proofs.Common.{ℕ, false, true, List, [], ◌∷◌, ◌++◌, length, None, Some, Ok, Err, sym, ◌∙◌, ap, subst, append_assoc, inl, inr}
 use Rattle.std.proofs.lemmas.List.{append-nil, append_cancel_right}
 use Rattle.std.specs.Global.{Vec}
@@ -15,18 +15,18 @@ use Rattle.mysql_bulk.specs.Row.{contents_of_row}
 use Rattle.mysql_bulk.specs.WholeRun.{RunGives}
 use Rattle.mysql_bulk.proofs.WholeRun.{Running, running_none, running_more, running_sends, next_taken, fits_from, full, gives_all, gives_refused, copy_refused}
 
--- a run that has come so far, with some count of rows sent
+-- a run up to this place, with some number of rows sent
 abbrev RunsTo : BuilderState → List (List Content) → List BulkRequest → BuilderState → List (List Content) → Type 0
 RunsTo s all requests b rest = (ends : List ℕ) × (sent : ℕ) × Running s all requests ends sent b rest
 
--- one more row waits
+-- one more row is waiting
 one_more : {s : BuilderState} {all : List (List Content)} {requests : List BulkRequest} {b : BuilderState} (row : List Content) (rest : List (List Content)) (u : BuilderState)
     → RunsTo s all requests b (row ∷ rest) → AddsCopy b row (Ok true) u → RunsTo s all requests u rest
 one_more {s} {all} {requests} row rest u r a =
     let P : BuilderState → Type 0 = λ x. RunsTo s all requests x rest in
     subst P (sym a.2) (r.0, r.1, running_more row rest r.2 a.0 a.1)
 
--- the request of the waiting rows is built, since the next row does not fit with them
+-- the request of the waiting rows is built, since the next row does not fit
 one_sent : {s : BuilderState} {all : List (List Content)} {requests : List BulkRequest} {b : BuilderState} (row : List Content) (rest : List (List Content)) (n v : BuilderState) (request : BulkRequest)
     → RunsTo s all requests b (row ∷ rest) → AddsCopy b row (Ok false) n → BuildsRequest n request v → RunsTo s all (requests ++ request ∷ []) v (row ∷ rest)
 one_sent {s} {all} {requests} {b} row rest n v request r a built =
@@ -71,7 +71,7 @@ row_ends s t rows later requests row e c collects a =
     let r = runs_to s t rows (contents_of_row row ∷ later) requests c collects in
     (r.0, gives_refused row later e r.2 a)
 
--- so was a copy of one
+-- a copy of a row was refused
 pub copy_ends : (s t : BuilderState) (rows later : List (List Content)) (requests : List BulkRequest) (row : List Content) (e : BulkRowError) → IsConsistent s → Collects s rows requests t → AddsCopy t row (Err e) t
     → EndsRefused s rows requests row later e t
 copy_ends s t rows later requests row e c collects a =

@@ -1,4 +1,4 @@
--- Rows that declared types spell, and the types of a request of them.
+-- Rows that declared types can encode, and the types of their request.
 use Rattle.std.proofs.Common.{◌≡◌, ◌≢◌, ◌⊎◌, inl, inr, ℕ, zero, suc, Bool, true, false, ◌&&◌, List, [], ◌∷◌, ◌++◌, length, Option, Some, None, refl, sym, ◌∙◌, ap, arith, ◌+◌, ◌<◌, drop, get_or, add-one, ◌≤◌}
 use Rattle.std.proofs.lemmas.Grind.{common_steps}
 use Rattle.std.specs.Prelude.{All, map, IsTrue, not, position}
@@ -16,7 +16,7 @@ use Rattle.mysql_bulk.specs.DeclaredTypes.{declared_type, column_values, types_w
 use Rattle.mysql_bulk.specs.Row.{first_length, EqualLengths}
 use Rattle.mysql_bulk.proofs.DeclaredTypes.{types_all}
 
--- a row has as many values as there are types that spell it
+-- a row has as many values as the types that can encode it
 pub spelled_long : (types : List ParamType) (row : List Content) → spell_row types row ≡ true → length row ≡ length types
 spelled_long [] [] e = refl
 spelled_long [] (value ∷ row) e = let f : false ≡ true = e in cc
@@ -38,14 +38,14 @@ spell_from {V} content types row i d e same lt = rw add-one (from types row i d 
     from (t ∷ types) (v ∷ row) zero d e same lt = refl
     from (t ∷ types) (v ∷ row) (suc i) d e same lt = from types row i d e (omega (arith, same)) (omega (arith, lt))
 
--- one more value is spelled
+-- one more value can be encoded
 pub spell_next : {V : Type 0} (content : V → Content) (types : List ParamType) (row : List V) (i : ℕ) (d : ParamType) (value : V) (b : Bool) → length types ≡ length row → i < length row → b ≡ can_encode (get_or types i d) (content value)
     → value ≡ get_or row i value → b ≡ true → spell_row (drop i types) (map content (drop i row)) ≡ spell_row (drop (i + 1) types) (map content (drop (i + 1) row))
 spell_next {V} content types row i d value b same lt is at spelled =
     spell_from content types row i d value same lt
     ∙ ap (λ (x : Bool). x && spell_row (drop (i + 1) types) (map content (drop (i + 1) row))) (ap (λ (v : V). can_encode (get_or types i d) (content v)) (sym at) ∙ sym is ∙ spelled)
 
--- where types are declared, a row that they spell is as long as they say
+-- a row that declared types can encode has as many values as there are types
 pub taken_long : (columns : Option (List ParamType)) (types : List ParamType) (row : List Content) → columns ≡ Some types → TakesTypes columns row → length row ≡ length types
 taken_long None types row e t = cc
 taken_long (Some declared) types row e t = let s : declared ≡ types = cc in spelled_long declared row t ∙ ap length s
@@ -56,7 +56,7 @@ length-types_of_rows None rows a = length-map-range_with_len (λ i. declared_typ
 length-types_of_rows (Some types) [] a = refl
 length-types_of_rows (Some types) (row ∷ rows) a = sym (spelled_long types row (All-head (TakesTypes (Some types)) row rows a))
 
--- where no type is refused, each may be declared
+-- if no type is refused, each is declarable
 pub none_refused : (types : List ParamType) → position (λ kind. not (is_declarable kind)) types ≡ None → All (λ kind. IsTrue (is_declarable kind)) types
 none_refused types e = λ k d lt.
     let refused : ParamType → Bool = λ kind. not (is_declarable kind) in
@@ -77,7 +77,7 @@ types_so_far_more None rows row = sym (fold-append types_with_row [] rows (row �
 types_so_far_more (Some types) [] row = refl
 types_so_far_more (Some types) (r ∷ rows) row = refl
 
--- those that were declared, or none before the first row
+-- the declared types, or none before the first row
 pub types_so_far_declared : (types : List ParamType) (rows : List (List Content)) → (types_so_far (Some types) rows ≡ types) ⊎ (types_so_far (Some types) rows ≡ [])
 types_so_far_declared types [] = inr refl
 types_so_far_declared types (row ∷ rows) = inl refl

@@ -1,4 +1,4 @@
--- Copies of the values of a row, of which one is refused.
+-- The values of a row are copied, and one copy is refused.
 use Rattle.std.proofs.Common.{◌≡◌, ℕ, ◌+◌, ◌<◌, List, length, map, get_or, take, sym, ap, ◌∙◌, arith, inl, inr}
 use Rattle.std.proofs.lemmas.List.{get_or-map, length-map}
 use Rattle.std.proofs.lemmas.List.Folds.{list_any_at}
@@ -8,7 +8,7 @@ use Rattle.mysql_values.specs.ValueDeserializer.{has_bytes}
 use Rattle.mysql_bulk.specs.Row.{RefusesValue, RefusesRow, values_size}
 use Rattle.mysql_bulk.proofs.RequestBytes.{size_of_contents}
 
--- why a value is refused, of which a given number of bytes were left, is why its row is
+-- a row is refused for the reason of its refused value
 pub row_refused : {V : Type 0} (content : V → Content) (row : List V) (i : ℕ) (value : V) (left most : ℕ) → i < length row → value ≡ get_or row i value
     → left + values_size content (take i row) ≡ most → RefusesValue left (content value) → RefusesRow most (map content row)
 row_refused {V} content row i value left most within is total refused = elim refused [

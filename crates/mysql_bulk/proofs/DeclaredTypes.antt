@@ -71,7 +71,7 @@ null_first (Double n) values = refl
 null_first (Date t) values = refl
 null_first (Time t) values = refl
 
--- the type so far of all values of a column is its declared type
+-- the type after all values of a column is its declared type
 pub type_of_column : (values : List Content) → fold type_with (type_of NULL) values ≡ declared_type values
 type_of_column [] = refl
 type_of_column (NULL ∷ values) = type_of_column values ∙ null_first (first_not_null values) values
@@ -106,7 +106,7 @@ pub length-first : (row : List Content) → length (types_with_row [] row) ≡ l
 length-first [] = refl
 length-first (v ∷ row) = ap suc (length-first row)
 
--- the types after some more rows are as many
+-- the number of types is the same after more rows
 length-more : (a : ℕ) (types : List ParamType) (rows : List (List Content)) → length types ≡ a → EqualLengths a rows → length (fold types_with_row types rows) ≡ a
 length-more a types [] e r = e
 length-more a types (row ∷ rows) e r =
@@ -153,7 +153,7 @@ pub types_all : (a : ℕ) (rows : List (List Content)) → rows ≢ [] → Equal
 types_all a [] n r = absurd (n refl)
 types_all a (row ∷ rows) n r = types_of_rows a row rows r
 
--- before a row of their length: there are as many types, or there was no row
+-- before a row of this length: there are as many types, or no row came before
 pub types_before : (a : ℕ) (rows : List (List Content)) → EqualLengths a rows → (length (fold types_with_row [] rows) ≡ a) ⊎ (rows ≡ [])
 types_before a [] r = inr refl
 types_before a (row ∷ rows) r = inl (length-more a (types_with_row [] row) rows (length-first row ∙ r.0) r.1)

@@ -1,4 +1,4 @@
--- Where reading takes memory.
+-- When reading allocates.
 use Rattle.std.proofs.Common.{◌≡◌, ℕ, ◌+◌, ◌<◌, zero, suc, List, [], ◌∷◌, length, get_or, Bool, true, Ok, Err, IsTrue, refl, arith, is_ok}
 use Rattle.mysql_wire.specs.Reading.{Reading, Faults}
 use Rattle.mysql_wire.specs.declared.fault.FaultOf.{FaultOf}
@@ -6,7 +6,7 @@ use Rattle.mysql_wire.specs.declared.fault.FaultOf.TheVariants as fault
 use Rattle.mysql_bulk.specs.ParamValue.{ParamValue, param_has_bytes}
 use Rattle.mysql_bulk.specs.ParamValues.{BulkColumn, value_of_column, reads_first}
 
--- a fault that is no memory that runs out says nothing of memory
+-- a fault other than Memory says nothing about allocations
 pub faults-where : {A : Type 0} (b : Bool) (e : FaultOf) (read : Reading A) → (e ≡ fault.Memory → IsTrue b) → Faults true e read → Faults b e read
 faults-where b fault.Memory read memory h = memory refl
 faults-where b fault.UnexpectedEof read memory h = h
@@ -19,12 +19,12 @@ memory-only b fault.UnexpectedEof read h is = absurd cc
 memory-only b (fault.InvalidData text) read h is = absurd cc
 memory-only b (fault.InvalidInput text) read h is = absurd cc
 
--- bytes that are there were read
+-- bytes that are present were read
 pub there-read : (read : Reading ParamValue) → IsTrue (param_has_bytes read) → IsTrue (is_ok read)
 there-read (Ok x) h = refl
 there-read (Err e) h = absurd cc
 
--- a loop over the columns is at the first column, or has read its value before
+-- a loop over the columns is at the first column, or has read the value before it
 pub record FirstRead (columns : List BulkColumn) (i : ℕ) (rest start : List ℕ) : Type 0 where
   pub at_first : i ≡ 0 → rest ≡ start
   pub later : 0 < i → IsTrue (reads_first columns start)

@@ -1,4 +1,4 @@
--- A request for no column is its head alone.
+-- A request without columns is its head alone.
 use Rattle.std.proofs.Common.{◌≢◌, Err, ◌≡◌, ℕ, List, [], length, Bool, true, false, if◌then◌else◌, Ok, refl, ap, map}
 use Rattle.std.specs.Global.{Vec}
 use Rattle.mysql_wire.specs.Each.{each}
@@ -36,7 +36,7 @@ no_front : {A : Type 0} (read : Reading (List A)) → with_front [] read ≡ rea
 no_front (Ok x) = refl
 no_front (Err e) = refl
 
--- bytes that are left are no row
+-- remaining bytes are no row
 pub no_row_fits : (bytes : List ℕ) → bytes ≢ [] → (many (row_of_columns [])).reads bytes ≡ Err kind.InvalidData
 unfolding each
 no_row_fits bytes some = takes-none (row_of_columns []) [] bytes _ (no_front ((many (row_of_columns [])).reads bytes)) [] bytes some refl refl

@@ -1,4 +1,4 @@
--- Runs of a builder over parameters, whose values are the rows.
+-- Runs of a builder over parameters: the values of each are a row.
 use Rattle.std.proofs.Common.{◌≡◌, Bool, true, false, List, [], ◌∷◌, Option, Some, None, Result, Ok, Err, refl, sym, ap, subst}
 use Rattle.std.specs.Prelude.{MatchOption, is_none}
 use Rattle.std.specs.Global.{Vec}
@@ -15,7 +15,7 @@ use Rattle.mysql_bulk.specs.Run.{Accepts, AcceptsUntilFull, RunState, NextReques
 use Rattle.mysql_bulk.specs.ParamsRun.{Names, GivesRowOfParams, StopsAtParams, AcceptsParamsUntilFull, NextRequestOfParams}
 use Rattle.mysql_bulk.proofs.RunSteps.{state, Taken, taken_more, taken_full, taken_refused, carried_more, carried_full, carried_refused, next_refuses, next_builds}
 
--- the names stay
+-- the names are unchanged
 names_stay : (s t : BuilderState) (rows : List (List Content)) → Accepts s rows t → t.names ≡ s.names
 names_stay s t [] a = ap (λ (b : BuilderState). b.names) a
 names_stay s t (row ∷ rows) a = names_stay (after_row s row) t rows a.2
@@ -39,7 +39,7 @@ module _ {S : Type 0} (steps : S → Option Params → S → Type 0) where
       → AddsParams m params (Ok (Some back)) t → AcceptsParamsUntilFull steps s.names s None rows (Ok (Some back)) t rest
   params_full s m t rows left rest params back k came a = taken_full (GivesRowOfParams steps s.names) s m t rows left rest a.0 back k (gives_row s m rows left rest params a.0 k came a.1) a.2
 
-  -- the next parameters are refused, or their row is
+  -- the next parameters or their row are refused
   pub params_refused : (s m t : BuilderState) (rows left rest : S) (params : Params) (e : BulkExecuteRequestBuilderError) → Taken (GivesRowOfParams steps s.names) s rows m left → steps left (Some params) rest
       → AddsParams m params (Err e) t → AcceptsParamsUntilFull steps s.names s None rows (Err e) t rest
   params_refused s m t rows left rest params (refused.Request e) k came a =

@@ -1,4 +1,4 @@
--- What is written of a request is read again: its values, its head, and its rows.
+-- A request is read back: its values, its head and its rows.
 use Rattle.std.proofs.Common.{◌≡◌, ◌≢◌, ℕ, ◌+◌, ◌<◌, ◌^◌, Bool, true, false, if◌then◌else◌, List, [], ◌∷◌, ◌++◌, length, map, inl, inr, refl, sym, ◌∙◌, ap, subst, arith, append_assoc}
 use Rattle.std.proofs.lemmas.List.{append-nil, map-append}
 use Rattle.std.proofs.lemmas.Grind.{flat_map-append}
@@ -46,7 +46,7 @@ param_value-again column v a rest =
       (v.content, rest, a rest, (refl, refl)),
     )
 
--- a value that agrees with its column's type agrees with its indicator
+-- a value that matches its column's type matches its indicator
 pub indicated : (column : BulkColumn) (v : Content) → Agrees column.0 (has column.1.0 UNSIGNED_FLAG) v → ParamValueAgrees column (with_indicator v)
 indicated column NULL a = λ rest. (refl, refl)
 indicated column (Bytes x) a = a
@@ -174,7 +174,7 @@ type_small (Double x) values = omega arith
 type_small (Date x) values = omega arith
 type_small (Time x) values = omega arith
 
--- a type that may be declared has one flag at most
+-- a declarable type has at most one flag
 pub declarable_small : (kind : ParamType) → is_declarable kind ≡ true → kind.flags.0 < 2 ^ 8
 declarable_small kind e =
     let flags = (and_parts (is_declarable_type kind.column_type) (kind.flags.0 == 0 || (kind.flags.0 == UNSIGNED && is_longlong (kind_of kind.column_type))) e).1 in

@@ -1,4 +1,4 @@
--- Rows under types that a caller declared are read again as their values under these types.
+-- Rows under declared types are read back as their values under these types.
 use Rattle.std.proofs.Common.{◌≡◌, ◌≢◌, ℕ, ◌<◌, ◌^◌, Bool, true, false, ◌&&◌, ◌||◌, not, if◌then◌else◌, pos, negsuc, List, [], ◌∷◌, ◌++◌, length, map, Option, Some, refl, sym, ◌∙◌, ap, subst, arith}
 use Rattle.std.specs.Prelude.{nat_lt}
 use Rattle.std.specs.Int.{is_negative}
@@ -30,7 +30,7 @@ use Rattle.mysql_bulk.proofs.ReadingBack.{row_bytes, bytes_of_rows, has_types, f
 
 -- ---- a value
 
--- a number that fits where it is signed
+-- a number that fits a signed type
 small-UInt : (u : Bool) (n : ℕ) → u ≡ false → (u || nat_lt n (2 ^ 63)) ≡ true → n < 2 ^ 63
 small-UInt true n e h = let f : true ≡ false = e in cc
 small-UInt false n e h = ltb-true n (2 ^ 63) h
@@ -62,7 +62,7 @@ agrees_as t u (Double x) e s r = agrees-by_kind t.column_type u (Double x) s r
 agrees_as t u (Date x) e s r = agrees-by_kind t.column_type u (Date x) s r
 agrees_as t u (Time x) e s r = agrees-by_kind t.column_type u (Time x) s r
 
--- its bytes are those that it has under its own type
+-- its bytes are those under its own type
 same_bytes : (u : Bool) (v : Content) → param_value_bytes (with_indicator v) ≡ param_value_bytes (with_indicator (as_signed u v))
 same_bytes u NULL = refl
 same_bytes u (Bytes b) = refl
@@ -78,7 +78,7 @@ same_bytes u (Time x) = refl
 
 -- ---- a row
 
--- a column is unsigned as its type is
+-- a column is unsigned exactly if its type is
 same_sign : (b : Bool) → has (if b then UNSIGNED_FLAG else 0) UNSIGNED_FLAG ≡ b
 same_sign true = refl
 same_sign false = refl
@@ -121,7 +121,7 @@ first_is_long : (types : List ParamType) (rows : List (List Content)) → rows �
 first_is_long types [] n t = absurd (n refl)
 first_is_long types (row ∷ rows) n t = sym (spelled_long types row (All-head (TakesTypes (Some types)) row rows t))
 
--- the columns that the request tells of, or that are handed in
+-- the columns of the request, or those that are passed
 columns_are : (b : Bool) (types : List ParamType) (rows : List (List Content)) → rows ≢ []
     → (if b then map column_of_type (if b then types_of_rows (Some types) rows else []) else map column_of_type types) ≡ map column_of_type types
 columns_are true types [] n = absurd (n refl)

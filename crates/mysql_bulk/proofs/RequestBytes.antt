@@ -1,4 +1,4 @@
--- The bytes of a request, and how many they are.
+-- The bytes of a request, and their number.
 use Rattle.std.proofs.Common.{◌≡◌, ◌+◌, ◌*◌, Bool, true, false, if◌then◌else◌, List, [], ◌∷◌, ◌++◌, length, map, refl, ◌∙◌, ap, arith, length-append, sum_by}
 use Rattle.std.specs.List.{flat_map}
 use Rattle.std.specs.Prelude.{All, Option}
@@ -55,7 +55,7 @@ length-request r =
 
 pub ruleset request_lengths = (length-types, length-values)
 
--- the values of a row have the size of what they hold
+-- the size of a row's values is that of their contents
 pub size_of_contents : {V : Type 0} (content : V → Content) (row : List V) → values_size content row ≡ row_size (map content row)
 size_of_contents content [] = refl
 size_of_contents {V} content (v ∷ row) =

@@ -1,4 +1,4 @@
--- A request that is made of rows.
+-- A request made of rows.
 use Rattle.std.proofs.Common.{◌≡◌, ◌≢◌, ◌⊎◌, inl, inr, ℕ, Bool, true, false, if◌then◌else◌, List, [], ◌∷◌, ◌++◌, length, refl, sym, ◌∙◌, ap, subst, append_assoc}
 use Rattle.std.specs.Prelude.{fold}
 use Rattle.mysql_cuts.specs.Cut.{rows_in}
@@ -41,12 +41,12 @@ pub some_rows : (rows : List (Vec Value)) → rows ≢ [] → contents_of_rows r
 some_rows [] n = absurd (n refl)
 some_rows (row ∷ rows) n = λ e. cc
 
--- rows that are as long as some length are as long as the first
+-- rows of one length are as long as the first
 pub one_length : (a : ℕ) (rows : List (List Content)) → rows ≢ [] → EqualLengths a rows → OneLength rows
 one_length a [] n e = tt
 one_length a (row ∷ rows) n e = let E : ℕ → Type 0 = λ b. EqualLengths b (row ∷ rows) in subst E (sym e.0) e
 
--- rows of one length, none of which has a value, have the length 0
+-- rows of one length without values have length 0
 pub no_values : (a : ℕ) (rows : List (List Content)) → rows ≢ [] → EqualLengths a rows → EqualLengths 0 rows → a ≡ 0
 no_values a [] n e f = absurd (n refl)
 no_values a (row ∷ rows) n e f = sym e.0 ∙ f.0

@@ -1,4 +1,4 @@
--- What a writer of requests has written, and the builder that it stands for.
+-- What a request writer has written, and the builder with the same rows.
 use Rattle.std.proofs.Common.{◌≡◌, ◌≢◌, ℕ, ◌+◌, ◌*◌, Bool, true, false, if◌then◌else◌, List, [], ◌∷◌, ◌++◌, length, map, Option, Some, None, Ok, Err, IsTrue, refl, sym, ◌∙◌, ap, subst, arith, append_assoc, length-append, sum_by}
 use Rattle.std.specs.Prelude.{All, MatchOption, IfSome}
 use Rattle.std.proofs.lemmas.Grind.{flat_map-append}
@@ -75,7 +75,7 @@ further_bytes w (r ∷ rows) row some =
 
 -- ---- a row is offered
 
--- whether it fits is the same for all rows that may wait
+-- whether it fits is the same for all rows that may be waiting
 pub fits_after : (w : WriterState) (row : List Content) (n : ℕ) (r : Option ℕ) → n ≡ length row
     → ((rows : List (List Content)) → length rows ≡ w.count → w.size ≡ sum_by row_size rows →
     MatchOption r (PartFits (rows_packing w.rule w.limit n) w.types_due (rows ++ row ∷ []) → ⊥)
@@ -93,7 +93,7 @@ fits_after w row n (Some m) long each size = (
       subst P long (each rows (sym h.count) h.size).0,
 )
 
--- it was written after these bytes
+-- it is written after these bytes
 pub holds_more : (w : WriterState) (rows : List (List Content)) (row : List ValueRef) (size capacity : ℕ) (before : List ℕ) → Holds w rows → TakesRow (as_builder w rows) (map ref_content row)
     → RowFits (as_builder w rows) (map ref_content row) → size ≡ w.size + row_size (map ref_content row)
     → bytes_so_far (as_builder w (rows ++ map ref_content row ∷ [])) (rows ++ map ref_content row ∷ []) ≡ before ++ cells_bytes row
@@ -109,11 +109,11 @@ holds_more w rows row size capacity before h t f total bytes =
       fits = λ some. subst P t.0 f;
     }
 
--- the builder took it too
+-- the builder accepts it too
 pub builder_more : (w : WriterState) (rows : List (List Content)) (row : List Content) → TakesRow (as_builder w rows) row → as_builder w (rows ++ row ∷ []) ≡ after_row (as_builder w rows) row
 builder_more w rows row t = ap (λ (n : ℕ). record (as_builder w (rows ++ row ∷ [])) { arity = Some n }) (sym t.0)
 
--- no row waits where none was counted
+-- no row is waiting if none was counted
 pub none_counted : (w : WriterState) (rows : List (List Content)) → Holds w rows → w.count ≡ 0 → rows ≡ []
 none_counted w [] h e = refl
 none_counted w (row ∷ rows) h e = absurd (omega (arith, h.count, e))
@@ -131,7 +131,7 @@ pub bytes_are : (s : BuilderState) (rows : List (List Content)) → rows ≢ [] 
 bytes_are s [] some = absurd (some refl)
 bytes_are s (row ∷ rows) some = refl
 
--- what was written is the request that the builder builds
+-- the bytes written are the request that the builder builds
 pub holds_request : (w : WriterState) (rows : List (List Content)) → Holds w rows → rows ≢ [] → IsBuilt (as_builder w rows) w.bytes
 holds_request w rows h some =
     let s = as_builder w rows in
@@ -147,11 +147,11 @@ holds_request w rows h some =
     } in
     (request, builds, h.bytes ∙ bytes_are s rows some)
 
--- a writer in which no row waits
+-- a writer without waiting rows
 pub holds_none : (w : WriterState) → w.count ≡ 0 → w.size ≡ 0 → w.bytes ≡ [] → Holds w []
 holds_none w count size bytes = record { count = count; size = size; bytes = bytes; taken = All-nil (TakesTypes (Some w.types)); fits = λ some. absurd (some refl) }
 
--- ---- what is answered
+-- ---- results
 
 abbrev pub Spells : WriterState → List ValueRef → Type 0
 Spells w row = IsTrue (spell_row w.types (map ref_content row))
@@ -204,7 +204,7 @@ pub wrote_further : (w : WriterState) (row : List ValueRef) (size capacity : ℕ
 wrote_further w row size capacity long spells fits total some =
     wrote w row size capacity w.bytes long spells fits total (λ rows h. further_bytes w rows row (some_counted w rows h some) ∙ ap (λ (l : List ℕ). l ++ cells_bytes row) (sym h.bytes))
 
--- ---- the request is done with
+-- ---- after the request
 
 pub nothing_finished : (w : WriterState) → w.count ≡ 0 → FinishesAsBuilder w w
 nothing_finished w empty = λ rows h.

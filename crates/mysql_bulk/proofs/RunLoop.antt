@@ -30,14 +30,14 @@ module _ {S : Type 0} (steps : S → Option (Vec Value) → S → Type 0) where
   Yields-append s j t [] ys a b = subst (λ k. Yields (NextRow steps) k ys t) (sym a) b
   Yields-append s j t (x ∷ xs) ys a b = (a.0, a.1, Yields-append a.0 j t xs ys a.2 b)
 
-  -- `Last` says what stands at the place where the rows end, and `Rest` which rows of a list come from there on. A row
-  -- that is carried at that place is the first of the rest.
+  -- `Last` says what is at the place where the rows end, and `Rest` which rows of a list follow. A row
+  -- carried at that place is the first of the rest.
   pub record IsLast (Last : Option (Vec Value) × S → Type 0) (Rest : List (List Content) → Type 0) : Type 0 where
     pub carried_later : (row : Vec Value) (rows : S) (mid : Option (Vec Value) × S) → Last (Some row, rows) → NextRow steps mid (Some row) (None, rows) → Last mid
     pub carried_first : (row : Vec Value) (rows : S) → Last (Some row, rows) → (rest : List (List Content)) → Rest rest → (later : List (List Content)) × (rest ≡ contents_of_row row ∷ later)
 
   module _ {Last : Option (Vec Value) × S → Type 0} {Rest : List (List Content) → Type 0} (l : IsLast Last Rest) where
-    -- what is known of calls from s to the end of the loop, where the builder is m: the rows that came, and how a run over a list that has come to s calls_to_end on
+    -- what is known about the calls from s to the end of the loop, with builder m: the rows so far, and how a run over a list that has reached s continues
     pub record CallsToEnd (s₀ : BuilderState) (s : RunState S) (requests : List BulkRequest) (m : BuilderState) : Type 0 where
       pub rows : List (Vec Value)
       pub place : Option (Vec Value) × S
@@ -59,7 +59,7 @@ module _ {S : Type 0} (steps : S → Option (Vec Value) → S → Type 0) where
           (ends, (sent, subst Q (sym (append-nil before)) (running_accepts m (contents_of_rows taken) rest r a)));
     }
 
-    -- a request, with which the input has ended
+    -- the last request
     last_request : (s₀ : BuilderState) (s t : RunState S) (request : BulkRequest) (f : SendsRequest steps s request t) → t.carried ≡ None → ((rest : List (List Content)) → Rest rest → rest ≡ [])
         → ((mid : Option (Vec Value) × S) → NextRow steps mid None (None, t.rows) → Last mid) → CallsToEnd s₀ s (request ∷ []) t.builder
     last_request s₀ s t request f c none ended =
@@ -77,14 +77,14 @@ module _ {S : Type 0} (steps : S → Option (Vec Value) → S → Type 0) where
               subst R (sym (none rest is_rest)) (ends ++ length (rows_in here.cut ++ f.full.waiting) ∷ [], (length (rows_in here.cut ++ f.full.waiting), running_sends t.builder [] request here f.builds tt tt));
         }
 
-    -- the rows from a state that carries a row begin with it, or it is the one where they end
+    -- the rows from a state that carries a row begin with that row, or end at it
     begins : (row : Vec Value) (rows : S) (xs : List (Vec Value)) (place : Option (Vec Value) × S) → Yields (NextRow steps) (Some row, rows) xs place → Last place
         → (rest : List (List Content)) → Rest rest → (later : List (List Content)) × (contents_of_rows xs ++ rest ≡ contents_of_row row ∷ later)
     begins row rows [] place y last rest is_rest = let P : Option (Vec Value) × S → Type 0 = Last in l.carried_first row rows (subst P (sym y) last) rest is_rest
     begins row rows (x ∷ xs) place y last rest is_rest =
         (contents_of_rows xs ++ rest, ap (λ (r : Vec Value). contents_of_row r ∷ (contents_of_rows xs ++ rest)) y.1.0)
 
-    -- rows up to a place where a row was taken to be carried, and then those from there on
+    -- rows up to the place of a carried row, and then those from there on
     rows_across_requests : (s : Option (Vec Value) × S) (row : Vec Value) (rows : S) (taken xs : List (Vec Value)) (place : Option (Vec Value) × S) → YieldsThen (NextRow steps) s taken (Some row) (None, rows)
         → Yields (NextRow steps) (Some row, rows) xs place → Last place → (there : Option (Vec Value) × S) × Yields (NextRow steps) s (taken ++ xs) there × Last there
     rows_across_requests s row rows taken [] place upto y last =

@@ -27,7 +27,7 @@ pub Accepts-append : (s m t : BuilderState) (rows others : List (List Content)) 
 Accepts-append s m t [] others a b = subst (λ s. Accepts s others t) a b
 Accepts-append s m t (r ∷ rows) others a b = (a.0, a.1, Accepts-append (after_row s r) m t rows others a.2 b)
 
--- a refusal leaves the state
+-- a refusal leaves the state unchanged
 pub Adds-refused : (s t : BuilderState) (row : Vec Value) (e : BulkExecuteRequestError) → Adds s row (Err e) t → t ≡ s
 Adds-refused s t row MixedArity a = a.1
 Adds-refused s t row (MixedTypes back) a = a.3
@@ -39,7 +39,7 @@ Adds-refused s t row Memory a = absurd a
 abbrev pub state : {S : Type 0} → BuilderState → Option (Vec Value) → S → Bool → RunState S
 state s carried rows ended = record { builder = s; carried = carried; rows = rows; ended = ended }
 
--- a list that cannot have elements has none
+-- a list of an empty type is empty
 pub none_waits : {X : Type 0} (xs : List X) → (xs ≢ [] → false ≡ true) → xs ≡ []
 none_waits [] h = refl
 none_waits (x ∷ xs) h = let e : false ≡ true = h (λ e. cc) in cc
@@ -63,7 +63,7 @@ none_built s t NoParams b = b
 none_built s t Memory b = absurd b
 
 module _ {S : Type 0} (steps : S → Option (Vec Value) → S → Type 0) where
-  -- the input has given some rows, which were accepted
+  -- some rows of the input were accepted
   pub record Taken (s : BuilderState) (rows : S) (t : BuilderState) (left : S) : Type 0 where
     pub taken : List (Vec Value)
     pub came : Yields (NextRow steps) (None, rows) taken (None, left)

@@ -1,4 +1,4 @@
--- Values after their indicators, which were read or are their own.
+-- Values after their indicators: those that were read, or the values' own.
 use Rattle.std.proofs.Common.{◌≡◌, ℕ, zero, suc, ◌+◌, ◌<◌, ◌≤◌, Bool, true, ◌&&◌, List, [], ◌∷◌, ◌++◌, length, map, take, drop, Option, Some, unwrap_or, get_or, refl, sym, ◌∙◌, ap, subst, arith, add-one, append_assoc}
 use Rattle.std.proofs.lemmas.Grind.{flat_map-append}
 use Rattle.std.proofs.lemmas.List.{append-nil, length-drop, length-map, map-append, nil_from_length, take_more}
@@ -47,7 +47,7 @@ sent_more [] (x ∷ values) i v e = absurd (omega (arith, e))
 sent_more (j ∷ indicators) [] i v e = absurd (omega (arith, e))
 sent_more (j ∷ indicators) (x ∷ values) i v e = ap (λ (l : List ParamValue). record { indicator = j; content = x } ∷ l) (sent_more indicators values i v (omega (arith, e)))
 
--- the value at a place: after the indicator that was read there, or else after its own
+-- the value at a place, after the indicator that was read there or its own
 pub sent_read : (indicators : List MariadbBulkIndicator) (values : List Value) (place : ℕ) (i : MariadbBulkIndicator) (v : Value) → place < length indicators → place < length values
     → slice_get (sent_values indicators (contents_of values)) place ≡ Some (record { indicator = get_or indicators place i; content = content_of (get_or values place v) })
 sent_read indicators [] place i v p q = absurd (omega (arith, q))
@@ -89,7 +89,7 @@ drop_at xs place x e = rw add-one (at xs place e)
     at (y ∷ xs) zero e = ap (λ (o : Option ParamValue). unwrap_or o y ∷ xs) e
     at (y ∷ xs) (suc place) e = at xs place e
 
--- the values before a place are equal, and so is what is said of those from there on
+-- the values before a place are equal, and so is the claim about the others
 pub equal_more : (E : ParamValue → ParamValue → Bool) (xs ys : List ParamValue) (place : ℕ) (x y : ParamValue) → slice_get xs place ≡ Some x → slice_get ys place ≡ Some y
     → pointwise E (drop place xs) (drop place ys) ≡ (E x y && pointwise E (drop (place + 1) xs) (drop (place + 1) ys))
 equal_more E xs ys place x y d e = λ i. pointwise E (drop_at xs place x d i) (drop_at ys place y e i)
@@ -101,7 +101,7 @@ equal_past E xs ys place p q =
     let nor : drop place ys ≡ [] = nil_from_length (drop place ys) (omega (arith, q, length-drop place ys)) in
     λ i. pointwise E (none i) (nor i)
 
--- one more value was parted from its indicator
+-- one more value was split from its indicator
 pub parted_more : (is js : List MariadbBulkIndicator) (vs ws : List Value) (x : ParamValue) (i : MariadbBulkIndicator) (v : Value) (items rest all : List ParamValue) → length is ≡ length vs
     → js ≡ is ++ i ∷ [] → ws ≡ vs ++ v ∷ [] → i ≡ x.indicator → content_of v ≡ x.content → items ≡ x ∷ rest → sent_values is (contents_of vs) ++ items ≡ all → sent_values js (contents_of ws) ++ rest ≡ all
 parted_more is js vs ws x i v items rest all long p q a b e h =

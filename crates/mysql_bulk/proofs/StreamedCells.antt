@@ -1,4 +1,4 @@
--- A caller's own loop over a writer whose rows are values, DEFAULT and IGNORE.
+-- A caller's own loop over a writer of rows of values, DEFAULT and IGNORE.
 use Rattle.std.proofs.Common.{◌≡◌, ◌≢◌, ℕ, Bool, true, false, if◌then◌else◌, List, [], ◌∷◌, ◌++◌, length, None, Some, Ok, Err, refl, sym, ◌∙◌, ap, subst, inl, inr, append_assoc}
 use Rattle.std.proofs.lemmas.Bool.{ne_eqb}
 use Rattle.std.proofs.lemmas.List.{append-nil}
@@ -16,7 +16,7 @@ none_long : {X : Type 0} (xs : List X) → length xs ≡ 0 → xs ≡ []
 none_long [] e = refl
 none_long (x ∷ xs) e = absurd cc
 
--- the request was let go, and the buffer is left as it is in another
+-- the request was released, and the buffer has these bytes
 abbrev let_go : WriterState → WriterState → WriterState
 let_go u v = record u { types_due = u.rule.types_always; count = 0; size = 0; bytes = []; capacity = v.capacity }
 
@@ -37,14 +37,14 @@ requests_push w types (p ∷ cut) (q ∷ requests) part bytes a e = (a.0, reques
     later [] = refl
     later (p ∷ cut) = refl
 
--- what waits is a request of these bytes
+-- the waiting rows are a request of these bytes
 open_bytes : (w u : WriterState) (due : Bool) (waiting : List (List Cell)) → waiting ≢ [] → u.bytes ≡ so_far (with_settings w due u) waiting → u.bytes ≡ request_of_cells w due waiting
 open_bytes w u due [] some e = absurd (some refl)
 open_bytes w u due (row ∷ waiting) some e = e
 
 -- ---- the loop
 
--- after rows that waited and rows that were offered, these come
+-- after the waiting and the offered rows, these follow
 record Going (w : WriterState) (before rest : List (List Cell)) (requests : List (List ℕ)) (u : WriterState) : Type 0 where
   cut : List (List (List Cell))
   waiting : List (List Cell)
@@ -56,7 +56,7 @@ record Going (w : WriterState) (before rest : List (List Cell)) (requests : List
 begins : (w : WriterState) (before rest : List (List Cell)) → HoldsCells w before → Going w before rest [] w
 begins w before rest h = record { cut = []; waiting = before; packed = open_packed (packing w) w.types_due before rest h.fits; holds = h; settings = refl; bytes = tt }
 
--- whether the row fits is asked of the packing that the loop began with
+-- whether the row fits is decided by the state at the start of the loop
 fits_here : {w u : WriterState} {before rest : List (List Cell)} {requests : List (List ℕ)} (row : List Cell) (g : Going w before rest requests u) → CellsFit u g.waiting row
     → PartFits (packing w) (types_after (packing w) w.types_due g.cut) (g.waiting ++ row ∷ [])
 fits_here row g f = let F : WriterState → Type 0 = λ x. PartFits (packing x) x.types_due (g.waiting ++ row ∷ []) in subst F g.settings f
@@ -79,7 +79,7 @@ one_more {w} {u} {before} row rest m g adds =
       bytes = g.bytes;
     }
 
--- the request of the rows that wait was let go, since no row comes next or the next one does not fit with them
+-- the request of the waiting rows was released, since there is no next row or it does not fit
 let_go_next : {w u : WriterState} {before : List (List Cell)} {requests : List (List ℕ)} (rest : List (List Cell)) (v : WriterState) (g : Going w before rest requests u) → g.waiting ≢ []
     → NextDoesNotFit (packing w) (types_after (packing w) w.types_due g.cut) g.waiting rest → LetsGo u v → Going w before rest (requests ++ u.bytes ∷ []) v
 let_go_next {w} {u} {before} {requests} rest v g some next go =
@@ -126,7 +126,7 @@ gone {w} (row ∷ rows) rest before u t requests more g s =
           (subst (λ b. P b ((requests ++ u.bytes ∷ []) ++ at.2)) (append_assoc before (row ∷ []) rows) later)
     ]
 
--- from a writer in which rows waited
+-- from a writer with waiting rows
 streamed : (w u : WriterState) (before rows rest : List (List Cell)) (requests : List (List ℕ)) → HoldsCells w before → StreamsCells w rows requests u → Going w (before ++ rows) rest requests u
 streamed w u before rows rest requests h s = gone rows rest before w u [] requests (begins w before (rows ++ rest) h) s
 
@@ -142,7 +142,7 @@ by_parts {w} {u} {before} {rest} g due =
     let P : Bool → List (List Cell) → Type 0 = λ t l. IsPacked (packing w) t g.cut g.waiting l rest in
     subst (λ l. P true l) (sym g.packed.same) (subst (λ t. P t before) due g.packed)
 
--- a run ends where these rows come next
+-- a run ends before these rows
 ends_at : (w u : WriterState) (before rows rest : List (List Cell)) (requests : List (List ℕ)) (e : BulkRowError) (g : Going w (before ++ rows) rest requests u) → EndsBy (Some e) u g.waiting rest
     → (w.types_due ≡ true → e ≡ refused.TooLarge → HasFittingCut (packing w) ((rows_in g.cut ++ g.waiting) ++ next_of rest) → ⊥)
     → CellsRunGives w before (rows ++ rest) requests (Some e) u
@@ -167,7 +167,7 @@ ends_at w u before rows rest requests e g ended large =
       fewest = λ due is. absurd (let some : Some e ≡ None = is in cc);
     }
 
--- a run ends where no row is left, nor waits
+-- a run ends if no row is left or waiting
 all_sent : (w u : WriterState) (before rows : List (List Cell)) (requests : List (List ℕ)) (g : Going w (before ++ rows) [] requests u) → g.waiting ≡ [] → CellsRunGives w before rows requests None u
 all_sent w u before rows requests g none =
     let k = packing w in
@@ -193,7 +193,7 @@ all_sent w u before rows requests g none =
       fewest = λ due is. packed_fewest k g.cut (before ++ rows) (subst (λ t. P t []) due p);
     }
 
--- a writer that counts none holds no row, and one that counts some holds some
+-- a writer holds rows exactly if its count is not 0
 none_waits : {u : WriterState} (waiting : List (List Cell)) → HoldsCells u waiting → u.count ≡ 0 → waiting ≡ []
 none_waits waiting h e = none_long waiting (sym h.count ∙ e)
 
@@ -206,7 +206,7 @@ cells_none w u before rows requests h s none =
     let g = streamed w u before rows [] requests h s in
     all_sent w u before rows requests g (none_waits g.waiting g.holds none)
 
--- the request of the last ones was let go
+-- the request of the last rows was released
 pub cells_sent : (w u v : WriterState) (before rows : List (List Cell)) (requests : List (List ℕ)) → HoldsCells w before → StreamsCells w rows requests u → u.count ≢ 0 → LetsGo u v
     → CellsRunGives w before rows (requests ++ u.bytes ∷ []) None v
 cells_sent w u v before rows requests h s some go =
@@ -214,7 +214,7 @@ cells_sent w u v before rows requests h s some go =
     let sent = let_go_next [] v g (some_wait g.waiting g.holds some) tt go in
     all_sent w v before rows (requests ++ u.bytes ∷ []) sent (none_waits sent.waiting sent.holds (none_counted u v some go))
 
--- no memory was had for the request of the last ones
+-- there was no memory for the request of the last rows
 pub cells_kept : (w u : WriterState) (before rows : List (List Cell)) (requests : List (List ℕ)) → HoldsCells w before → StreamsCells w rows requests u → u.count ≢ 0
     → CellsRunGives w before rows requests (Some refused.Memory) u
 cells_kept w u before rows requests h s some =
@@ -222,7 +222,7 @@ cells_kept w u before rows requests h s some =
     let R : List (List Cell) → Type 0 = λ l. CellsRunGives w before l requests (Some refused.Memory) u in
     subst R (append-nil rows) (ends_at w u before rows [] requests refused.Memory g (inl (some_wait g.waiting g.holds some)) (λ due is. absurd cc))
 
--- no memory was had for the request that is due, since the next row does not fit
+-- there was no memory for the request that is due
 pub cells_due : (w u : WriterState) (before rows later : List (List Cell)) (requests : List (List ℕ)) (row : List Cell) → HoldsCells w before → StreamsCells w rows requests u → AddsCells u row (Ok false) u
     → CellsRunGives w before (rows ++ row ∷ later) requests (Some refused.Memory) u
 cells_due w u before rows later requests row h s adds =
@@ -264,13 +264,13 @@ pub cells_refused : (w u v : WriterState) (before rows later : List (List Cell))
     → AddsCells u row (Err e) v → CellsRunGives w before (rows ++ row ∷ later) requests (Some e) v
 cells_refused w u v before rows later requests row e h s adds = refused_at w u v before rows later requests row e (streamed w u before rows (row ∷ later) requests h s) adds
 
--- a row is refused after a request was let go
+-- a row is refused after a request was released
 pub sent_refused : (w u v x : WriterState) (before rows later : List (List Cell)) (requests : List (List ℕ)) (row : List Cell) (e : BulkRowError) → HoldsCells w before → StreamsCells w rows requests u
     → AddsCells u row (Ok false) u → LetsGo u v → AddsCells v row (Err e) x → CellsRunGives w before (rows ++ row ∷ later) (requests ++ u.bytes ∷ []) (Some e) x
 sent_refused w u v x before rows later requests row e h s full go adds =
     refused_at w v x before rows later (requests ++ u.bytes ∷ []) row e (one_sent row later v (streamed w u before rows (row ∷ later) requests h s) full go) adds
 
--- a row that is offered where none waits is not kept back
+-- a row that is offered if none is waiting is not kept back
 pub never_kept : (w u v : WriterState) (before rows : List (List Cell)) (requests : List (List ℕ)) (row : List Cell) → HoldsCells w before → StreamsCells w rows requests u
     → AddsCells u row (Ok false) u → LetsGo u v → AddsCells v row (Ok false) v → ⊥
 never_kept w u v before rows requests row h s full go adds =

@@ -1,4 +1,4 @@
--- A caller's own loop over a writer of requests is the loop over the builder whose waiting rows it has written.
+-- A caller's own loop over a request writer is the loop over the builder with the same waiting rows.
 use Rattle.std.proofs.Common.{◌≡◌, ◌≢◌, ℕ, true, List, [], ◌∷◌, ◌++◌, map, Result, Ok, Err, refl, sym, ◌∙◌, ap, subst, inl, inr}
 use Rattle.std.specs.Prelude.{All}
 use Rattle.std.proofs.lemmas.List.{append-nil, map-append}
@@ -31,7 +31,7 @@ is_after s t (Err e) b some = absurd (some (none_built s t e b).0)
 
 -- ---- the loops
 
--- what a writer did that had written these rows
+-- the steps of a writer that had written these rows
 record IsCollected (w : WriterState) (part rows : List (List Content)) (requests : List (List ℕ)) (u : WriterState) : Type 0 where
   sent : List BulkRequest
   bytes : requests ≡ map request_bytes sent
@@ -70,7 +70,7 @@ is_collected (row ∷ rows) w u part requests h s = elim s [
       }
 ]
 
--- rows wait at the end
+-- rows are waiting at the end
 waits_still : (rows : List (List Content)) (s t : BuilderState) (requests : List BulkRequest) → s.waiting ≢ [] → Collects s rows requests t → t.waiting ≢ []
 waits_still [] s t requests some c = λ e. some (sym (ap (λ (b : BuilderState). b.waiting) c.1) ∙ e)
 waits_still (row ∷ rows) s t requests some c = elim c [
@@ -100,7 +100,7 @@ are_bytes s [] (q ∷ requests) a = absurd a
 are_bytes s (part ∷ cut) [] a = absurd a
 are_bytes s (part ∷ cut) (q ∷ requests) a = (ap request_bytes (is_request s part q a.0), are_bytes (after_request s) cut requests a.1)
 
--- ---- the ends of a loop that began with no row
+-- ---- the ends of a loop that began without a row
 
 pub streamed_fewest : (w u : WriterState) (rows : List (List Content)) (requests : List (List ℕ)) → Holds w [] → w.types_due ≡ true → Streams w rows requests u → rows ≢ [] → AreFewest w rows (requests ++ u.bytes ∷ [])
 streamed_fewest w u rows requests h due s some =
@@ -123,7 +123,7 @@ streamed_fewest w u rows requests h due s some =
       bytes = subst B bytes (are_bytes start run.cut (c.sent ++ last.0 ∷ []) run.requests_are);
     }
 
--- a refusal leaves the builder
+-- a refusal leaves the builder unchanged
 stays : (s t : BuilderState) (row : List Content) (e : BulkRowError) → AddsCopy s row (Err e) t → t ≡ s
 stays s t row copy.MixedArity a = a.1
 stays s t row copy.MixedTypes a = a.2

@@ -1,4 +1,4 @@
--- What a writer of requests has written of rows of values, DEFAULT and IGNORE.
+-- What a request writer has written for rows of values, DEFAULT and IGNORE.
 use Rattle.std.proofs.Common.{◌≡◌, ◌≢◌, ℕ, ◌+◌, true, false, List, [], ◌∷◌, ◌++◌, length, map, Ok, Err, refl, sym, ◌∙◌, ap, arith, append_assoc, length-append}
 use Rattle.std.proofs.lemmas.Grind.{flat_map-append}
 use Rattle.std.proofs.lemmas.List.{append-nil, length-map}
@@ -26,7 +26,7 @@ further_so_far w (r ∷ rows) row some =
 
 -- ---- a row is offered
 
--- no row waits where none was counted
+-- no row is waiting if none was counted
 pub none_counted : (w : WriterState) (rows : List (List Cell)) → HoldsCells w rows → w.count ≡ 0 → rows ≡ []
 none_counted w [] h e = refl
 none_counted w (row ∷ rows) h e = absurd (omega (arith, h.count, e))
@@ -55,12 +55,12 @@ is_too_large w row spells empty none = λ rows h. (spells, none rows h, none_cou
 pub no_memory : (w : WriterState) (row : List Cell) → Spells w.types row → EachFits w row → AddsCells w row (Err refused.Memory) w
 no_memory w row spells fits = λ rows h. (spells, fits rows h, refl)
 
--- its settings stay, and so do the bytes of its requests
+-- its settings are unchanged, and so are the bytes of its requests
 same : (w : WriterState) (row : List Cell) (size capacity : ℕ) (before : List ℕ) (rows : List (List Cell)) → so_far (with_row w before size capacity (cells_bytes w.types row)) (rows ++ row ∷ []) ≡ so_far w (rows ++ row ∷ [])
 same w row size capacity before [] = refl
 same w row size capacity before (r ∷ rows) = refl
 
--- it was written after these bytes
+-- it is written after these bytes
 wrote : (w : WriterState) (row : List Cell) (size capacity : ℕ) (before : List ℕ) → Spells w.types row → EachFits w row → size ≡ w.size + cells_size w.types row
     → ((rows : List (List Cell)) → HoldsCells w rows → so_far w (rows ++ row ∷ []) ≡ before ++ cells_bytes w.types row)
     → AddsCells w row (Ok true) (with_row w before size capacity (cells_bytes w.types row))
@@ -88,7 +88,7 @@ pub wrote_further : (w : WriterState) (row : List Cell) (size capacity : ℕ) �
 wrote_further w row size capacity spells fits total some =
     wrote w row size capacity w.bytes spells fits total (λ rows h. further_so_far w rows row (some_counted w rows h some) ∙ ap (λ (l : List ℕ). l ++ cells_bytes w.types row) (sym h.bytes))
 
--- a writer in which no row waits
+-- a writer without waiting rows
 pub holds_none : (w : WriterState) → w.count ≡ 0 → w.size ≡ 0 → w.bytes ≡ [] → HoldsCells w []
 holds_none w count size bytes = record { count = count; size = size; bytes = bytes; taken = All-nil (Spells w.types); fits = λ some. absurd (some refl) }
 

@@ -70,7 +70,7 @@ there : {A : Type 0} (o : Option A) (d : A) → is_some o ≡ true → o ≡ Som
 there None d h = absurd cc
 there (Some x) d h = refl
 
--- a column that a type tells of is unsigned where the type is
+-- a column is unsigned if its type is
 flag_kept : (b : Bool) → has (if b then UNSIGNED_FLAG else 0) UNSIGNED_FLAG ≡ b
 flag_kept true = refl
 flag_kept false = refl

@@ -1,4 +1,4 @@
--- A whole run of a writer over rows of values, DEFAULT and IGNORE.
+-- A complete run of a writer over rows of values, DEFAULT and IGNORE.
 use Rattle.std.proofs.Common.{◌≡◌, ◌≢◌, ◌⊎◌, ℕ, add-one, ◌+◌, ◌<◌, suc, zero, Bool, true, false, if◌then◌else◌, List, [], ◌∷◌, ◌++◌, length, map, take, drop, get_or, Some, None, Result, Ok, Err, refl, sym, ◌∙◌, ap, subst, inl, inr, arith}
 use Rattle.std.specs.Prelude.{IfErr, OnOk}
 use Rattle.std.proofs.lemmas.List.{append-nil}
@@ -20,7 +20,7 @@ not_taken u m row b a f e =
 let_go_from : (u m v : WriterState) → m ≡ u → LetsGo m v → LetsGo u v
 let_go_from u m v e g = let G : WriterState → Type 0 = λ x. LetsGo x v in subst G e g
 
--- the answer to a row that is offered again
+-- the result of offering a row again
 pub again_taken : (u m v x : WriterState) (row : List Cell) (b c : Bool) (q more : List (List ℕ)) → AddsCells u row (Ok b) m → b ≡ false → m ≡ u → LetsGo m v → more ≡ q ++ m.bytes ∷ [] → AddsCells v row (Ok c) x → c ≡ true
     → Offered u row q x more
 again_taken u m v x row b c q more a f e g sent adds is =
@@ -37,13 +37,13 @@ pub again_kept : (u m v x : WriterState) (row : List Cell) (b c : Bool) (q more 
 again_kept u m v x row b c q more e a f same g adds is stays =
     inr (inr (inr (v, not_taken u m row b a f same, let_go_from u m v same g, not_taken v x row c adds is stays)))
 
--- the request that is due was not let go
+-- the request that is due was not released
 pub not_sent : (u m v : WriterState) (row : List Cell) (b : Bool) (q more : List (List ℕ)) → AddsCells u row (Ok b) m → b ≡ false → m ≡ u → v ≡ m → more ≡ q → OfferRefused u row q refused.Memory v more
 not_sent u m v row b q more a f same kept is = inr (inl (refl, not_taken u m row b a f same, kept ∙ same, is))
 
 -- ---- rows one after another
 
--- a row was written, and these requests were let go before it
+-- a row was written, after these requests were released
 abbrev Step : WriterState → List Cell → List (List ℕ) → WriterState → Type 0
 Step u row added m =
     (AddsCells u row (Ok true) m × (added ≡ []))
@@ -116,7 +116,7 @@ take_more {X} {Y} f xs i x lt at = rw add-one (from xs i lt at)
     from (y ∷ xs) zero lt at = ap (λ (z : X). f z ∷ []) (sym at)
     from (y ∷ xs) (suc i) lt at = ap (λ (l : List Y). f y ∷ l) (from xs i (omega (arith, lt)) at)
 
--- the item at a place stands between those before it and those after it
+-- a list is the items before a place, the item there, and those after it
 pub split_at : {X Y : Type 0} (f : X → Y) (xs : List X) (i : ℕ) (x : X) → i < length xs → x ≡ get_or xs i x → map f xs ≡ map f (take i xs) ++ f x ∷ map f (drop (i + 1) xs)
 split_at {X} {Y} f xs i x lt at = rw add-one (from xs i lt at)
   where
@@ -125,7 +125,7 @@ split_at {X} {Y} f xs i x lt at = rw add-one (from xs i lt at)
     from (y ∷ xs) zero lt at = ap (λ (z : X). f z ∷ map f xs) (sym at)
     from (y ∷ xs) (suc i) lt at = ap (λ (l : List Y). f y ∷ l) (from xs i (omega (arith, lt)) at)
 
--- ---- the answer to a row that is offered where none waits
+-- ---- the result of offering a row if none is waiting
 
 pub answered_ok : (r : Result (Unit {0}) BulkRowError) (c : Bool) (P : Type 0) → r ≡ (if c then Ok tt else Err refused.TooLarge) → (c ≡ true → P) → OnOk r P
 answered_ok r true P e h = let Q : Result (Unit {0}) BulkRowError → Type 0 = λ x. OnOk x P in subst Q (sym e) (h refl)

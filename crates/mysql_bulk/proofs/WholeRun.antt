@@ -1,4 +1,4 @@
--- A run over a list of rows: what was sent, what waits and what is still to come.
+-- A run over a list of rows: those sent, waiting and still to come.
 use Rattle.std.proofs.Common.{◌≡◌, ◌≢◌, ℕ, ◌+◌, Bool, true, false, cond, if◌then◌else◌, List, [], ◌∷◌, ◌++◌, length, take, drop, Option, Some, None, Err, refl, sym, ◌∙◌, ap, subst, arith, length-append, append_assoc}
 use Rattle.std.proofs.lemmas.List.{append-nil, take-append-le, take-append-drop, take_at}
 use Rattle.std.proofs.lemmas.List.Sums.{take_while-cons}
@@ -33,13 +33,13 @@ EqualLengths-push : (a : ℕ) (rows : List (List Content)) (row : List Content) 
 EqualLengths-push a [] row e h = (h, tt)
 EqualLengths-push a (r ∷ rows) row e h = (e.0, EqualLengths-push a rows row e.1 h)
 
--- a row that may come next is as long as the first
+-- a row that is allowed next is as long as the first
 as_long : (known o : Option ℕ) (before : List (List Content)) (row : List Content) (rest all : List (List Content)) → o ≡ arity_after known before → TakesArity o (length row) → before ++ row ∷ rest ≡ all
     → length row ≡ first_length all
 as_long known o [] row rest all a t e = ap first_length e
 as_long known o (r ∷ before) row rest all a t e = let T : Option ℕ → Type 0 = λ p. TakesArity p (length row) in subst T a t ∙ ap first_length e
 
--- on a new builder a row that is as long as the first, and that the declared types spell, may come next
+-- on a new builder a row is allowed next if it is as long as the first and the declared types can encode it
 takes_as_long : (columns : Option (List ParamType)) (o : Option ℕ) (before : List (List Content)) (row : List Content) (rest all : List (List Content)) → o ≡ arity_after (option_map length columns) before
     → before ++ row ∷ rest ≡ all → length row ≡ first_length all → TakesTypes columns row → TakesArity o (length row)
 takes_as_long None o [] row rest all a e h t = let T : Option ℕ → Type 0 = λ p. TakesArity p (length row) in subst T (sym a) tt
@@ -113,7 +113,7 @@ length_of_waiting n [] [] e some = absurd (some refl)
 length_of_waiting n [] (row ∷ waiting) e some = e.0
 length_of_waiting n (row ∷ before) waiting e some = length_of_waiting n before waiting e.1 some
 
--- the next row, if there is one, has this length, and the declared types spell it
+-- the next row, if there is one, has this length, and the declared types can encode it
 abbrev pub NextIsTaken : Option (List ParamType) → ℕ → List (List Content) → Type 0
 NextIsTaken columns n [] = Unit {0}
 NextIsTaken columns n (row ∷ rest) = (length row ≡ n) × TakesTypes columns row
@@ -134,7 +134,7 @@ slice_get_at : {X : Type 0} (xs : List X) (x : X) (ys : List X) → slice_get (x
 slice_get_at [] x ys = refl
 slice_get_at (y ∷ xs) x ys = slice_get_at xs x ys
 
--- a run from s over all these rows has come so far: b is the builder, and the rest is still to come
+-- a run from s over all these rows, with builder b and these rows still to come
 pub record Running (s : BuilderState) (all : List (List Content)) (requests : List BulkRequest) (ends : List ℕ) (sent : ℕ) (b : BuilderState) (rest : List (List Content)) : Type 0 where
   pub cut : List (List (List Content))
   pub requests_are : AreRequests s cut requests
@@ -176,15 +176,15 @@ module _ {s : BuilderState} {all : List (List Content)} {requests : List BulkReq
   arity_is : {rest : List (List Content)} (r : Running s all requests ends sent b rest) → b.arity ≡ arity_after s.arity (rows_in r.cut ++ b.waiting)
   arity_is r = ap (λ (u : BuilderState). u.arity) r.left
 
-  -- a row that may come next is as long as the first of all
+  -- a row that is allowed next is as long as the first of all
   pub next_long : (row : List Content) (rest : List (List Content)) (r : Running s all requests ends sent b (row ∷ rest)) → TakesArity b.arity (length row) → length row ≡ first_length all
   next_long row rest r t = as_long s.arity b.arity (rows_in r.cut ++ b.waiting) row rest all (arity_is r) t r.whole
 
-  -- a row that may come next is that long, and the declared types spell it
+  -- a row that is allowed next has this length, and the declared types can encode it
   pub next_taken : (row : List Content) (rest : List (List Content)) (r : Running s all requests ends sent b (row ∷ rest)) → TakesRow b row → NextIsTaken s.columns (first_length all) (row ∷ rest)
   next_taken row rest r t = (next_long row rest r t.0, let T : BuilderState → Type 0 = λ u. TakesTypes u.columns row in subst T r.left t.1)
 
-  -- the next row fits with those that wait where it fits in the open part, and the other way round
+  -- the next row fits with the waiting rows exactly if it fits the open part
   fits_to : (row : List Content) (rest : List (List Content)) (r : Running s all requests ends sent b (row ∷ rest)) → length row ≡ first_length all → RowFits b row
       → PartFits (measure s all) (types_after (measure s all) s.types_due r.cut) (b.waiting ++ row ∷ [])
   fits_to row rest r h f =
@@ -236,7 +236,7 @@ module _ {s : BuilderState} {all : List (List Content)} {requests : List BulkReq
       let T : Bool → Type 0 = λ t. PartFits (measure s all) t (b.waiting ++ row ∷ []) in
       (some, (next.0 ∙ sym (length_of_waiting (first_length all) (rows_in r.cut) b.waiting r.lengths some), next.1), λ f. n (subst T (due_is s all r.cut) (subst A next.0 f)))
 
-  -- the waiting rows are sent, since the next row, if there is one, is taken and does not fit with them
+  -- the waiting rows are sent, since there is no next row or it does not fit
   pub running_sends : (t : BuilderState) (rest : List (List Content)) (request : BulkRequest) (r : Running s all requests ends sent b rest) → BuildsRequest b request t → NextIsTaken s.columns (first_length all) rest
       → NextDoesNotFit (measure s all) (types_after (measure s all) s.types_due r.cut) b.waiting rest
       → Running s all (requests ++ request ∷ []) (ends ++ length (rows_in r.cut ++ b.waiting) ∷ []) (length (rows_in r.cut ++ b.waiting)) t rest
@@ -266,9 +266,9 @@ module _ {s : BuilderState} {all : List (List Content)} {requests : List BulkReq
         due = EachWasDue-push s r.cut b.waiting rest r.due (is_due rest r a.some next n);
       })
 
-  -- ---- what a run has given, wherever it stands
+  -- ---- what a run has produced, at any point
 
-  -- the rows so far, and those to come that are taken, are the beginning in which all rows are
+  -- the rows so far and those still accepted are the beginning of the list
   front_is : (rest : List (List Content)) (r : Running s all requests ends sent b rest) → taken_front s all ≡ (rows_in r.cut ++ b.waiting) ++ take_while (taken_as_long s.columns (first_length all)) rest
   front_is rest r = ap (take_while (taken_as_long s.columns (first_length all))) (sym r.whole) ∙ front_from s.columns (first_length all) (rows_in r.cut ++ b.waiting) rest r.lengths r.taken
 
@@ -340,7 +340,7 @@ module _ {s : BuilderState} {all : List (List Content)} {requests : List BulkReq
   pub gives_params : (e : ParamsError) → Running s all requests ends sent b [] → RunGives s all requests ends (Some (Params e)) b
   gives_params e r = gives [] (Some (Params e)) r refl (λ n h. none_refused r n) (λ n h. cc)
 
-  -- the next row is not taken: it comes after that beginning
+  -- the next row is not accepted: it follows that beginning
   module _ (row : List Content) (rest : List (List Content)) (r : Running s all requests ends sent b (row ∷ rest)) (no : (taken_as_long s.columns (first_length all)) row ≡ false) where
     abbrev so_far : List (List Content)
     so_far = rows_in r.cut ++ b.waiting
@@ -431,7 +431,7 @@ pub running_accepts : {s : BuilderState} {all : List (List Content)} {requests :
 running_accepts {s} {all} {requests} {ends} {sent} m [] rest r a = let P : BuilderState → Type 0 = λ u. Running s all requests ends sent u rest in subst P (sym a) r
 running_accepts m (row ∷ rows) rest r a = running_accepts m rows rest (running_more row (rows ++ rest) r a.0 a.1) a.2
 
--- a new builder is as every builder is
+-- a new builder satisfies the invariant
 pub new_consistent : (s : BuilderState) → IsNew s → IsConsistent s
 new_consistent s n =
     let one : List (List Content) → Type 0 = λ rows. EqualLengths (first_length rows) rows in

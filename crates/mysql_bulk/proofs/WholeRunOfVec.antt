@@ -23,7 +23,7 @@ use Rattle.mysql_bulk.proofs.WholeRun.{Running, NextIsTaken, running_none, runni
 abbrev pub Input : Type 0
 Input = IntoIter (Vec Value) Global
 
--- the rows that are carried, and those that the input holds
+-- the carried row, and the rows of the input
 abbrev pub held : Option (Vec Value) → Input → List (Vec Value)
 held carried input = option_to_list carried ++ into_iter_items input
 
@@ -47,14 +47,14 @@ comes_all : (c : Option (Vec Value)) (s : Input) (taken : List (Vec Value)) (d :
 comes_all c s [] d t y = ap (λ (p : Option (Vec Value) × Input). held p.0 p.1) y
 comes_all c s (x ∷ taken) d t y = comes_one c s x y.0.0 y.0.1 y.1 ∙ ap (λ (l : List (Vec Value)). x ∷ l) (comes_all y.0.0 y.0.1 taken d t y.2)
 
--- the rows that were taken, and those that are still held
+-- the rows taken so far, and those not yet taken
 pub came : (c : Option (Vec Value)) (s : Input) (taken : List (Vec Value)) (last : Option (Vec Value)) (t : Input) → YieldsThen (NextRow into_iter_steps) (c, s) taken last (None, t)
     → (held c s ≡ taken ++ held last t) × (last ≡ None → held last t ≡ [])
 came c s taken last t y =
     let end = comes_end y.0.0 y.0.1 last t y.2 in
     (comes_all c s taken y.0.0 y.0.1 y.1 ∙ ap (λ (l : List (Vec Value)). taken ++ l) end.0, end.1)
 
--- where a run over all these rows stands: what it carries and what its input holds are still to come
+-- the state of a run over all these rows: the carried row and those of the input are still to come
 pub record RunSoFar (s : BuilderState) (all : List (List Content)) (requests : List BulkRequest) (ends : List ℕ) (sent : ℕ) (b : BuilderState) (carried : Option (Vec Value)) (input : Input) : Type 0 where
   pub running : Running s all requests ends sent b (contents_of_rows (held carried input))
 
@@ -92,7 +92,7 @@ module _ {s : BuilderState} {all : List (List Content)} {requests : List BulkReq
   request_is_due n None a e = let D : List (Vec Value) → Type 0 = λ h. RequestIsDue b (contents_of_rows h) in subst D (sym (e refl)) n
   request_is_due n (Some row) a e = (n, a.0, a.1)
 
-  -- there is no memory for the request that is due, and nothing changed
+  -- there is no memory for the request that is due, and nothing changes
   pub ends_memory : (t : BuilderState) (more : List BulkRequest) (further : List ℕ) → b.waiting ≢ [] → IfSome carried (λ row. Adds b row (Ok (Some row)) b) → (carried ≡ None → held carried input ≡ [])
       → t ≡ b → more ≡ requests → further ≡ ends → RunGives s all more further (Some (Request Memory)) t
   ends_memory t more further n a e x y z =
@@ -132,11 +132,11 @@ module _ {s : BuilderState} {all : List (List Content)} {requests : List BulkReq
       let a2 : R (requests ++ put.0 ∷ []) further end = subst (λ l. R (requests ++ put.0 ∷ []) l end) (sym named) a1 in
       record { running = subst (λ q. R q further end) (sym put.1) a2 }
 
--- where the input has ended, nothing is held
+-- at the end of the input, no row is left
 pub accepts_end : (b m : BuilderState) (carried last : Option (Vec Value)) (input left : Input) → AcceptsUntilFull into_iter_steps b carried input (Ok last) m left → last ≡ None → held last left ≡ []
 accepts_end b m carried last input left f = (came carried input f.0 last left f.1).1
 
--- where nothing waits after rows were taken, nothing is held
+-- if nothing is waiting after rows were taken, no row is left
 pub accepts_empty : (b m : BuilderState) (carried last : Option (Vec Value)) (input left : Input) → AcceptsUntilFull into_iter_steps b carried input (Ok last) m left → m.waiting ≡ [] → held last left ≡ []
 accepts_empty b m carried None input left f w = (came carried input f.0 None left f.1).1 refl
 accepts_empty b m carried (Some row) input left f w = absurd (f.3.2 w)

@@ -1,5 +1,6 @@
 -- What precedes the values of a bulk request.
 use Rattle.std.specs.Prelude.{ℕ, Bool, if◌then◌else◌, List, length, map, refl}
+use Rattle.mysql_wire.specs.CommandCodes.{COM_STMT_BULK_EXECUTE}
 use Rattle.mysql_wire.specs.FlagMasks.{SEND_TYPES_TO_SERVER, UNSIGNED, UNSIGNED_FLAG}
 use Rattle.mysql_wire.specs.declared.little_endian.LeU16.{LeU16}
 use Rattle.mysql_wire.specs.Flags.{StmtBulkExecuteFlags, has}
@@ -33,7 +34,7 @@ column_types sent = record {
 
 abbrev pub head_fields : Fields ℕ BulkHead BulkHead
 head_fields = do
-  header ← field (λ h. record { 0 = record {} }) (const_u8 {T = InvalidComStmtBulkExecuteHeader} 0xfa)
+  header ← field (λ h. record { 0 = record {} }) (const_u8 {T = InvalidComStmtBulkExecuteHeader} COM_STMT_BULK_EXECUTE)
   stmt_id ← field (λ h. record { 0 = h.stmt_id; 1 = record {} }) u32
   bulk_flags ← field (λ h. record { 0 = h.bulk_flags; 1 = record {} }) (flags {U = LeU16} 2)
   types ← field (λ h. h.types) (column_types (sends_types bulk_flags.0))

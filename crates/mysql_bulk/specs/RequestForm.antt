@@ -1,5 +1,6 @@
 -- Bulk requests in the bytes.
 use Rattle.std.specs.Prelude.{ℕ, List, length, Bool, is_ok, ◌&&◌}
+use Rattle.mysql_wire.specs.CommandCodes.{COM_STMT_BULK_EXECUTE}
 use Rattle.mysql_wire.specs.Seq.{is_any}
 use Rattle.mysql_wire.specs.Codecs.{const_u8, u32, flags}
 use Rattle.mysql_wire.specs.declared.constant_value.Const.{Const}
@@ -26,7 +27,7 @@ bulk_request columns = do
 -- the header, the statement's number and the flags
 abbrev pub head_start : Form (Const StmtBulkExecuteFlags LeU16)
 head_start = do
-  header ← (const_u8 {C = Unit {0}} {T = InvalidComStmtBulkExecuteHeader} 0xfa).form tt
+  header ← (const_u8 {C = Unit {0}} {T = InvalidComStmtBulkExecuteHeader} COM_STMT_BULK_EXECUTE).form tt
   stmt_id ← (u32 {C = Unit {0}}).form tt
   (flags {C = Unit {0}} {U = LeU16} 2).form tt
 

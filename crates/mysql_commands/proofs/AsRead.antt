@@ -1,4 +1,4 @@
--- What was read is written as it stood, for each form that a command is made of: its bytes are those that were read, where each of these is
+-- Each form of a command is written as it was read: its bytes are those that were read, if each of these is
 -- a byte.
 use Rattle.std.proofs.Common.{◌≡◌, ℕ, zero, suc, ◌+◌, ◌*◌, ◌<◌, ◌≤◌, ◌^◌, ◌==◌, if◌then◌else◌, Bool, true, false, List, [], ◌∷◌, ◌++◌, take, length, Option, Some, None, refl, sym, ap, subst, ◌∙◌, append_assoc, arith, eqb-true}
 use Rattle.std.proofs.lemmas.List.{append-nil}
@@ -32,7 +32,7 @@ bytes-before (b ∷ front) rest h = (h.0, bytes-before front rest h.1)
 pub bytes-left : (a before mid : List ℕ) → AreBytes before → a ++ mid ≡ before → AreBytes mid
 bytes-left a before mid h e = bytes-after a mid (subst AreBytes (sym e) h)
 
--- a part that was read and is written as it stood, and the bytes after it
+-- a part that is written as it was read, and the bytes after it
 pub record Took (part before mid : List ℕ) : Type 0 where
   pub parts : part ++ mid ≡ before
   pub left : AreBytes mid
@@ -40,7 +40,7 @@ pub record Took (part before mid : List ℕ) : Type 0 where
 pub took : (part before mid : List ℕ) → part ++ mid ≡ before → AreBytes before → Took part before mid
 took part before mid e h = record { parts = e; left = bytes-left part before mid h e }
 
--- numbers of as many bytes are one where they are worth the same
+-- numbers of the same width are equal if their values are
 one-number : (a b : List ℕ) → AreBytes a → AreBytes b → length a ≡ length b → le_value a ≡ le_value b → a ≡ b
 one-number [] [] ha hb len e = refl
 one-number [] (y ∷ b) ha hb len e = absurd (omega (arith, len))

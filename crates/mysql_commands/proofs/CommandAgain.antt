@@ -1,4 +1,4 @@
--- What is written of a command is read again: for each command, what its codec says.
+-- A command is read back, by the codec of each command.
 use Rattle.std.proofs.Common.{◌≡◌, ℕ, ◌<◌, ◌%◌, List, [], ◌∷◌, ◌++◌, false, Option, Some, None, sym, ap, subst, refl, arith}
 use Rattle.mysql_wire.specs.Flags.{CapabilityFlags}
 use Rattle.mysql_wire.specs.Int.{raw_int}
@@ -26,13 +26,13 @@ use Rattle.mysql_commands.specs.declared.unknown.UnknownCommand.{UnknownCommand}
 use Rattle.mysql_commands.specs.declared.command.Command.{Command}
 use Rattle.mysql_commands.specs.declared.command.Command.TheVariants as variant
 
--- the first byte chooses
+-- the first byte selects the command
 at-first : (c : CapabilityFlags) (v : Command) (code : ℕ) (more bytes rest : List ℕ) → bytes ≡ code ∷ more
     → (command_named c (server_command_of code)).Spells v bytes rest → (command_at c bytes).Spells v bytes rest
 at-first c v code more bytes rest e s =
     subst (λ (l : List ℕ). (command_named c (server_command_of code)).Spells v l rest → (command_at c l).Spells v l rest) (sym e) (λ s. s) s
 
--- a name that has no record is an unknown command
+-- a name without a record is an unknown command
 as-unknown : (c : CapabilityFlags) (o : Option ServerCommand) (v : Command) (bytes rest : List ℕ) → has_record o ≡ false
     → (reads_as unknown_command c variant.Unknown).Spells v bytes rest → (command_named c o).Spells v bytes rest
 as-unknown c None v bytes rest e s = s

@@ -1,4 +1,4 @@
--- The packets of commands are written as they were read.
+-- Command packets are written as they were read.
 use Rattle.std.proofs.Common.{[], ◌∷◌, ◌++◌, subst}
 use Rattle.mysql_wire.specs.CountedBytes.{u8_string_bytes}
 use Rattle.mysql_wire.specs.Form.{bytes}

@@ -1,4 +1,4 @@
--- A query that a client sends is read as that query.
+-- A query that a client sends is read back.
 use Rattle.std.proofs.Common.{◌≡◌, ℕ, ◌+◌, ◌<◌, ◌^◌, ◌==◌, Bool, true, false, is_some, List, [], ◌∷◌, ◌++◌, length, map, get_or, Option, Some, None, Ok, refl, sym, subst, ap, ◌∙◌, arith, append_assoc}
 use Rattle.std.proofs.lemmas.Grind.{common_steps}
 use Rattle.std.proofs.lemmas.List.{append-nil, length-map}
@@ -37,7 +37,7 @@ use Rattle.mysql_commands.specs.SentQuery.{AttributesFit, SentQueryFits, attribu
 use Rattle.mysql_commands.specs.declared.command.Command.TheVariants as variant
 use Rattle.mysql_commands.proofs.CommandAgain.{command-again}
 
--- ---- attributes as parameters that are sent
+-- ---- attributes as sent parameters
 
 types-read : (l : List QueryAttribute) → map (λ p. type_read true p.named_type) (sent_attributes l) ≡ map attribute_type l
 types-read [] = refl
@@ -56,7 +56,7 @@ one-byte : (T : Type 0) → IsSpelling (const_byte {T = T} 1) (record { 0 = reco
 unfolding le_bytes
 one-byte T rest = const_byte-again 1 _ rest
 
--- what stands before the values of attributes, of which there are some
+-- what precedes the values of attributes, if there are any
 front-again : (l : List QueryAttribute) → (length l == 0) ≡ false → All SentFits (sent_attributes l) → (left : List ℕ)
     → (bind_front true (length l) 0).Spells (record { nulls = bitmap_of (map (λ p. value_of p.param) (sent_attributes l)); sends_types = true; types = map attribute_type l })
     (bitmap_of (map (λ p. value_of p.param) (sent_attributes l)) ++ (le_bytes 1 1 ++ (flat_map (type_bytes true) (sent_attributes l) ++ left))) left

@@ -1,5 +1,6 @@
 -- A query, up to the values of its attributes.
 use Rattle.std.specs.Prelude.{◌≡◌, ℕ, true, false, List, Result, Ok, Err}
+use Rattle.mysql_wire.specs.CommandCodes.{COM_QUERY}
 use Rattle.mysql_wire.specs.Constant.{const_byte}
 use Rattle.mysql_wire.specs.Form.{Form, ◌>>=◌, give}
 use Rattle.mysql_wire.specs.Reading.{Faults}
@@ -13,7 +14,7 @@ use Rattle.mysql_commands.specs.declared.query_attributes.InvalidParameterSetCou
 -- 03, the number of attributes, and the number of sets of them, which is always 1
 abbrev pub attribute_count : Form ℕ
 attribute_count = do
-  header ← const_byte {T = InvalidComQueryHeader} 0x03
+  header ← const_byte {T = InvalidComQueryHeader} COM_QUERY
   count ← lenenc_int
   sets ← const_byte {T = InvalidParameterSetCount} 1
   give count.0

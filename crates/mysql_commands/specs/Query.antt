@@ -1,6 +1,7 @@
 -- A query.
 use Rattle.std.specs.Prelude.{ℕ, Bool, List, Option, refl}
 use Rattle.mysql_wire.specs.Codecs.{Codec, Fields, ◌>>=◌, give, field, packet, when, const_u8, string_eof}
+use Rattle.mysql_wire.specs.CommandCodes.{COM_QUERY}
 use Rattle.mysql_wire.specs.FlagMasks.{CLIENT_QUERY_ATTRIBUTES}
 use Rattle.mysql_wire.specs.Flags.{CapabilityFlags, has}
 use Rattle.mysql_commands.specs.WithRawBytes.{as_sent}
@@ -26,7 +27,7 @@ sends_attributes capabilities = has capabilities.0 CLIENT_QUERY_ATTRIBUTES
 -- 03, the attributes under CLIENT_QUERY_ATTRIBUTES, and the text to the end
 abbrev pub query_fields : Fields CapabilityFlags ComQueryRef ComQueryRef
 query_fields = do
-  header ← field (λ p. record { 0 = record {} }) (const_u8 {T = InvalidComQueryHeader} 0x03)
+  header ← field (λ p. record { 0 = record {} }) (const_u8 {T = InvalidComQueryHeader} COM_QUERY)
   attributes ← field sent_attributes (when sends_attributes (as_sent (λ c. query_attributes)))
   text ← field text string_eof
   give (query_of attributes text)

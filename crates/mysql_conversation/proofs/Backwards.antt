@@ -1,4 +1,4 @@
--- A step back: what comes before what may come.
+-- A step back: a packet before what may come.
 use Rattle.std.proofs.Common.{◌≡◌, ◌≢◌, ℕ, ◌<◌, zero, suc, List, [], ◌∷◌, inl, inr, Option, Some, None, refl, sym, subst, Bool, true, false, arith}
 use Rattle.mysql_wire.specs.Flags.{StatusFlags}
 use Rattle.mysql_prepared.specs.Stmt.{num_columns, num_params}
@@ -182,7 +182,7 @@ one_round a p items rest e z t =
 authenticated : (a : Agreed) (p : List ℕ) (status : StatusFlags) (items rest : List Packet) → items ≡ rest → first_is 0xff p ≡ false → first_is 0 p ≡ true → ok_status a p ≡ Some status → has_more status ≡ false → c.authentication a (packet Server p kind.Ok ∷ items) rest
 authenticated a p status items rest t e z w n = (_, many_none (round a) _, serving kind.Ok (IsOk a false) p items rest t e (z, status, ok_status_is a status p w, n))
 
--- where the client was asked, and does not answer
+-- if the client was asked and doesn't answer
 pub unanswered : (a : Agreed) (b : Bool) (items rest : List Packet) → c.authentication a items rest → authenticating a b items rest
 unanswered a true items rest h = (items, inl refl, h)
 unanswered a false items rest h = h
@@ -202,7 +202,7 @@ back_authentication a login b p k m items rest e h t = elim (chosen (first_is 0 
   | inr z ↦ back a (state.Authentication login b) Server p _ k _ m items rest z.1 (λ t. unanswered a b _ rest (one_round a p items rest e z.0 t)) t
 ]
 
--- what the client answers, one step back
+-- the client's answer, one step back
 pub back_answer : (a : Agreed) (login b : Bool) (p : List ℕ) (k : PacketKind) (m : State) (items rest : List Packet)
     → answer_step login b ≡ Some (k, m) → tail_of a m items rest → tail_of a (state.Authentication login b) (packet Client p k ∷ items) rest
 back_answer a login true p k m items rest h t = back a (state.Authentication login true) Client p _ k _ m items rest h (λ t. (items, inr (sending kind.AuthData _ p items items refl tt), t)) t
@@ -223,7 +223,7 @@ params_columns : (a : Agreed) (params columns : ℕ) (items rest : List Packet) 
 params_columns a zero columns items rest t = (items, (items, refl, refl), entered a (after.Columns columns) items rest t)
 params_columns a (suc n) columns items rest t = (t.2.0, (t.0, t.1, t.2.1), t.2.2)
 
--- and their ends, where they are left out
+-- and their ends, if they are omitted
 no_end : (a : Agreed) (n : ℕ) (items rest : List Packet) → items ≡ rest → c.definitions_end_of a true n items rest
 no_end a zero items rest h = h
 no_end a (suc n) items rest h = h
@@ -266,7 +266,7 @@ back_prepared a p (Some s) k m items rest e w h t = back a state.Prepared Server
 pub one_clone : (side : Side) (p : List ℕ) (items rest : List Packet) → many c.clone items rest → many c.clone (packet side p kind.Clone ∷ items) rest
 one_clone side p items rest t = many_more c.clone _ items rest (packet side p kind.Clone, refl, refl) t
 
--- a packet of the server that is no error, one step back
+-- a packet of the server other than an error, one step back
 pub back_serve : (a : Agreed) (s : State) (p : List ℕ) (k : PacketKind) (m : State) (items rest : List Packet)
     → first_is 0xff p ≡ false → serve a s p ≡ Some (k, m) → tail_of a m items rest → tail_of a s (packet Server p k ∷ items) rest
 back_serve a state.Rest p k m items rest e h t = absurd cc
@@ -290,7 +290,7 @@ back_serve a state.Clone p k m items rest e h t = back a state.Clone Server p _ 
 back_serve a state.Quit p k m items rest e h t = absurd cc
 back_serve a state.Over p k m items rest e h t = absurd cc
 
--- where an answer begins, all of it comes, except for a command that may end the connection
+-- at the beginning of an answer all of it comes, except for a command that may end the connection
 answer_comes : (a : Agreed) (r : Answer) (items rest : List Packet) → may_shut r ≡ false → tail_of a (answers r) items rest → answered a (Some r) items rest
 answer_comes a (answer.Results r) items rest n t = t
 answer_comes a answer.Prepared items rest n t = t
@@ -309,7 +309,7 @@ one_exchange : (a : Agreed) (code : ℕ) (cursor : Bool) (items rest : List Pack
 one_exchange a code true items rest h = (code, inl h)
 one_exchange a code false items rest h = (code, inr h)
 
--- a command and what answers it
+-- a command and its answer
 pub exchange_by : (a : Agreed) (p : List ℕ) (r : Answer) (items rest : List Packet) → answering (code_of p) (asks_cursor p) ≡ Some r → answered a (Some r) items rest
     → c.exchange a (packet Client p (kind.Command (code_of p)) ∷ items) rest
 exchange_by a p r items rest e t =
@@ -320,7 +320,7 @@ pub back_command : (a : Agreed) (p : List ℕ) (r : Answer) (items rest : List P
     → c.exchange a (packet Client p (kind.Command (code_of p)) ∷ items) rest
 back_command a p r items rest n e t = exchange_by a p r items rest e (answer_comes a r items rest n t)
 
--- the same of the content of a file
+-- the same for the content of a file
 pub back_content : (a : Agreed) (r : Request) (p : List ℕ) (k : PacketKind) (m : State) (items rest : List Packet)
     → infile_step r p ≡ Some (k, m) → tail_of a m items rest → tail_of a (state.Infile r) (packet Client p k ∷ items) rest
 back_content a r p k m items rest h t = back_infile a r p k m items rest h t

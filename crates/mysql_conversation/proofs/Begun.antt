@@ -1,4 +1,4 @@
--- Each list that the machine takes is the beginning of a conversation, and each beginning is taken.
+-- The machine accepts exactly the beginnings of conversations.
 use Rattle.std.specs.Prelude.{◌&&◌, ◌==◌, not}
 use Rattle.std.proofs.Common.{◌≡◌, ℕ, suc, List, [], ◌∷◌, ◌++◌, ◌⊎◌, inl, inr, Option, Some, None, Result, Ok, Err, IfOk, OnErr, refl, sym, ap, subst, ◌∙◌, Bool, true, false, cond}
 use Rattle.std.proofs.lemmas.Bool.{and_parts}
@@ -30,11 +30,11 @@ use Rattle.mysql_conversation.specs.declared.state.Reply.TheVariants as reply
 use Rattle.mysql_conversation.specs.declared.state.State.{State}
 use Rattle.mysql_conversation.specs.declared.state.State.TheVariants as state
 
--- what is left of the exchange comes, or is broken off; and then other exchanges, up to the end
+-- the rest of the exchange comes or is interrupted, and then other exchanges, up to the end
 abbrev Open : Agreed → State → List Packet → Type 0
 Open a s items = (mid : List Packet) × c.unless_broken a (tail_of a s) items mid × c.commanded a mid []
 
--- what comes up to the end: a login that is refused ends the connection, and so do COM_QUIT, COM_CLONE and an error that nobody asked for
+-- what comes up to the end: a refused login ends the connection, and so do COM_QUIT, COM_CLONE and an unsolicited error
 abbrev pub Ahead : Agreed → State → List Packet → Type 0
 Ahead a state.Rest items = c.commanded a items []
 Ahead a state.Over items = items ≡ []
@@ -50,7 +50,7 @@ no_more a = ([], many_none _ [], inl refl)
 last_comes : (a : Agreed) (items : List Packet) → c.last a items [] → c.commanded a items []
 last_comes a items h = (items, many_none _ items, h)
 
--- in each state what comes is the rest of an exchange, or breaks it off
+-- in each state, the rest of an exchange comes or an interruption
 opened : (a : Agreed) (s : State) (items : List Packet) → Ahead a s items → Open a s items
 opened a state.Rest items h = (items, inl refl, h)
 opened a state.Over items h = ([], inl h, no_more a)
@@ -97,7 +97,7 @@ open_before a s x m items f t = let o = opened a m items t in (o.0, before a s x
 more_exchange : (a : Agreed) (items mid : List Packet) → c.unless_broken a (c.exchange a) items mid → c.commanded a mid [] → c.commanded a items []
 more_exchange a items mid h t = (t.0, many_more _ items mid t.0 h t.1, t.2)
 
--- a whole exchange, or one that is broken off, and others after it
+-- a complete or interrupted exchange, and others after it
 one_exchange : (a : Agreed) (p : List ℕ) (r : Answer) (items : List Packet) → may_shut r ≡ false → answering (code_of p) (asks_cursor p) ≡ Some r → Open a (answers r) items
     → c.commanded a (packet Client p (kind.Command (code_of p)) ∷ items) []
 one_exchange a p r items n e (mid, inl t, o) = more_exchange a _ mid (inl (back_command a p r items mid n e t)) o
@@ -157,7 +157,7 @@ after_ok (Some status) k m h = elim (chosen (has_more status) _ _ _ h) [
   | inr n ↦ inl (sym (ap (λ (x : PacketKind × State). x.1) (some_is n.1)))
 ]
 
--- after a packet of a login it goes on, or is over
+-- after a packet of a login it continues, or is over
 login_goes_on : (a : Agreed) (p : List ℕ) (status : Option StatusFlags) (k : PacketKind) (m : State) → authentication_step a true p status ≡ Some (k, m) → (m ≡ state.Rest) ⊎ ((d : Bool) × (m ≡ state.Authentication true d))
 login_goes_on a p status k m h = elim (chosen (first_is 0 p) _ _ _ h) [
   | inl z ↦ after_ok status k m z.1
@@ -233,7 +233,7 @@ ahead_serve a state.SessionError p k m items e h t = absurd cc
 
 -- ---- errors
 
--- an error in an exchange, which breaks it off
+-- an error, which interrupts the exchange
 broken_by : (a : Agreed) (s : State) (p : List ℕ) (items : List Packet) → rests s ≡ false → IsError a p → broken (tail_of a s) c.IsInside (c.error a) (packet Server p kind.Error ∷ items) items
 broken_by a s p items n e =
     let x = to_come a s n in
@@ -304,11 +304,11 @@ ahead_is_conversation : (a : Agreed) (o : InitialPhase) (items : List Packet) �
 ahead_is_conversation a opened_at.Login items h = h
 ahead_is_conversation a opened_at.Commands items h = h
 
--- what the machine takes, and no exchange runs after, is a conversation
+-- packets that the machine accepts are a conversation if no exchange is running after them
 pub run_is_conversation : (a : Agreed) (o : InitialPhase) (items : List Packet) → RunsOut a (entrance o) items → c.conversation a o items
 run_is_conversation a o items h = ahead_is_conversation a o items (run_ahead a (entrance o) items h.0 h.2 h.1)
 
--- ---- after some packets no exchange runs
+-- ---- some packets lead to a state without a running exchange
 
 each_ends : (a : Agreed) (s : State) → (more : List Packet) × RunsOut a s more
 each_ends a s = elim (which_rests s) [
@@ -316,7 +316,7 @@ each_ends a s = elim (which_rests s) [
   | inr n ↦ (let e = error_ends s n in (packet Server (0xff ∷ []) kind.Error ∷ [], (e.0, (e.0, rw (short_report a) (failed_no_report s ∙ e.1), refl), e.2)))
 ]
 
--- ---- reports among the packets
+-- ---- progress reports among the packets
 
 report_is_error : (n : ℕ) (p : List ℕ) → begins_with_ff (suc n) p ≡ true → first_is 0xff p ≡ true
 report_is_error n [] h = absurd cc
@@ -330,7 +330,7 @@ report_or_not a p true e h = let f = report_is_error 2 p (and_parts (reports_pro
 pub no_report : (a : Agreed) (p : List ℕ) → first_is 0xff p ≡ false → is_report a p ≡ false
 no_report a p h = report_or_not a p (is_report a p) refl h
 
--- what is no report is taken as without reports
+-- a packet that is no report is accepted as without reports
 unreported : (a : Agreed) (s : State) (p : List ℕ) → is_report a p ≡ false → take_step a s Server p ≡ step a s Server p
 unreported a s p h = ap (λ b. cond (b && reports s) (Some (kind.ProgressReport, s)) (step a s Server p)) h
 
@@ -338,11 +338,11 @@ both_no : (b : Bool) → (b && false) ≡ false
 both_no true = refl
 both_no false = refl
 
--- nor where none may come
+-- nor where no report may come
 quiet_step : (a : Agreed) (s : State) (p : List ℕ) → reports s ≡ false → take_step a s Server p ≡ step a s Server p
 quiet_step a s p d = ap (λ b. cond (is_report a p && b) (Some (kind.ProgressReport, s)) (step a s Server p)) d ∙ ap (λ b. cond b (Some (kind.ProgressReport, s)) (step a s Server p)) (both_no (is_report a p))
 
--- what the machine takes with no report, it takes
+-- what is accepted without reports is accepted
 step_takes : (a : Agreed) (s : State) (side : Side) (p : List ℕ) (k : PacketKind) (m : State) → step a s side p ≡ Some (k, m) → take_step a s side p ≡ Some (k, m)
 step_takes a s Client p k m h = h
 step_takes a s Server p k m h = elim (chosen (first_is 0xff p) _ _ _ h) [
@@ -357,7 +357,7 @@ pub run_takes : (a : Agreed) (s : State) (xs : List Packet) (t : State) → Run 
 run_takes a s [] t r = r
 run_takes a s (x ∷ xs) t r = (r.0, step_takes a s x.from x.payload x.kind r.0 r.1, run_takes a r.0 xs t r.2)
 
--- the packets leave the machine where no exchange runs, reports among them
+-- packets with reports among them lead to a state without a running exchange
 abbrev pub TakesOut : Agreed → State → List Packet → Type 0
 TakesOut a s items = (t : State) × Takes a s items t × (rests t ≡ true)
 
@@ -389,7 +389,7 @@ reported_takes a s l b (x ∷ items) others t e f (inr h) r =
           (step_listens a s x.from x.payload x.kind q.0 q.1).0 h.2 q.2,
     )
 
--- a packet that is taken is a report, or taken with no report
+-- an accepted packet is a report, or is accepted without reports
 taken_as : (a : Agreed) (s : State) (side : Side) (p : List ℕ) (k : PacketKind) (m : State) → take_step a s side p ≡ Some (k, m)
     → ((side ≡ Server) × (is_report a p ≡ true) × (reports s ≡ true) × (kind.ProgressReport ≡ k) × (s ≡ m)) ⊎ (step a s side p ≡ Some (k, m))
 taken_as a s Client p k m h = inr h
@@ -398,7 +398,7 @@ taken_as a s Server p k m h = elim (chosen (is_report a p && reports s) _ _ _ h)
   | inr r ↦ inr r.1
 ]
 
--- one packet more, of what is reported
+-- one more packet, with reports
 more_reported : (a : Agreed) (s : State) (x : Packet) (m : State) (items others : List Packet) (t : State) → rests t ≡ true
     → ((x.from ≡ Server) × (is_report a x.payload ≡ true) × (reports s ≡ true) × (kind.ProgressReport ≡ x.kind) × (s ≡ m)) ⊎ (step a s x.from x.payload ≡ Some (x.kind, m))
     → c.Reported a (is_login m) (listens m) items others → Run a m others t → (all : List Packet) × c.Reported a (is_login s) (listens s) (x ∷ items) all × Run a s all t
@@ -449,7 +449,7 @@ beginning_takes a o items h =
 pub one_state : (a : Agreed) (s : State) (x : Packet) (m n : State) → TakesOne a s x m → TakesOne a s x n → m ≡ n
 one_state a s x m n e f = ap (λ (o : PacketKind × State). o.1) (some_is (sym e ∙ f))
 
--- where a packet is refused, no kind makes the list with it a beginning
+-- if a packet is refused, the list with it is no beginning under any kind
 pub refused : (a : Agreed) (o : InitialPhase) (items : List Packet) (s : State) (x : Packet) → Takes a (entrance o) items s → take_step a s x.from x.payload ≡ None → IsBeginning a o (items ++ x ∷ []) → ⊥
 refused a o items s x r e h =
     let b = beginning_takes a o (items ++ x ∷ []) h in
@@ -459,7 +459,7 @@ refused a o items s x r e h =
     let none : take_step a p.0 x.from x.payload ≡ None = subst (λ s. take_step a s x.from x.payload ≡ None) (sym same) e in
     absurd (cc (q, none))
 
--- ---- at rest, and one packet more
+-- ---- no exchange runs, and one more packet
 
 pub at_rest_is : (a : Agreed) (o : InitialPhase) (items : List Packet) (s : State) → Takes a (entrance o) items s → rests s ≡ true → IsConversation a o items
 at_rest_is a o items s r e = takes_is_conversation a o items (s, r, e)
@@ -472,7 +472,7 @@ conversation_at_rest a o items s r h =
 pub one_more : (a : Agreed) (o : InitialPhase) (items : List Packet) (s : State) (side : Side) (p : List ℕ) (k : PacketKind) (m : State) → Takes a (entrance o) items s → take_step a s side p ≡ Some (k, m) → Takes a (entrance o) (items ++ packet side p k ∷ []) m
 one_more a o items s side p k m r e = join (TakesOne a) (entrance o) items s (packet side p k ∷ []) m r (m, e, refl)
 
--- a packet is of one kind, after what came before it
+-- the earlier packets determine a packet's kind
 pub one_kind : (a : Agreed) (o : InitialPhase) (items : List Packet) (side : Side) (p : List ℕ) (j k : PacketKind)
     → IsBeginning a o (items ++ packet side p j ∷ []) → IsBeginning a o (items ++ packet side p k ∷ []) → j ≡ k
 one_kind a o items side p j k g h =
@@ -484,7 +484,7 @@ one_kind a o items side p j k g h =
     let u : take_step a y.0 side p ≡ Some (j, x.2.0) = subst (λ s. take_step a s side p ≡ Some (j, x.2.0)) same x.2.1 in
     ap (λ (o : PacketKind × State). o.0) (some_is (sym u ∙ y.2.1))
 
--- what holds of each kind that is taken holds of the one that was answered
+-- what holds for each accepted kind holds for the returned one
 pub each_taken : {E : Type 0} (o : Result PacketKind E) (P Q : PacketKind → Type 0) → ((k : PacketKind) → P k → Q k) → IfOk o P → IfOk o Q
 each_taken (Ok k) P Q f h = f k h
 each_taken (Err e) P Q f h = tt

@@ -1,4 +1,4 @@
--- What a payload says of itself is what the machine takes it for.
+-- The machine classifies a payload by its content.
 use Rattle.std.proofs.Common.{◌≡◌, ℕ, ◌<◌, List, [], ◌∷◌, ◌⊎◌, inl, inr, Option, Some, None, Ok, Err, refl, ap, subst, ◌∙◌, Bool, true, false, cond}
 use Rattle.std.proofs.lemmas.Bool.{eqb-true, eq-eqb}
 use Rattle.std.specs.Prelude.{◌==◌, nat_lt}
@@ -21,12 +21,12 @@ use Rattle.mysql_conversation.specs.declared.state.Line.TheVariants as line
 use Rattle.mysql_conversation.specs.declared.state.Reply.{Reply}
 use Rattle.mysql_conversation.specs.declared.state.Reply.TheVariants as reply
 
--- what begins with a byte begins with no other
+-- a payload has one first byte
 pub first_unlike : (a b : ℕ) (p : List ℕ) → first_is a p ≡ true → (a == b) ≡ false → first_is b p ≡ false
 first_unlike a b [] h e = absurd cc
 first_unlike a b (x ∷ xs) h e = rw (eqb-true x a h) e
 
--- which way a test went
+-- the result of a test
 pub chosen : {A : Type 0} (b : Bool) (x y z : A) → cond b x y ≡ z → ((b ≡ true) × (x ≡ z)) ⊎ ((b ≡ false) × (y ≡ z))
 chosen true x y z e = inl (refl, e)
 chosen false x y z e = inr (refl, e)

@@ -1,4 +1,4 @@
--- Packets with which each part of an answer may go on.
+-- A packet that continues each part of an answer.
 use Rattle.std.proofs.Common.{◌≡◌, ℕ, zero, suc, List, [], ◌∷◌, inl, inr, Some, None, Ok, refl, Bool, true, false}
 use Rattle.std.specs.Prelude.{◌&&◌}
 use Rattle.mysql_wire.specs.Flags.{StatusFlags}
@@ -36,7 +36,7 @@ pub tracks_nothing : (b : Bool) → (b && false) ≡ false
 tracks_nothing true = refl
 tracks_nothing false = refl
 
--- a byte is no report
+-- a single byte is no progress report
 pub short_report : (a : Agreed) → is_report a (0xff ∷ []) ≡ false
 unfolding is_report
 short_report a = tracks_nothing (reports_progress a)
@@ -68,7 +68,7 @@ terminator_reads : (a : Agreed) → (terminator_form a).reads terminator_bytes �
 unfolding ok_packet ok_header ok_end ok_tail bytes number raw coded lenenc lenenc_string
 terminator_reads a = rw tracks_nothing refl
 
--- a statement of no columns and parameters, and the byte under the flag
+-- a statement without columns and parameters, and the byte under the flag
 abbrev statement : Bool → StmtPacketWithMetadata
 statement true = record { packet = stmt_packet_of 0 0 0 0; metadata = Some (raw_int 1) }
 statement false = record { packet = stmt_packet_of 0 0 0 0; metadata = None }
@@ -100,7 +100,7 @@ end_bytes a false = (old_end_bytes, refl, refl, old_end_spelled a)
 ok_then : (a : Agreed) (rest : List Packet) → c.ok a false (packet Server ok_bytes kind.Ok ∷ rest) rest
 ok_then a rest = serving kind.Ok (IsOk a false) ok_bytes rest rest refl refl (refl, plain, ok_spelled a, refl)
 
--- a packet inside of an exchange
+-- a packet inside an exchange
 abbrev pub Inside : Packet → Type 0
 Inside x = c.IsInside x
 
@@ -158,7 +158,7 @@ all_following a d after.End =
     (x.0, (e.0, x.1, e.1))
 all_following a d after.Rest = definitions_ended a d []
 
--- some packet goes on to an answer's end
+-- some packet leads to the end of an answer
 abbrev pub ToCome : Agreed → State → Type 0
 ToCome a s = (x : Packet) × (more : List Packet) × Inside x × tail_of a s (x ∷ more) []
 
@@ -188,7 +188,7 @@ old_end_comes a after.Rest =
 authentication_comes : (a : Agreed) → c.authentication a (packet Server ok_bytes kind.Ok ∷ []) []
 authentication_comes a = (_, many_none (round a) _, ok_then a [])
 
--- where an exchange runs, some packet goes on to its end
+-- some packet leads to the end of a running exchange
 pub to_come : (a : Agreed) (s : State) → rests s ≡ false → ToCome a s
 to_come a state.Rest h = absurd cc
 to_come a (state.Authentication login b) h = (packet Server ok_bytes kind.Ok, [], refl, unanswered a b _ [] (authentication_comes a))

@@ -1,4 +1,4 @@
--- A refusal by a reader that takes no memory is that of the form.
+-- A reader that doesn't allocate returns the fault of the form.
 use Rattle.std.proofs.Common.{◌≡◌, Option, None, ap, Err, false, refl, ◌∙◌}
 use Rattle.mysql_wire.specs.Reading.{Reading, Faults}
 use Rattle.mysql_wire.specs.declared.fault.FaultKind.{FaultKind}
@@ -12,7 +12,7 @@ use Rattle.mysql_auth.specs.declared.ssl_request.SslRequest.{SslRequest}
 use Rattle.mysql_conversation.specs.SessionSteps.{greeting_in, login_in}
 use Rattle.mysql_conversation.specs.Machine.{status_in, count_in, statement_in}
 
--- what is found in a reading is nothing where that is refused
+-- a refused reading yields nothing
 pub nothing_found : {A B : Type 0} (found : Reading A → Option B) → ((kind : FaultKind) → found (Err kind) ≡ None) → (e : FaultOf) (read : Reading A) → Faults false e read → found read ≡ None
 nothing_found found nothing fault.UnexpectedEof read h = ap found h ∙ nothing _
 nothing_found found nothing (fault.InvalidData text) read h = ap found h ∙ nothing _

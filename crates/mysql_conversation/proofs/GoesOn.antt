@@ -1,4 +1,4 @@
--- Which kinds go on with what was taken.
+-- Which kinds continue the accepted packets.
 use Rattle.std.proofs.Common.{◌≡◌, ◌↔◌, ◌+◌, ℕ, List, [], ◌∷◌, ◌++◌, inl, inr, Option, Some, None, refl, sym, ap, subst, ◌∙◌, Bool, true, false, cond}
 use Rattle.std.specs.Prelude.{◌&&◌, ◌||◌, ◌==◌, not}
 use Rattle.std.proofs.lemmas.Bool.{eqb-true, and_parts, or_cases, or_right, not-true}
@@ -60,7 +60,7 @@ pipe_came a o items w side p k i r h =
     let q = part (Steps a) (start o) items (place side p k i ∷ []) b.0 b.1 in
     (q.2.0, subst (λ w. pipe_step a w side p ≡ Some (k, i, q.2.0)) (once (Steps a) (one_standing a) (start o) items q.0 w q.1 r) q.2.1)
 
--- whether the client may answer depends on the name alone
+-- the name alone determines whether the client may answer
 asks_by_name : (k : PacketKind) → is_in (name_of k) asking_names ≡ asks k
 asks_by_name kind.Handshake = refl
 asks_by_name kind.SslRequest = refl
@@ -131,7 +131,7 @@ client_named a w p k i m false None d e h = absurd cc
 client_named a w p k i m false (Some x) d e h =
     subst (λ k. may_receive a w.state Client (name_of k) ≡ true) (turned (is_rest w.state) k x.0 i _ _ m _ _ h) (what_comes_is_named a w.state Client p x.0 x.1 e)
 
--- where commands wait, the server neither asks the client nor ends the connection
+-- while commands wait, the server neither asks the client nor ends the connection
 abbrev Stops : Standing → PacketKindTag → Bool
 Stops w n = is_in n asking_names || is_in n (shutting_names w.state)
 
@@ -154,7 +154,7 @@ pipe_named : (a : Agreed) (w : Standing) (side : Side) (p : List ℕ) (k : Packe
 pipe_named a w Client p k i m h = client_named a w p k i m (is_due w.state) (take_step a w.state Client p) refl refl h
 pipe_named a w Server p k i m h = server_named a w p k i m (take_step a w.state Server p) refl h
 
--- some packet of a kind with this name is taken
+-- some packet of a kind with this name is accepted
 abbrev Stepping : Agreed → Standing → Side → PacketKindTag → Type 0
 Stepping a w side n = (p : List ℕ) × (k : PacketKind) × (i : ℕ) × (m : Standing) × (name_of k ≡ n) × (pipe_step a w side p ≡ Some (k, i, m))
 
@@ -171,7 +171,7 @@ turn_step a w p d = rw d refl
 aside_taken : (w : Standing) (x : PacketKind × State) (c : Option Command) → waits w.waiting ≡ false → aside w (Some x) c ≡ Some (x.0, w.number, standing x.1 w.number w.last w.waiting)
 aside_taken w x c e = rw e refl
 
--- a ping, whatever waits but COM_QUIT
+-- a ping, unless COM_QUIT is waiting
 early_comes : (a : Agreed) (w : Standing) (n : PacketKindTag) → is_due w.state ≡ true → quits w.waiting ≡ false → n ≡ name.Command → Stepping a w Client n
 early_comes a w n d q e =
     let c : Command = record { code = 0x0e; answer = answer.Acknowledgement false } in

@@ -1,4 +1,4 @@
--- What the grammar allows, the machine takes.
+-- The machine accepts what the grammar allows.
 use Rattle.std.proofs.Common.{◌≡◌, ◌≢◌, ℕ, ◌<◌, zero, suc, List, [], ◌∷◌, ◌++◌, inl, inr, Option, Some, None, refl, sym, ap, subst, ◌∙◌, Bool, true, false, arith}
 use Rattle.std.proofs.lemmas.Bool.{not-true, cases_Bool}
 use Rattle.mysql_wire.specs.Flags.{StatusFlags}
@@ -101,7 +101,7 @@ lead_loaded a r =
 lead_definition : (a : Agreed) (n : ℕ) (b : After) → Leads a (state.Definitions n b) c.definition (less (deprecates_eof a) n b)
 lead_definition a n b = lead_served a (state.Definitions n b) kind.Column _ (less (deprecates_eof a) n b) (λ p h. refl)
 
--- a given number of definitions, and one
+-- a given number of definitions, and one more
 lead_all : (a : Agreed) (n : ℕ) (b : After) → Leads a (state.Definitions n b) (times (suc n) c.definition) (defined (deprecates_eof a) b)
 lead_all a zero b items rest t h r = lead_definition a zero b items h.0 t h.1 (subst (λ xs. Run a (defined (deprecates_eof a) b) xs t) (sym h.2) r)
 lead_all a (suc n) b items rest t h r = lead_definition a (suc n) b items h.0 t h.1 (lead_all a n b h.0 rest t h.2 r)
@@ -174,7 +174,7 @@ lead_params a zero columns = lead_then a _ _ _ (enter (after.Columns columns)) _
 lead_params a (suc n) columns = lead_then a _ _ _ (defined (deprecates_eof a) (after.Columns columns)) _ (lead_all a n (after.Columns columns))
     (lead_definitions_end a (deprecates_eof a) (after.Columns columns) (enter (after.Columns columns)) refl (λ status. refl))
 
--- where the definitions are left out
+-- if the definitions are omitted
 lead_no_end : (a : Agreed) (n : ℕ) → Leads a state.Rest (c.definitions_end_of a true n) state.Rest
 lead_no_end a zero = lead_nothing a state.Rest
 lead_no_end a (suc n) = lead_nothing a state.Rest
@@ -269,7 +269,7 @@ lead_auth_data a login = lead_sent a (state.Authentication login true) kind.Auth
 lead_auth_ok : (a : Agreed) (login b : Bool) → Leads a (state.Authentication login b) (c.ok a false) state.Rest
 lead_auth_ok a login b = lead_served a (state.Authentication login b) kind.Ok (IsOk a false) state.Rest (λ p h. rw (h.0, ok_status_of a h.1 p h.2, h.3) refl)
 
--- the rounds that are left, and the OK packet
+-- the remaining rounds, and the OK packet
 lead_rounds : (a : Agreed) (login b : Bool) (n : ℕ) → Leads a (state.Authentication login b) (times n (c.asked a followed_by (nothing or c.auth_data)) followed_by c.ok a false) state.Rest
 lead_rounds a login b zero items rest t h r = lead_auth_ok a login b items rest t (subst (λ xs. c.ok a false xs rest) (sym h.1) h.2) r
 lead_rounds a login b (suc n) items rest t h r = lead_asked a login b items h.1.1.0 t h.1.1.1 (elim h.1.1.2 [
@@ -282,7 +282,7 @@ lead_authentication a login b items rest t h r = lead_rounds a login b h.1.0 ite
 
 -- ---- errors
 
--- what a packet is that is an error
+-- what an error packet is
 error_at : (a : Agreed) (s : State) (x : Packet) (k : PacketKind) (m : State) → error_step s ≡ Some (k, m) → x.from ≡ Server → x.kind ≡ k → IsError a x.payload → step a s x.from x.payload ≡ Some (x.kind, m)
 error_at a s x k m o f e i = rw (f, i.0, i.1) (failed_no_report s ∙ o ∙ ap (λ (k : PacketKind). Some (k, m)) (sym e))
 
@@ -327,18 +327,18 @@ lead_answered a code cursor (Some r) e = lead_then a _ _ _ (answers r) _ (lead_c
 lead_exchange : (a : Agreed) → Leads a state.Rest (c.exchange a) state.Rest
 lead_exchange a = lead_some a _ _ _ (λ code. lead_or a _ _ _ _ (lead_answered a code true (answering code true) refl) (lead_answered a code false (answering code false) refl))
 
--- ---- what is broken off
+-- ---- interrupted exchanges
 
--- an exchange runs where a packet inside of it is taken
+-- an exchange is running if a packet inside it is accepted
 pub inside_runs : (a : Agreed) (s : State) (x : Packet) (m : State) → c.IsInside x → step a s x.from x.payload ≡ Some (x.kind, m) → rests s ≡ false
 inside_runs a s x m i h = not-true (rests s) (sym (step_listens a s x.from x.payload x.kind m h).1 ∙ i)
 
--- no login begins where none runs
+-- no login begins if none is running
 run_no_login : (a : Agreed) (s : State) (items : List Packet) (t : State) → is_login s ≡ false → Run a s items t → is_login t ≡ false
 run_no_login a s [] t l r = ap is_login (sym r) ∙ l
 run_no_login a s (x ∷ items) t l r = run_no_login a r.0 items t (stays_no_login a s x.from x.payload x.kind r.0 l r.1) r.2
 
--- where a part is broken off: an exchange runs, and an error comes
+-- a part is interrupted: an exchange is running, and an error comes
 cut_off : (a : Agreed) (s : State) (f : List Packet → List Packet → Type 0) (m : State) (items rest : List Packet) → Leads a s f m → broken f c.IsInside (c.error a) items rest
     → (cut : State) × (front : List Packet) × (mid : List Packet) × (items ≡ front ++ mid) × Run a s front cut × (rests cut ≡ false) × c.error a mid rest
 cut_off a s f m items rest l h =
@@ -357,7 +357,7 @@ lead_exchanges a = lead_many a state.Rest _ (lead_or a _ _ _ _ (lead_exchange a)
 
 -- ---- to the end
 
--- the packets leave the machine where no exchange runs
+-- the packets lead to a state without a running exchange
 abbrev pub RunsOut : Agreed → State → List Packet → Type 0
 RunsOut a s items = (t : State) × Run a s items t × (rests t ≡ true)
 
@@ -383,7 +383,7 @@ lead_cloned a = lead_then a _ _ _ state.CloneReply _ (lead_commanding a answer.C
     (lead_served a state.CloneReply kind.Ok (IsOk a false) state.Clone (λ p h. last_ok_of state.Clone (reply_of a p) (reply_ok a false p h)))
     (lead_many a state.Clone c.clone (lead_clone a)))
 
--- and before them a part that leads there
+-- and before them a part that leads to it
 then_out : (a : Agreed) (s : State) (f : List Packet → List Packet → Type 0) (m : State) (items mid : List Packet) → Leads a s f m → f items mid → RunsOut a m mid → RunsOut a s items
 then_out a s f m items mid l h o = (o.0, l items mid o.0 h o.1, o.2)
 
@@ -408,7 +408,7 @@ refused_out a items h =
     let last : Run a b.0 b.2 e.0 = subst (λ xs. Run a b.0 xs e.0) (sym b.6.2) (e.0, error_at a b.0 b.6.0 kind.Error e.0 e.1 b.6.1.0 b.6.1.1 b.6.1.2, refl) in
     (e.0, subst (λ xs. Run a (entrance opened_at.Login) xs e.0) (sym b.3) (join (StepsTo a) (entrance opened_at.Login) b.1 b.0 b.2 e.0 b.4 last), e.2)
 
--- each conversation is answered by its kinds, and leaves the machine where no exchange runs
+-- each conversation is classified by its kinds, and leads to a state without a running exchange
 pub conversation_runs : (a : Agreed) (o : InitialPhase) (items : List Packet) → c.conversation a o items → RunsOut a (entrance o) items
 conversation_runs a opened_at.Login items (inl h) = then_out a (entrance opened_at.Login) (c.authentication a) state.Rest items h.0 (lead_authentication a true false) h.1 (commanded_out a h.0 h.2)
 conversation_runs a opened_at.Login items (inr h) = refused_out a items h

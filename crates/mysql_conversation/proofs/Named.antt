@@ -1,4 +1,4 @@
--- Which kinds may come next: each that comes is named, and each that is named comes.
+-- Which kinds may come next: a kind may come exactly if its name is listed.
 use Rattle.std.proofs.Common.{◌≡◌, ℕ, zero, suc, List, [], ◌∷◌, ◌++◌, inl, inr, Option, Some, None, refl, sym, ap, subst, ◌∙◌, Bool, true, false, cond}
 use Rattle.std.proofs.lemmas.Bool.{eqb-true, and_parts, or_cases, or_right}
 use Rattle.std.specs.Prelude.{◌==◌, ◌||◌, ◌&&◌}
@@ -90,7 +90,7 @@ known name.Clone = refl
 pub same : (n x : PacketKindTag) → index n ≡ index x → n ≡ x
 same n x e = some_is (sym (known n) ∙ ap (at all_names) e ∙ known x)
 
--- what holds for each name of a list
+-- a property of each name in a list
 module _ (P : PacketKindTag → Type 0) where
   abbrev pub All : List PacketKindTag → Type 0
   All [] = Unit {0}
@@ -143,7 +143,7 @@ module _ (P : PacketKind → Type 0) where
   by_no_cond true x y f = f
   by_no_cond false x y f = f
 
--- what a server says before it is done, where next factors are agreed on or not
+-- what a server sends during authentication, with or without next factors
 kind_by : Bool → List ℕ → PacketKind
 kind_by factors p =
     cond (first_is 0xfe p) (cond (is_one_byte p) kind.OldAuthSwitch kind.AuthSwitch)
@@ -297,7 +297,7 @@ failed_named r state.Clone xs = subst (λ o. Named (error_names state.Clone ++ x
 failed_named true _ xs = tt
 failed_named false s xs = subst (λ o. Named (error_names s ++ xs) o) (sym (failed_no_report s)) (error_named s xs)
 
--- a report comes where reports are agreed on, and where one may come
+-- a progress report comes if reports are agreed on and one may come
 report_named : (a : Agreed) (s : State) (p : List ℕ) → (is_report a p && reports s) ≡ true → (reports_progress a && reports s) ≡ true
 unfolding is_report
 report_named a s p h =

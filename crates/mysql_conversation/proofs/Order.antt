@@ -1,4 +1,4 @@
--- Of each side the packets stay in their order, and none comes before its command.
+-- The packets of each side keep their order, and none precedes its command.
 use Rattle.mysql_conversation.specs.Agreements.{Agreed}
 use Rattle.std.proofs.Common.{◌≡◌, ◌≤◌, ℕ, ◌+◌, List, [], ◌∷◌, ◌++◌, inl, inr, refl, sym, ap, subst, ◌∙◌, Bool, true, false, arith}
 use Rattle.std.specs.Prelude.{if◌then◌else◌}

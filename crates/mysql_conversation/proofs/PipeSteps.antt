@@ -26,11 +26,11 @@ Outcome = PacketKind × ℕ × Standing
 abbrev pub outcome : PacketKind → ℕ → Standing → Option Outcome
 outcome k n w = Some (k, n, w)
 
--- no exchange runs, and no command waits
+-- no exchange is running, and no command is waiting
 abbrev pub Over : Standing → Type 0
 Over t = (rests t.state ≡ true) × (t.waiting ≡ [])
 
--- where commands wait, no packet leads here
+-- while commands wait, no packet leads to this state
 abbrev pub stops : State → Bool
 stops m = listens m || is_shut m
 
@@ -61,7 +61,7 @@ waits_more (m ∷ q) n = refl
 
 -- ---- exchanges that begin
 
--- a command taken where it came: it waits, or its exchange begins
+-- a command that is accepted: it waits, or its exchange begins
 abbrev pub after : Standing → Command → Standing
 after w c = cond (is_due w.state) (push w c) (standing (begin c) (w.last + 1) (w.last + 1) w.waiting)
 
@@ -72,8 +72,8 @@ pub settle_stays : (m : State) (i l : ℕ) (q : List Waiting) → is_rest m ≡ 
 settle_stays m i l [] h = refl
 settle_stays m i l (n ∷ q) h = rw h refl
 
--- a command that comes after those that wait, where it may come
--- a packet of the server after which the state is the same, and is no end
+-- a command after the waiting ones, if it may come
+-- a packet of the server that changes no state and ends nothing
 pub served_stays : (a : Agreed) (w : Standing) (p : List ℕ) (k : PacketKind) → take_step a w.state Server p ≡ Some (k, w.state) → listens w.state ≡ false → is_shut w.state ≡ false → is_rest w.state ≡ false
     → pipe_step a w Server p ≡ Some (k, w.number, w)
 served_stays a w p k h l s i =
@@ -109,13 +109,13 @@ pub quit_is : (r : Answer) → (r ≡ answer.Quit → ⊥) → is_quit r ≡ fal
 quit_is answer.Quit h = absurd (h refl)
 quit_is _ h = refl
 
--- the last that waits
+-- the last waiting command
 pub quits_last : (q : List Waiting) (n : Waiting) → quits (q ++ n ∷ []) ≡ is_quit n.command.answer
 quits_last [] n = refl
 quits_last (k ∷ []) n = refl
 quits_last (k ∷ m ∷ q) n = quits_last (m ∷ q) n
 
--- who settles is asked no more and no less
+-- removing waiting commands doesn't change whether the client is asked
 pub settle_listens : (m : State) (i l : ℕ) (q : List Waiting) → listens (settle m i l q).state ≡ listens m
 settle_listens m i l [] = refl
 settle_listens m i l (n ∷ q) = elim (cases_Bool (is_rest m)) [
@@ -123,11 +123,11 @@ settle_listens m i l (n ∷ q) = elim (cases_Bool (is_rest m)) [
   | inr e ↦ rw e refl
 ]
 
--- where no command comes any more, none comes after
+-- once the connection is over, no command comes
 pub settle_shut : (m : State) (i l : ℕ) (q : List Waiting) → is_shut m ≡ true → is_shut (settle m i l q).state ≡ true
 settle_shut m i l q h = ap (λ (w : Standing). is_shut w.state) (settle_stays m i l q (shut_idle m h)) ∙ h
 
--- where a command may come next, none waits
+-- if a command may come next, none is waiting
 pub settle_idle : (m : State) (i l : ℕ) (q : List Waiting) → is_rest (settle m i l q).state ≡ true → (settle m i l q).waiting ≡ []
 settle_idle m i l [] h = refl
 settle_idle m i l (n ∷ q) h = elim (cases_Bool (is_rest m)) [
@@ -136,7 +136,7 @@ settle_idle m i l (n ∷ q) h = elim (cases_Bool (is_rest m)) [
   | inr e ↦ (let no : is_rest m ≡ true = ap (λ (w : Standing). is_rest w.state) (sym (settle_stays m i l (n ∷ q) e)) ∙ h in absurd cc)
 ]
 
--- COM_QUIT that waits goes on to wait, or no command comes any more
+-- a waiting COM_QUIT stays waiting, or the connection is over
 pub settle_quits : (m : State) (i l : ℕ) (q : List Waiting) → quits q ≡ true → (quits (settle m i l q).waiting ≡ true) ⊎ (is_shut (settle m i l q).state ≡ true)
 settle_quits m i l [] h = absurd cc
 settle_quits m i l (n ∷ []) h = elim (cases_Bool (is_rest m)) [
@@ -152,7 +152,7 @@ settle_quits m i l (n ∷ k ∷ q) h = elim (cases_Bool (is_rest m)) [
   | inr e ↦ inl (ap (λ (w : Standing). quits w.waiting) (settle_stays m i l (n ∷ k ∷ q) e) ∙ h)
 ]
 
--- ---- what waits
+-- ---- waiting commands
 
 -- COM_QUIT is the last command
 abbrev pub OnlyLast : List Waiting → Type 0
@@ -175,7 +175,7 @@ head_quits n (k ∷ q) o h = elim (cases_Bool (is_quit n.command.answer)) [
   | inr e ↦ e
 ]
 
--- where COM_QUIT doesn't wait, it doesn't come next
+-- if COM_QUIT isn't waiting, it doesn't come next
 abbrev pub Quiet : Standing → Type 0
 Quiet w = (is_shut w.state ≡ false) × (quits w.waiting ≡ false) × OnlyLast w.waiting
 
@@ -187,7 +187,7 @@ settle_quiet m i l (n ∷ q) s h o = elim (cases_Bool (is_rest m)) [
   | inr e ↦ subst (λ w. Quiet w) (sym (settle_stays m i l (n ∷ q) e)) (s, h, o)
 ]
 
--- no command waits where the server is not to speak
+-- commands wait only at the server's turn
 abbrev pub Sound : Standing → Type 0
 Sound w = (is_due w.state ≡ false → w.waiting ≡ []) × OnlyLast w.waiting
 
@@ -212,7 +212,7 @@ settle_sound m i l (n ∷ q) s o =
       | inr (inr (inr a)) ↦ absurd cc
     ]
 
--- ---- steps and what they say
+-- ---- steps and their results
 
 pub served_back : (d : Agreed) (w : Standing) (p : List ℕ) (k : PacketKind) (n : ℕ) (v : Standing) (r : Option (PacketKind × State))
     → take_step d w.state Server p ≡ r → served w r ≡ outcome k n v
@@ -257,7 +257,7 @@ taken_at_rest d w x c s h n =
     let b : pipe_step d w x.packet.from x.packet.payload ≡ outcome (kind_of c) (w.last + 1) v = subst (λ side. pipe_step d w side x.packet.payload ≡ outcome (kind_of c) (w.last + 1) v) (sym h.0) a in
     b ∙ ap (λ k. outcome k (w.last + 1) v) h.2 ∙ ap (λ n. outcome x.packet.kind n v) (sym n)
 
--- what a command says of the step that took it
+-- what a command says about its step
 abbrev pub Began : Standing → List ℕ → PacketKind → ℕ → Standing → Type 0
 Began w p k n v = (c : Command) × (command_of p ≡ Some c) × (kind_of c ≡ k) × (w.last + 1 ≡ n) × (after w c ≡ v)
 
@@ -276,7 +276,7 @@ began_at_rest i l q p k n v (Some c) e h =
     let o = some_is h in
     (c, e, ap (λ (o : Outcome). o.0) o, ap (λ (o : Outcome). o.1) o, ap (λ (o : Outcome). o.2) o)
 
--- what a packet of a file says
+-- what a packet of a file's content says
 pub loaded_back : (d : Agreed) (w : Standing) (p : List ℕ) (k : PacketKind) (n : ℕ) (v : Standing) (r : Option (PacketKind × State))
     → is_rest w.state ≡ false → take_step d w.state Client p ≡ r → in_turn w r ≡ outcome k n v
     → (m : State) × (take_step d w.state Client p ≡ Some (k, m)) × (w.number ≡ n) × (standing m w.number w.last w.waiting ≡ v)
@@ -286,7 +286,7 @@ loaded_back d w p k n v (Some x) rs e h =
     let o = some_is g in
     (x.1, e ∙ ap (λ (k : PacketKind). Some (k, x.1)) (ap (λ (o : Outcome). o.0) o), ap (λ (o : Outcome). o.1) o, ap (λ (o : Outcome). o.2) o)
 
--- the client is_due in its turn, and no command comes early
+-- it is the client's turn, and no command comes early
 pub client_turn : (d : Agreed) (w : Standing) (p : List ℕ) (o : Option Outcome) → is_due w.state ≡ false → pipe_step d w Client p ≡ o → in_turn w (take_step d w.state Client p) ≡ o
 client_turn d w p o sp h = subst (λ b. cond b (aside w (take_step d w.state Client p) (command_of p)) (in_turn w (take_step d w.state Client p)) ≡ o) sp h
 
@@ -299,7 +299,7 @@ client_rest d w p k n v e h =
     (began_at_rest w.number w.last w.waiting p k n v (command_of p) refl
     (sym (ap (λ r. in_turn (standing state.Rest w.number w.last w.waiting) r) (rest_step_is d p)) ∙ subst (λ s. pipe_step d (standing s w.number w.last w.waiting) Client p ≡ outcome k n v) e h))
 
--- a command that comes while the server is to speak
+-- a command at the server's turn
 pub command_due : (d : Agreed) (w : Standing) (p : List ℕ) (k : PacketKind) (n : ℕ) (v : Standing) (r : Option (PacketKind × State))
     → is_due w.state ≡ true → take_step d w.state Client p ≡ r → commands k ≡ true → aside w r (command_of p) ≡ outcome k n v → (quits w.waiting ≡ false) × Began w p k n v
 command_due d w p k n v None sp e c h = began_early w p k n v (command_of p) sp refl h
@@ -309,7 +309,7 @@ command_due d w p k n v (Some x) sp e c h = elim (chosen (waits w.waiting) _ _ _
       let no : commands x.0 ≡ false = running_kind d w.state p x.0 x.1 (due_runs w.state sp).0 e in absurd cc)
 ]
 
--- and a packet of the client that is none
+-- and another packet of the client
 abbrev Aside : Agreed → Standing → List ℕ → PacketKind → ℕ → Standing → Type 0
 Aside d w p k n v = (m : State) × (take_step d w.state Client p ≡ Some (k, m)) × (waits w.waiting ≡ false) × (w.number ≡ n) × (standing m w.number w.last w.waiting ≡ v)
 
@@ -324,11 +324,11 @@ aside_due d w p k n v (Some x) sp e c h = elim (chosen (waits w.waiting) _ _ _ h
       (x.1, e ∙ ap (λ (k : PacketKind). Some (k, x.1)) (ap (λ (o : Outcome). o.0) o), a.0, ap (λ (o : Outcome). o.1) o, ap (λ (o : Outcome). o.2) o))
 ]
 
--- a command is taken where one may come
+-- a command is accepted if one may come
 abbrev pub Taken : Standing → List ℕ → PacketKind → ℕ → Standing → Type 0
 Taken w p k n v = Began w p k n v × (listens w.state ≡ false) × (is_shut w.state ≡ false) × ((is_rest w.state ≡ true) ⊎ (quits w.waiting ≡ false))
 
--- what the client says where no command comes any more is none
+-- once the connection is over, the client sends no command
 pub shut_kind : (d : Agreed) (s : State) (p : List ℕ) (k : PacketKind) (m : State) → is_shut s ≡ true → take_step d s Client p ≡ Some (k, m) → commands k ≡ false
 shut_kind d state.Clone p k m h e = ap (λ (x : PacketKind × State). commands x.0) (some_is (sym e))
 shut_kind d state.Quit p k m h e = absurd cc
@@ -357,7 +357,7 @@ command_back d w x v h e =
     let f : x.packet.from ≡ Client = client_is x.packet.from b.0 in
     (f, command_back_at d w x.packet.payload x.packet.kind x.number v (turn w.state) b.1 (by_client d w x v f e))
 
--- ---- what waits, after each step
+-- ---- waiting commands after each step
 
 step_sound_client : (d : Agreed) (w : Standing) (p : List ℕ) (k : PacketKind) (n : ℕ) (v : Standing) → Turn w.state → Sound w → pipe_step d w Client p ≡ outcome k n v → Sound v
 step_sound_client d w p k n v (inl e) s h =

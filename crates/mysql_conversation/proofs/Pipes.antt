@@ -1,4 +1,4 @@
--- Commands that come early, and the machine with commands that wait.
+-- Pipelined commands, and the machine with waiting commands.
 use Rattle.mysql_conversation.specs.Agreements.{Agreed}
 use Rattle.std.proofs.Common.{◌≡◌, ℕ, ◌+◌, List, [], ◌∷◌, ◌++◌, ◌⊎◌, inl, inr, Some, refl, sym, ap, subst, ◌∙◌, Bool, true, false}
 use Rattle.std.specs.Prelude.{◌&&◌, not}
@@ -39,7 +39,7 @@ after_listens w c k v l e h = elim (cases_Bool (is_due w.state)) [
     after_rest : (w : Standing) (c : Command) → is_due w.state ≡ false → standing (begin c) (w.last + 1) (w.last + 1) w.waiting ≡ after w c
     after_rest w c h = rw h refl
 
--- a packet in its turn, which begins no exchange
+-- a packet in turn that begins no exchange
 turn_listens : (d : Agreed) (w : Standing) (p : List ℕ) (k : PacketKind) (n : ℕ) (v : Standing) → is_rest w.state ≡ false → is_due w.state ≡ false → pipe_step d w Client p ≡ outcome k n v → listens v.state ≡ asks k
 turn_listens d w p k n v i u h =
     let b = loaded_back d w p k n v (take_step d w.state Client p) i refl (client_turn d w p (outcome k n v) u h) in
@@ -56,7 +56,7 @@ client_listens d w p k n v (inr (inr (inl a))) h = elim (cases_Bool (commands k)
 ]
 client_listens d w p k n v (inr (inr (inr a))) h = turn_listens d w p k n v (shut_idle w.state a.0) a.3 h
 
--- the client is asked after a packet just where its kind says so
+-- a packet's kind says whether the client is asked after it
 steps_listens : (d : Agreed) (w : Standing) (x : Numbered) (v : Standing) → Steps d w x v → listens v.state ≡ asks x.packet.kind
 steps_listens d w x v h = elim (side_is x.packet.from) [
   | inl f ↦ client_listens d w x.packet.payload x.packet.kind x.number v (turn w.state) (by_client d w x v f h)
@@ -64,9 +64,9 @@ steps_listens d w x v h = elim (side_is x.packet.from) [
       ap (λ (w : Standing). listens w.state) (sym b.4) ∙ settle_listens b.0 w.number w.last w.waiting ∙ (take_listens d w.state Server x.packet.payload x.packet.kind b.0 b.1).0)
 ]
 
--- ---- a command that comes sooner
+-- ---- a command that comes earlier
 
--- COM_QUIT doesn't wait before a packet after which a command comes
+-- COM_QUIT isn't waiting at a packet that is followed by a command
 none_quits : (m : State) (i l : ℕ) (q : List Waiting) → is_shut (settle m i l q).state ≡ false → (is_rest (settle m i l q).state ≡ true) ⊎ (quits (settle m i l q).waiting ≡ false) → quits q ≡ false
 none_quits m i l q s h = elim (cases_Bool (quits q)) [
   | inr e ↦ e
@@ -127,9 +127,9 @@ early_runs d w b (x ∷ items) others t l (inr h) r =
     let z = sooner d w x h.0 h.1 t (l ∙ h.6) h.2 h.3 q in
     (z.0, z.1, early_runs d z.0 false items (h.0 ++ h.1) t (steps_listens d w x z.0 z.1 ∙ command_kind_asks x.packet h.2) h.5 z.2)
 
--- ---- commands put back to their turn
+-- ---- commands moved to their turn
 
--- where the server is to speak, no command comes
+-- no command comes at the server's turn
 abbrev InTurn : Agreed → Standing → List Numbered → Standing → Type 0
 InTurn d w [] t = w ≡ t
 InTurn d w (x ∷ xs) t = (mid : Standing) × Steps d w x mid × (is_due w.state ≡ true → commands x.packet.kind ≡ false) × InTurn d mid xs t
@@ -146,7 +146,7 @@ after_early w c h = rw h refl
 after_rest : (w : Standing) (c : Command) → is_due w.state ≡ false → standing (begin c) (w.last + 1) (w.last + 1) w.waiting ≡ after w c
 after_rest w c h = rw h refl
 
--- after a command that waits no packet of the client is taken but commands
+-- after a waiting command, the client's packets are commands
 server_then : (d : Agreed) (w : Standing) (c : Command) (y : Numbered) (v : Standing) → is_due w.state ≡ true → commands y.packet.kind ≡ false → Steps d (push w c) y v → y.packet.from ≡ Server
 server_then d w c y v sp nc h = elim (side_is y.packet.from) [
   | inl f ↦ (let b = aside_due d (push w c) y.packet.payload y.packet.kind y.number v (take_step d w.state Client y.packet.payload) sp refl nc (client_due d (push w c) y.packet.payload (outcome y.packet.kind y.number v) sp (by_client d (push w c) y v f h)) in
@@ -161,7 +161,7 @@ passed d s p k m n l h =
     let i : inside k ≡ true = t.1 ∙ ap not n in
     rw (a, i) refl
 
--- a command that waits may come where its turn is
+-- a waiting command may come in its turn
 later : (d : Agreed) (w : Standing) (c : Command) (x : Numbered) (others : List Numbered) (t : Standing) → is_due w.state ≡ true → quits w.waiting ≡ false → OnlyLast w.waiting → IsOf x c → x.number ≡ w.last + 1
     → InTurn d (push w c) others t → Over t
     → (front : List Numbered) × (back : List Numbered) × ArePassed front × (others ≡ front ++ back) × InTurn d w (front ++ x ∷ back) t
@@ -198,7 +198,7 @@ server_kind d w x v n f h =
     let b = server_back d w x v f h in
     inside_command x.packet.kind ((take_listens d w.state Server x.packet.payload x.packet.kind b.0 b.1).1 ∙ ap not n)
 
--- a command that came early, or a packet in its turn
+-- a pipelined command, or a packet in turn
 abbrev CameEarly : Agreed → Standing → Numbered → Standing → Type 0
 CameEarly d w x v = (is_due w.state ≡ true) × (x.packet.from ≡ Client) × (quits w.waiting ≡ false) × Began w x.packet.payload x.packet.kind x.number v
 
@@ -230,7 +230,7 @@ run_early d w (x ∷ items) t k r o =
       | inr q ↦ (x ∷ h.0, inl (h.0, refl, subst (λ b. Early b items h.0) asked h.1), (r.0, r.1, q, h.2))
     ]
 
--- ---- the machine with no command that waits
+-- ---- the machine without waiting commands
 
 abbrev alone : State → ℕ → Standing
 alone s n = standing s n n []
@@ -238,7 +238,7 @@ alone s n = standing s n n []
 abbrev Plainly : Agreed → State → ℕ → Packet → ℕ → Standing → Type 0
 Plainly d s n x j v = (m : State) × (take_step d s x.from x.payload ≡ Some (x.kind, m)) × (j ≡ counted n x) × (alone m (counted n x) ≡ v)
 
--- a packet in its turn, which begins no exchange
+-- a packet in turn that begins no exchange
 plain_turn : (d : Agreed) (s : State) (n : ℕ) (p : List ℕ) (k : PacketKind) (j : ℕ) (v : Standing) → is_rest s ≡ false → is_due s ≡ false → ((m : State) → take_step d s Client p ≡ Some (k, m) → commands k ≡ false) → pipe_step d (alone s n) Client p ≡ outcome k j v → Plainly d s n (packet Client p k) j v
 plain_turn d s n p k j v i u g h =
     let b = loaded_back d (alone s n) p k j v (take_step d s Client p) i refl (client_turn d (alone s n) p (outcome k j v) u h) in

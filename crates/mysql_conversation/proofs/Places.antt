@@ -1,4 +1,4 @@
--- Where a command has no place, and where it has.
+-- When a command has no place to wait, and when it has one.
 use Rattle.std.proofs.Common.{◌≡◌, ℕ, ◌+◌, ◌<◌, ◌≤◌, ◌-◌, ◌^◌, List, ◌⊎◌, inl, inr, length, Option, Some, None, refl, sym, ap, subst, ◌∙◌, true, false, arith}
 use Rattle.std.specs.Prelude.{◌↔◌, Result, Ok, Err, IfErr}
 use Rattle.mysql_conversation.specs.Agreements.{Agreed}
@@ -18,7 +18,7 @@ use Rattle.mysql_conversation.specs.declared.state.Command.{Command}
 use Rattle.mysql_conversation.specs.declared.state.State.{State}
 use Rattle.mysql_conversation.specs.declared.state.State.TheVariants as state
 
--- neither comes
+-- neither may come
 pub neither : {P Q : Type 0} → (P → ⊥) → (Q → ⊥) → P ↔ Q
 neither f g = ((λ p. absurd (f p)), (λ q. absurd (g q)))
 
@@ -36,7 +36,7 @@ pub has_place : (n last : ℕ) (q : List Waiting) (c : Option Command) → lengt
 has_place n last q c a b (command, e, g, inl h) = omega arith
 has_place n last q c a b (command, e, g, inr h) = omega arith
 
--- what the client says while the server is to speak, and is no command, is not full
+-- at the server's turn, a packet of the client that is no command isn't answered Full
 pub aside_has_place : (c : Pipeline) (p : List ℕ) (k : PacketKind) (m : State) → is_due c.state ≡ true → take_step c.agreed c.state Client p ≡ Some (k, m) → IsFull c Client p → ⊥
 aside_has_place c p k m d e h =
     let none = no_aside c.agreed c.state p h.0.1 d h.0.2 in absurd (cc (none, e))
@@ -56,7 +56,7 @@ idle_full c p k m i e n =
 idle_step : (a : Agreed) (p : List ℕ) (command : Command) → command_of p ≡ Some command → (take_step a state.Rest Client p ≡ None) → ⊥
 idle_step a p command e n = let no : None ≡ command_step (Some command) = sym n ∙ rest_step_is a p ∙ ap command_step e in absurd cc
 
--- what the machine does not take while the client may speak
+-- what the machine refuses at the client's turn
 pub refused_has_place : (c : Pipeline) (p : List ℕ) → is_due c.state ≡ false → take_step c.agreed c.state Client p ≡ None → IsFull c Client p → ⊥
 refused_has_place c p d e (k, inl h) = let no : true ≡ false = sym h.0.0 ∙ d in absurd cc
 refused_has_place c p d e (k, inr (inl h, n)) = let no : true ≡ false = sym h.0 ∙ d in absurd cc

@@ -13,21 +13,21 @@ use Rattle.mysql_conversation.specs.declared.pipeline.Pipeline.{Pipeline}
 use Rattle.mysql_conversation.specs.declared.session.Phase.TheVariants as phase
 use Rattle.mysql_conversation.specs.declared.session.Session.{Session}
 
--- before the conversation none is
+-- before the conversation there is none
 pub none_resumed : (s : Session) (a : Agreed) (items : List Numbered) → is_commands s.phase ≡ false → SessionResumed s a items → ⊥
 none_resumed s a items n r = let no : false ≡ true = sym n ∙ ap is_commands r.1 in absurd cc
 
 same_pipeline : {p q : Pipeline} → phase.Commands p ≡ phase.Commands q → p ≡ q
 same_pipeline e = cc
 
--- what was taken is what the pipeline took
+-- the session accepted what the pipeline accepted
 abbrev pub TakesResumed : Pipeline → Agreed → List Numbered → Type 0
 TakesResumed p a items = (pipe.agreed p ≡ a) × (pipe.opening p ≡ Commands) × PipeTaken p items
 
 pub resumed_in : (s : Session) (p : Pipeline) (a : Agreed) (items : List Numbered) → s.phase ≡ phase.Commands p → SessionResumed s a items → TakesResumed p a items
 resumed_in s p a items e r = subst (λ q. TakesResumed q a items) (same_pipeline (sym r.1 ∙ e)) (r.2, r.3, r.4)
 
--- it stands as it did
+-- it is unchanged
 stood : (p q : Pipeline) (a : Agreed) (items : List Numbered) → pipe.IsSame p q → TakesResumed p a items → TakesResumed q a items
 stood p q a items s r = (
   s.0 ∙ r.0,
@@ -41,7 +41,7 @@ resumed_same s t a items h r =
     let m = stood r.0 k.0 a items k.2 (r.2, r.3, r.4) in
     (k.0, k.1, m.0, m.1, m.2)
 
--- what doesn't go on with what the pipeline took doesn't go on here
+-- what doesn't continue the pipeline doesn't continue the session
 pub resumed_refuses : (p : Pipeline) (a : Agreed) (items : List Numbered) (x : Numbered) → TakesResumed p a items
     → (IsPipelinedBeginning (pipe.agreed p) (pipe.opening p) (items ++ x ∷ []) → ⊥) → IsResumedBeginning a (items ++ x ∷ []) → ⊥
 resumed_refuses p a items x r none b =

@@ -1,4 +1,4 @@
--- Runs of a list and then another, and the one state after a list.
+-- Runs over two lists in turn, and the unique state after a list.
 use Rattle.std.proofs.Common.{◌≡◌, List, [], ◌∷◌, ◌++◌, refl, sym, ◌∙◌, subst}
 use Rattle.mysql_conversation.specs.Runs.{Runs}
 
@@ -11,7 +11,7 @@ module _ {S X : Type 0} (step : S → X → S → Type 0) where
   part s [] ys t r = (s, refl, r)
   part s (x ∷ xs) ys t r = let h = part r.0 xs ys t r.2 in (h.0, (r.0, r.1, h.1), h.2)
 
-  -- where a step leads to one state
+  -- if a step leads to one state
   pub once : ((s : S) (x : X) (m n : S) → step s x m → step s x n → m ≡ n) → (s : S) (xs : List X) (t u : S) → Runs step s xs t → Runs step s xs u → t ≡ u
   once one s [] t u a b = sym a ∙ b
   once one s (x ∷ xs) t u a b = once one b.0 xs t u (subst (λ m. Runs step m xs t) (one s x a.0 b.0 a.1 b.1) a.2) b.2

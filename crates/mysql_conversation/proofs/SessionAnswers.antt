@@ -1,4 +1,4 @@
--- What a session answers, and that an error changes nothing.
+-- What a session returns, and that an error changes nothing.
 use Rattle.std.proofs.Common.{◌≡◌, ℕ, List, inl, inr, Some, None, refl, sym, ap, subst, ◌∙◌, Bool, true, false}
 use Rattle.std.specs.Prelude.{◌↔◌, not, ◌&&◌, Option, Result, Ok, Err, IfOk, OnOk, OnErr}
 use Rattle.mysql_auth.specs.declared.ssl_request.SslRequest.{SslRequest}
@@ -42,13 +42,13 @@ on_err (Err e) f h = f h
 pub same_commands : (ph : Phase) (p q : Pipeline) → ph ≡ phase.Commands p → q.agreed ≡ p.agreed → q.opening ≡ p.opening → q.limit ≡ p.limit → pipe.stands q ≡ pipe.stands p → IsSameIn ph (phase.Commands q)
 same_commands ph p q e a o l s = subst (λ ph. IsSameIn ph (phase.Commands q)) (sym e) (q, refl, (a, o, l, s))
 
--- ---- what is answered
+-- ---- results
 
 pub ok_always : {A E Q : Type 0} (r : Result A E) → Q → IfOk r (λ x. Q)
 ok_always (Ok x) q = q
 ok_always (Err e) q = tt
 
--- ---- what a phase says
+-- ---- what a phase implies
 
 -- the login comes next
 abbrev pub is_login : Phase → Bool
@@ -78,7 +78,7 @@ pub commands_is : (ph : Phase) → is_commands ph ≡ true → ((p : Pipeline) �
 commands_is (phase.Commands p) h clash = clash p refl
 commands_is _ h clash = absurd cc
 
--- before the conversation the limit is the session's
+-- before the conversation, the session keeps the limit
 limit_before : (s : Session) → is_commands s.phase ≡ false → limit s ≡ s.limit
 limit_before s n = of_phase s.phase n
   where
@@ -105,7 +105,7 @@ greeting_plain : (o : Option Agreed) (k : PacketKind) (next : Phase) → greeted
 greeting_plain None k next h = absurd cc
 greeting_plain (Some server) k next h = ap is_encrypted (sym (ap (λ (x : PacketKind × Phase). x.1) (some_is h)))
 
--- after it nothing is in TLS that was not
+-- after it the session is not encrypted
 pub served_plain : (ph next : Phase) (p : List ℕ) (k : PacketKind) → served_before ph p ≡ Some (k, next) → is_encrypted next ≡ false
 served_plain phase.Greeting next p k h = elim (chosen (first_is 0xff p) _ _ _ h) [
   | inl g ↦ ap is_encrypted (sym (ap (λ (x : PacketKind × Phase). x.1) (some_is g.1)))
@@ -137,7 +137,7 @@ agrees_by_login s tls server p side a h =
     let once = awaited_once s h.1 tls h.2 server h.4 a in
     subst (λ t. CompressedBy server t p) once.0 (subst (λ a. CompressedBy a h.1 p) once.1 (h.3, login_at_of h.3 p h.5, h.6, h.7, h.8))
 
--- the answer to the greeting is a request for TLS exactly where it asks for TLS
+-- the packet after the greeting is a request for TLS exactly if its flags ask for TLS
 no_tls_at : (p : List ℕ) (o : Option SslRequest) (r : SslRequest) → o ≡ Some r → IsNoLoginAt false p o → asks_tls r ≡ false
 no_tls_at p None r e h = absurd cc
 no_tls_at p (Some q) r e h = subst (λ r. asks_tls r ≡ false) (some_is e) h.0
@@ -180,7 +180,7 @@ compressed_at s (phase.InTls server) p side c a = ((λ h. login_agrees s true se
 compressed_at s phase.NoLogin p side c a = neither (λ h. h) (no_compression s side p (ap is_login a))
 compressed_at s (phase.Commands q) p side c a = neither (λ h. h) (no_compression s side p (ap is_login a))
 
--- both agree on compression by what the client sends
+-- what the client sends agrees on compression
 pub sent_compressed : (s : Session) (p : List ℕ) (side : Side) → side ≡ Client → CompressedAt s.phase p ↔ AgreesOnCompression s side p
 sent_compressed s p side c = compressed_at s s.phase p side c refl
 
@@ -196,7 +196,7 @@ commands_full s p side payload r e h = (
     pipeline_is : {x y : Pipeline} → phase.Commands x ≡ phase.Commands y → x ≡ y
     pipeline_is h = cc
 
--- ---- a login that does not agree on compression
+-- ---- a login that doesn't agree on compression
 
 pub compressed_asks : (server : Agreed) (tls : Bool) (p : List ℕ) (r : SslRequest) → login_at p ≡ Some r → (not tls && asks_tls r) ≡ true → CompressedBy server tls p → ⊥
 compressed_asks server true p r e a h = absurd cc

@@ -1,4 +1,4 @@
--- Packets with which each session may go on.
+-- A packet that continues each session.
 use Rattle.std.proofs.Common.{◌≡◌, ℕ, List, [], ◌∷◌, ◌++◌, inl, inr, Ok, refl, sym, ap, subst, ◌∙◌, Bool, true, false, append_assoc}
 use Rattle.std.proofs.Common.{append-nil}
 use Rattle.std.specs.Int.Bits.{and_zero_r}
@@ -21,7 +21,7 @@ use Rattle.mysql_conversation.specs.declared.packet_kind.Side.TheVariants.{Clien
 use Rattle.mysql_conversation.specs.declared.session.Phase.{Phase}
 use Rattle.mysql_conversation.specs.declared.session.Phase.TheVariants as phase
 
--- the login of a client that can do nothing, with an empty name
+-- the login of a client without capabilities, with an empty name
 abbrev pub zeros : List ℕ
 zeros = 0 ∷ 0 ∷ 0 ∷ 0 ∷ 0 ∷ 0 ∷ 0 ∷ 0 ∷ 0 ∷ 0 ∷ 0 ∷ 0 ∷ 0 ∷ 0 ∷ 0 ∷ 0 ∷ 0 ∷ 0 ∷ 0 ∷ 0 ∷ 0 ∷ 0 ∷ 0 ∷ 0 ∷ 0 ∷ 0 ∷ 0 ∷ 0 ∷ 0 ∷ 0 ∷ 0 ∷ 0 ∷ 0 ∷ []
 

@@ -1,4 +1,4 @@
--- Which kinds go on with a session.
+-- Which kinds continue a session.
 use Rattle.std.proofs.Common.{◌≡◌, ◌↔◌, ℕ, List, [], ◌∷◌, ◌++◌, ◌⊎◌, inl, inr, Some, Ok, refl, sym, ap, subst, ◌∙◌, Bool, true, false, append_assoc}
 use Rattle.mysql_wire.specs.Form.{bytes, number}
 use Rattle.mysql_wire.specs.Int.{raw}
@@ -33,7 +33,7 @@ use Rattle.mysql_conversation.specs.declared.session.Phase.TheVariants as phase
 
 -- ---- the greeting
 
--- of a server that can do nothing
+-- of a server without capabilities
 greeting_bytes : List ℕ
 greeting_bytes = 10 ∷ 0 ∷ zeros
 
@@ -78,7 +78,7 @@ greeting_goes_on side n items e = (
 
 -- ---- after an error
 
--- ---- after what is no login
+-- ---- after a packet that is no login
 
 login_error_comes : (items : List Numbered) → TakenIn phase.NoLogin items → GoesOn Server name.Error items
 login_error_comes items t = (0xff ∷ [], kind.Error, 0, refl, taken_is_beginning phase.Refused _ (served_more phase.NoLogin (0xff ∷ []) kind.Error 0 phase.Refused items refl refl t))
@@ -99,7 +99,7 @@ login_error_goes_on side n items t = (
 
 -- ---- the login
 
--- a request to go on in TLS, of a client that can do nothing else
+-- a request for TLS, of a client without other capabilities
 tls_bytes : List ℕ
 tls_bytes = 0 ∷ 8 ∷ 0 ∷ 0 ∷ 0 ∷ 0 ∷ 0 ∷ 0 ∷ 0 ∷ 0 ∷ 0 ∷ 0 ∷ 0 ∷ 0 ∷ 0 ∷ 0 ∷ 0 ∷ 0 ∷ 0 ∷ 0 ∷ 0 ∷ 0 ∷ 0 ∷ 0 ∷ 0 ∷ 0 ∷ 0 ∷ 0 ∷ 0 ∷ 0 ∷ 0 ∷ 0 ∷ []
 

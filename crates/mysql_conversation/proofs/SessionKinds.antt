@@ -1,4 +1,4 @@
--- In a session too a packet is of one kind.
+-- A packet has one kind in a session too.
 use Rattle.std.proofs.Common.{◌≡◌, ℕ, List, [], ◌∷◌, ◌++◌, ◌⊎◌, inl, inr, refl, sym, ap, subst, ◌∙◌, Bool, true, false, append_assoc}
 use Rattle.mysql_conversation.specs.Agreements.{Agreed}
 use Rattle.mysql_conversation.specs.Payloads.{first_is}
@@ -21,7 +21,7 @@ Stage items =
     ⊎ (((server : Agreed) × (tls : Bool) × (front : List Numbered) × (y : Numbered) × (items ≡ front ++ y ∷ []) × Before server tls front × IsNoLogin tls y)
     ⊎ ((a : Agreed) × (front : List Numbered) × (x : Numbered) × (its : List Numbered) × (items ≡ front ++ x ∷ its) × IsLoggedIn a front x)))
 
--- a packet of a list stands before one in it, or is that, or stands after it
+-- a packet of a list is before, at or after another one
 abbrev Where : List Numbered → Numbered → List Numbered → List Numbered → Numbered → Type 0
 Where items y more front x =
     ((its : List Numbered) × (front ≡ items ++ y ∷ its)) ⊎ ((items ≡ front) ⊎ ((its : List Numbered) × (items ≡ front ++ x ∷ its)))
@@ -90,7 +90,7 @@ before_login items its front y server true f e = elim (one_before_two items its 
   | inr h ↦ inr (inl (server, false, (f.0, h, f.3)))
 ]
 
--- and where two more packets come after it
+-- and if two more packets follow it
 before_end : (items more front : List Numbered) (y x z : Numbered) (server : Agreed) (tls : Bool) → Before server tls front → IsNoLogin tls x → items ++ y ∷ more ≡ front ++ x ∷ z ∷ [] → Stage items
 before_end items more front y x z server tls f n e = elim (where_is items more front (z ∷ []) y x e) [
   | inl g ↦ before_login items g.0 front y server tls f g.1
@@ -124,7 +124,7 @@ stage items more y (inr h) = elim (where_is items more h.1 h.3 y h.2 h.4) [
   ]
 ]
 
--- ---- of one kind
+-- ---- one kind
 
 abbrev Same : PacketKind → PacketKind → ℕ → ℕ → Type 0
 Same j k m n = (j ≡ k) × (m ≡ n)
@@ -145,7 +145,7 @@ plain_or_tls false c side p j k m n e t l =
     let yes : asks_tls l.1 ≡ true = ap asks_tls (sym same) ∙ t.3 in
     let no : asks_tls l.1 ≡ false = l.3 in absurd cc
 
--- whether a request for TLS or a login, or what is none, stands there
+-- whether it is a request for TLS, a login, or neither
 no_request : (tls : Bool) (side : Side) (p : List ℕ) (j k : PacketKind) (m n : ℕ) → tls ≡ false → IsSslRequest (place side p j m) → IsNoLogin tls (place side p k n) → ⊥
 no_request true side p j k m n e t l = absurd cc
 no_request false side p j k m n e t l =

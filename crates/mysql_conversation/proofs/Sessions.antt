@@ -1,4 +1,4 @@
--- Sessions: what comes before a conversation, and that nothing else may come.
+-- Sessions: exactly which packets precede a conversation.
 use Rattle.std.proofs.Common.{◌≡◌, ℕ, List, [], ◌∷◌, ◌++◌, ◌⊎◌, inl, inr, Some, None, Ok, Err, refl, sym, ap, subst, ◌∙◌, Bool, true, false, append_assoc}
 use Rattle.std.proofs.lemmas.Bool.{and_parts}
 use Rattle.std.specs.Prelude.{◌≢◌, ◌==◌, not, ◌&&◌, Option}
@@ -62,7 +62,7 @@ client_once b d s t x g h =
     let e : g.1 ≡ h.1 = some_is (sym (login_at_of g.1 x.packet.payload g.2) ∙ login_at_of h.1 x.packet.payload h.2) in
     sym g.4 ∙ ap client_of e ∙ h.4
 
--- ---- what a session is made of is one thing
+-- ---- the parts of a session are unique
 
 pub head_is : (x y : Numbered) (xs ys : List Numbered) → x ∷ xs ≡ y ∷ ys → (x ≡ y) × (xs ≡ ys)
 head_is x y xs ys h = (cc, cc)
@@ -82,7 +82,7 @@ after_two u v w z x y xs ys front back e f g =
     let i = head_is w z (x ∷ xs) (y ∷ ys) h.1 in
     (h.0, head_is x y xs ys i.1)
 
--- one list has a login where the other has a request for TLS
+-- one list has a login, the other a request for TLS
 pub one_or_two : (u v z : Numbered) (x y : Numbered) (xs ys front back : List Numbered) → front ++ x ∷ xs ≡ back ++ y ∷ ys → front ≡ u ∷ [] → back ≡ v ∷ z ∷ [] → x ≡ z
 one_or_two u v z x y xs ys front back e f g =
     let e' : u ∷ x ∷ xs ≡ v ∷ z ∷ y ∷ ys = subst (λ fs. fs ++ x ∷ xs ≡ v ∷ z ∷ y ∷ ys) f (subst (λ bs. front ++ x ∷ xs ≡ bs ++ y ∷ ys) g e) in
@@ -92,7 +92,7 @@ pub login_or_tls : (b : Bool) (s : Agreed) (x z : Numbered) → x ≡ z → IsLo
 login_or_tls b s x z e l t =
     let k : kind.Login ≡ kind.SslRequest = sym l.0.1 ∙ ap (λ (x : Numbered). x.packet.kind) e ∙ t.0.1 in absurd cc
 
--- two sessions come to the same packet after the greeting, or to a request for TLS in one of them
+-- two sessions have the same packet after the greeting, or one of them has a request for TLS
 abbrev pub Aligned : (i j : Bool) (x y : Numbered) (xs ys : List Numbered) → Type 0
 Aligned i j x y xs ys = ((i ≡ j) × (x ≡ y) × (xs ≡ ys)) ⊎ (((w : Numbered) × IsSslRequest w × (x ≡ w) × (i ≡ false)) ⊎ ((w : Numbered) × IsSslRequest w × (y ≡ w)))
 
@@ -102,14 +102,14 @@ align s t false true front back x y xs ys e f h = inr (inl (h.1, h.4, one_or_two
 align s t true false front back x y xs ys e f h = inr (inr (f.1, f.4, one_or_two h.0 f.0 f.1 y x ys xs back front (sym e) h.1 f.2))
 align s t true true front back x y xs ys e f h = let q = after_two f.0 h.0 f.1 h.1 x y xs ys front back e f.2 h.2 in inl (refl, q.1.0, q.1.1)
 
--- a packet of the server is none of the client's
+-- a packet of the server is not the client's
 pub other_side : (x y : Numbered) → x ≡ y → x.packet.from ≡ Client → y.packet.from ≡ Server → ⊥
 other_side x y e c s = let no : Client ≡ Server = sym c ∙ ap (λ (x : Numbered). x.packet.from) e ∙ s in absurd cc
 
 pub not_tls : (x w : Numbered) → x ≡ w → x.packet.kind ≡ kind.Login → IsSslRequest w → ⊥
 not_tls x w e l t = let no : kind.Login ≡ kind.SslRequest = sym l ∙ ap (λ (x : Numbered). x.packet.kind) e ∙ t.0.1 in absurd cc
 
--- what is no login is none
+-- a packet that is no login isn't a login
 pub no_login_is : (i j : Bool) (c : Agreed) (x y : Numbered) → x ≡ y → IsLogin i c x → IsNoLogin j y → ⊥
 no_login_is i j c x y e l n =
     let no = n.1 l.1 (subst (λ (z : Numbered). BeginsAs l.1 z.packet.payload) e l.2) in
@@ -138,12 +138,12 @@ once_by a b s t c d true true front back x y xs ys e f l g h m n =
     let q = after_two f.0 h.0 f.1 h.1 x y xs ys front back e f.2 h.2 in
     (agreed_same s t c d a b (greeted_same s t f.0 h.0 q.0 f.3 h.3) (client_same true true c d x y q.1.0 l m) g n, q.1.1)
 
--- what both agreed on, and what comes after the login, is one thing
+-- the agreement and the packets after the login are unique
 pub logged_in_once : (a b : Agreed) (front back : List Numbered) (x y : Numbered) (xs ys : List Numbered) → front ++ x ∷ xs ≡ back ++ y ∷ ys
     → IsLoggedIn a front x → IsLoggedIn b back y → (a ≡ b) × (xs ≡ ys)
 logged_in_once a b front back x y xs ys e g h = once_by a b g.0 h.0 g.1 h.1 g.2 h.2 front back x y xs ys e g.3 g.4 g.5 h.3 h.4 h.5
 
--- a login stands after another packet
+-- a login follows another packet
 pub not_alone : (a : Agreed) (server : Agreed) (tls : Bool) (front : List Numbered) (x z : Numbered) (xs : List Numbered) → Before server tls front → front ++ x ∷ xs ≡ z ∷ [] → ⊥
 not_alone a server false front x z xs f e =
     let e' : f.0 ∷ x ∷ xs ≡ z ∷ [] = subst (λ fs. fs ++ x ∷ xs ≡ z ∷ []) f.1 e in absurd cc
@@ -177,7 +177,7 @@ session_rest a front x rest l (inr h) =
     let q = logged_in_once a h.0 front h.1 x h.2 rest h.3 h.4 l h.5 in
     subst (λ xs. IsPipelined a Login xs) (sym q.1) (subst (λ a. IsPipelined a Login h.3) (sym q.0) h.6)
 
--- ---- at rest
+-- ---- no exchange runs
 
 pub commands_at_rest : (p : Pipeline) (items : List Numbered) → ((rest : List Numbered) → PipeTaken p rest → IsPipelined p.agreed p.opening rest) → TakenIn (phase.Commands p) items → IsSession items
 commands_at_rest p items f h =
@@ -189,7 +189,7 @@ at_rest_commands p items P f h s =
     let q = session_rest p.agreed h.0 h.1 h.2 h.4 (subst (λ xs. IsSession xs) h.3 s) in
     f h.2 h.6 (subst (λ o. IsPipelined p.agreed o h.2) (sym h.5) q)
 
--- ---- one packet more
+-- ---- one more packet
 
 pub more_of : (front : List Numbered) (x : Numbered) (rest ys : List Numbered) → (front ++ x ∷ rest) ++ ys ≡ front ++ x ∷ (rest ++ ys)
 more_of front x rest ys = append_assoc front (x ∷ rest) ys
@@ -235,7 +235,7 @@ not_of_two server c false front x u w xs f l t e =
 not_of_two server c true front x u w xs f l t e =
     let e' : f.0 ∷ f.1 ∷ x ∷ xs ≡ u ∷ w ∷ [] = subst (λ fs. fs ++ x ∷ xs ≡ u ∷ w ∷ []) f.2 e in absurd cc
 
--- before the login there is none among the packets
+-- before the login the packets contain none
 no_login_of_one : (a : Agreed) (z : Numbered) (items : List Numbered) → items ≡ z ∷ [] → IsLoggedInAmong a items → ⊥
 no_login_of_one a z items e h = not_alone a h.4.0 h.4.2 h.0 h.1 z h.2 h.4.3 (sym h.3 ∙ e)
 
@@ -275,7 +275,7 @@ two_or_more server tls items y z more f e = not_alone server server tls items y 
 
 -- ---- after the greeting
 
--- what answers it: a request for TLS, a login, or what is none; or an error in its place
+-- what follows: a request for TLS, a login, or a packet that is neither; or an error instead
 abbrev pub AnswersGreeting : Bool → Numbered → Type 0
 AnswersGreeting tls y = ((tls ≡ false) × IsSslRequest y) ⊎ (((c : Agreed) × IsLogin tls c y) ⊎ (IsNoLogin tls y ⊎ IsGreetingError y))
 
@@ -293,7 +293,7 @@ answer_at y items more server tls f (inl (inr (inr h))) =
 answer_at y items more server tls f (inr h) =
     answer_aligned tls h.5.2 y h.2 more h.3 (align server h.5.0 tls h.5.2 items h.1 y h.2 more h.3 h.4 f h.5.3) (inr (inl (h.5.1, h.5.4))) (λ w. login_or_tls h.5.2 h.5.1 h.2 w.0 w.2 h.5.4 w.1)
 
--- ---- after what is no login: the error alone
+-- ---- after a packet that is no login: only the error
 
 no_list : (y : Numbered) (more : List Numbered) → y ∷ more ≡ [] → ⊥
 no_list y more e = absurd cc
@@ -315,7 +315,7 @@ error_at server tls front x y more f n (inl (inr (inr h))) = elim (align server 
 ]
 error_at server tls front x y more f n (inr h) = absurd (none_login h.5.0 server h.5.1 h.5.2 tls h.1 front h.2 x h.3 (y ∷ more) h.5.3 h.5.4 f n (sym h.4))
 
--- ---- after an error in place of the greeting or of the login, or after that one: nothing
+-- ---- after an error instead of the greeting or the login: nothing
 
 not_greeted : (server : Agreed) (x : Numbered) → IsGreetingError x → IsGreeting server x → ⊥
 not_greeted server x g h = let no : first_is 0xff x.packet.payload ≡ false = h.1 in let yes : first_is 0xff x.packet.payload ≡ true = g.1 in absurd cc
@@ -395,7 +395,7 @@ served_more phase.NoLogin p k n next items z h t =
     (inr (inr (t.0, t.1, t.2, t.3, y, ap (λ xs. xs ++ y ∷ []) t.4 ∙ append_assoc t.2 (t.3 ∷ []) (y ∷ []), t.5, t.6, ((refl, sym e.1, z), e.0))))
 served_more (phase.Commands q) p k n next items z h t = absurd cc
 
--- what is no error is refused there
+-- a packet that is no error is refused there
 no_error : (b : Bool) (k : PacketKind) → refused_by b k ≡ None → b ≡ false
 no_error true k h = absurd cc
 no_error false k h = refl

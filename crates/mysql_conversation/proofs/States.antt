@@ -1,4 +1,4 @@
--- Whose turn it is in each state, and what the kind of a packet says of it.
+-- Whose turn it is in each state, and what a packet's kind says about it.
 use Rattle.std.proofs.Common.{◌≡◌, ℕ, zero, suc, List, [], ◌∷◌, ◌⊎◌, inl, inr, Option, Some, None, refl, sym, ap, subst, ◌∙◌, Bool, true, false, cond}
 use Rattle.std.specs.Prelude.{◌&&◌, ◌||◌, not}
 use Rattle.std.proofs.lemmas.Bool.{and_parts, cases_Bool}
@@ -35,7 +35,7 @@ use Rattle.mysql_conversation.specs.declared.state.Request.TheVariants.{Query, E
 use Rattle.mysql_conversation.specs.declared.state.State.{State}
 use Rattle.mysql_conversation.specs.declared.state.State.TheVariants as state
 
--- a command may come, or the client may answer, or the server is to speak, or no command comes any more
+-- a command may come, or the client may answer, or it is the server's turn, or the connection is over
 abbrev pub Turn : State → Type 0
 Turn s =
     (s ≡ state.Rest)
@@ -92,7 +92,7 @@ pub shut_idle : (s : State) → is_shut s ≡ true → is_rest s ≡ false
 shut_idle state.Rest h = absurd cc
 shut_idle _ h = refl
 
--- the server is to speak where an exchange runs and the client is not asked
+-- it is the server's turn if an exchange is running and the client isn't asked
 pub due_of : (s : State) → rests s ≡ false → listens s ≡ false → is_due s ≡ true
 due_of s n l = elim (turn s) [
   | inl e ↦ (let no : rests s ≡ true = ap rests e in absurd cc)
@@ -113,7 +113,7 @@ not_true : (b : Bool) → not b ≡ true → b ≡ false
 not_true true h = absurd cc
 not_true false h = refl
 
--- a report comes where the server is to speak, and no login runs
+-- a progress report comes at the server's turn, outside a login
 pub reports_parts : (s : State) → reports s ≡ true → (is_due s ≡ true) × (is_login s ≡ false)
 reports_parts s h = let b = and_parts (is_due s) (not (is_login s)) h in (b.0, not_true (is_login s) b.1)
 
@@ -125,9 +125,9 @@ pub entrance_listens : (o : InitialPhase) → listens (entrance o) ≡ false
 entrance_listens opened_at.Login = refl
 entrance_listens opened_at.Commands = refl
 
--- ---- after each packet the client is asked or not, by its kind; and inside of an exchange each is of a kind that is inside
+-- ---- a packet's kind says whether the client is asked after it, and whether it is inside an exchange
 
--- what the client is asked for, and whether a login runs, and whether no command comes any more
+-- what the client is asked for, whether a login is running, and whether the connection is over
 abbrev pub stance : State → Bool × Bool × Bool
 stance s = (listens s, is_login s, is_shut s)
 
@@ -205,7 +205,7 @@ may_shut answer.Quit = true
 may_shut answer.Clone = true
 may_shut _ = false
 
--- after COM_QUIT no command comes
+-- no command comes after COM_QUIT
 pub answers_shut : (r : Answer) → is_shut (answers r) ≡ is_quit r
 answers_shut (answer.Results r) = refl
 answers_shut answer.Prepared = refl
@@ -262,7 +262,7 @@ fits_status (Some status) = fits_cond (has_more status) _ _ tt (refl, refl)
 fits_authentication : (a : Agreed) (p : List ℕ) (status : Option StatusFlags) → Fits (authentication_step a false p status)
 fits_authentication a p status = fits_cond (first_is 0 p) _ _ (fits_status status) (asking true (asks (authentication_kind a p)) (sym (kind_asks a p)), kind_inside a p)
 
--- the same of a login
+-- the same for a login
 abbrev FitsLogin : Option (PacketKind × State) → Type 0
 FitsLogin None = Unit {0}
 FitsLogin (Some x) = (listens x.1 ≡ asks x.0) × (inside x.0 ≡ true) × (is_shut x.1 ≡ false) × (is_in (name_of x.0) (name.Error ∷ []) ≡ false)
@@ -342,7 +342,7 @@ fits_prepared : (d : Bool) (s : Option StmtPacketWithMetadata) → Fits (prepare
 fits_prepared d None = tt
 fits_prepared d (Some s) = (prepared_listens d (definitions_follow s) (num_columns (packet_of s)) (num_params (packet_of s)), refl)
 
--- of the OK packet that answers COM_CLONE alone no more commands come
+-- only after the OK packet that answers COM_CLONE, no more commands come
 fits_last_ok : (r : Option Reply) → Fits (last_ok state.Rest r)
 fits_last_ok (Some (reply.Ok more)) = fits_cond more _ _ tt (refl, refl)
 fits_last_ok (Some reply.Infile) = tt
@@ -357,7 +357,7 @@ fits_acknowledgement d may_end (Some (line.End more)) r = fits_last_end d may_en
 fits_acknowledgement d may_end (Some line.Row) r = fits_last_ok r
 fits_acknowledgement d may_end None r = tt
 
--- an exchange runs that is neither a login nor COM_CLONE
+-- an exchange other than a login and COM_CLONE is running
 abbrev pub is_plain : State → Bool
 is_plain (state.Authentication true is_asked) = false
 is_plain state.CloneReply = false
@@ -393,7 +393,7 @@ fits_answer : (b : Bool) → Fits (answer_step false b)
 fits_answer true = (refl, refl)
 fits_answer false = tt
 
--- of the client, while an exchange runs
+-- the client's packets while an exchange is running
 fits_client : (s : State) (p : List ℕ) → is_plain s ≡ true → Fits (client_step s p)
 fits_client state.Rest p h = absurd cc
 fits_client (state.Authentication true b) p h = absurd cc
@@ -419,10 +419,10 @@ fits_client state.Over p h = absurd cc
 fitting : (o : Option (PacketKind × State)) (k : PacketKind) (m : State) → Fits o → o ≡ Some (k, m) → Fits (Some (k, m))
 fitting o k m f e = subst (λ o. Fits o) e f
 
--- ---- what a packet says of the state after it, where an exchange runs, and where none does
+-- ---- what a packet says about the state after it, while an exchange is running and otherwise
 
--- the client is asked after it just where its kind says so; it is inside of an exchange just where one runs; and no command comes after it
--- just where its name says so
+-- its kind says whether the client is asked after it; it is inside an exchange exactly if one is running; and no command comes after it
+-- exactly if its name says so
 abbrev Says : State → PacketKind → State → Type 0
 Says s k m = (listens m ≡ asks k) × (inside k ≡ not (rests s)) × (is_shut m ≡ is_in (name_of k) (shutting_names s))
 
@@ -503,7 +503,7 @@ served_says a s p k m (inr (inr (inr (inr (inl e))))) h = let no : serve a state
 served_says a s p k m (inr (inr (inr (inr (inr (inl e)))))) h = let no : serve a state.Quit p ≡ Some (k, m) = subst (λ s. serve a s p ≡ Some (k, m)) e h in absurd cc
 served_says a s p k m (inr (inr (inr (inr (inr (inr e)))))) h = plain_says s k m e (fitting (serve a s p) k m (fits_serve a s p e) h)
 
--- where an exchange runs that is neither a login nor COM_CLONE, an error ends it
+-- an error ends a running exchange other than a login and COM_CLONE
 pub plain_error : (s : State) → is_plain s ≡ true → error_step s ≡ Some (kind.Error, state.Rest)
 plain_error state.Rest h = absurd cc
 plain_error (state.Authentication true b) h = absurd cc
@@ -528,7 +528,7 @@ pub failed_clone : (r : Bool) → failed r state.Clone ≡ Some (kind.Clone, sta
 failed_clone true = refl
 failed_clone false = refl
 
--- what begins with ff is an error, or a packet of the clone plugin
+-- a packet that begins with ff is an error, or one of the clone plugin
 pub failed_is : (r : Bool) (s : State) (k : PacketKind) (m : State) → failed r s ≡ Some (k, m) → ((r ≡ false) × (error_step s ≡ Some (k, m))) ⊎ ((s ≡ state.Clone) × (kind.Clone ≡ k) × (state.Clone ≡ m))
 failed_is r state.Clone k m h = let e = some_is (sym (failed_clone r) ∙ h) in inr (refl, ap (λ (x : PacketKind × State). x.0) e, ap (λ (x : PacketKind × State). x.1) e)
 failed_is true _ k m h = absurd cc
@@ -566,13 +566,13 @@ take_says a s p k m h = elim (chosen (is_report a p && reports s) _ _ _ h) [
   | inr r ↦ step_says a s p k m r.1
 ]
 
--- no command comes after a packet of the server just where its name says so
+-- whether commands may follow a packet of the server is determined by its name
 pub take_shuts : (a : Agreed) (s : State) (p : List ℕ) (k : PacketKind) (m : State) → take_step a s Server p ≡ Some (k, m) → is_shut m ≡ is_in (name_of k) (shutting_names s)
 take_shuts a s p k m h = (take_says a s p k m h).2
 
 -- ---- of the client
 
--- at rest there are commands
+-- between exchanges there are commands
 begun_listens : (code : ℕ) (r : Option Answer) (k : PacketKind) (m : State) → begun code r ≡ Some (k, m) → (listens m ≡ asks k) × (inside k ≡ false)
 begun_listens code None k m h = absurd cc
 begun_listens code (Some r) k m h = subst (λ (x : PacketKind × State). (listens x.1 ≡ asks x.0) × (inside x.0 ≡ false)) (some_is h) (answers_quiet r, refl)
@@ -601,7 +601,7 @@ client_listens s p k m (inr (inr (inr (inr (inr (inr e)))))) h =
 
 -- ---- of both
 
--- the client is asked after a packet just where its kind says so, and a packet is inside of an exchange just where one runs
+-- a packet's kind says whether the client is asked after it, and a packet is inside an exchange exactly if one is running
 pub step_listens : (a : Agreed) (s : State) (side : Side) (p : List ℕ) (k : PacketKind) (m : State) → step a s side p ≡ Some (k, m) → (listens m ≡ asks k) × (inside k ≡ not (rests s))
 step_listens a s Client p k m h = client_listens s p k m (special s) h
 step_listens a s Server p k m h = let f = step_says a s p k m h in (f.0, f.1)
@@ -685,7 +685,7 @@ stays_no_login a s Server p k m l h = elim (chosen (first_is 0xff p) _ _ _ h) [
   | inr e ↦ no_login (serve a s p) k m (serve_no_login a s p (special s) l) e.1
 ]
 
--- ---- a login is over after a packet whose kind says so
+-- ---- a packet's kind says whether a login is over after it
 
 pub login_is : (s : State) → is_login s ≡ true → (b : Bool) × (s ≡ state.Authentication true b)
 login_is (state.Authentication true b) h = (b, refl)
@@ -730,7 +730,7 @@ step_login a s side p k m h = elim (cases_Bool (is_login s)) [
   | inr n ↦ stays_no_login a s side p k m n h ∙ ap (λ b. b && not (ends_login k)) (sym n)
 ]
 
--- an error in an exchange ends it, but of a login
+-- an error ends the running exchange, unless it is a login
 pub error_rests : (s : State) → rests s ≡ false → is_login s ≡ false → error_step s ≡ Some (kind.Error, state.Rest)
 error_rests s n l = elim (special s) [
   | inl e ↦ (let no : rests s ≡ true = ap rests e in absurd cc)
@@ -742,7 +742,7 @@ error_rests s n l = elim (special s) [
   | inr (inr (inr (inr (inr (inr e))))) ↦ plain_error s e
 ]
 
--- an error in an exchange is one, and no exchange runs after it
+-- an error ends the running exchange
 pub error_ends : (s : State) → rests s ≡ false → (m : State) × (error_step s ≡ Some (kind.Error, m)) × (rests m ≡ true)
 error_ends s n = elim (cases_Bool (is_login s)) [
   | inl l ↦ (state.Over, login_error s l, refl)
@@ -754,7 +754,7 @@ error_ends s n = elim (cases_Bool (is_login s)) [
     login_error (state.Authentication false b) h = absurd cc
     login_error _ h = absurd cc
 
--- no packet inside of an exchange is a command
+-- no packet inside an exchange is a command
 pub inside_command : (k : PacketKind) → inside k ≡ true → commands k ≡ false
 inside_command (kind.Command code) h = absurd cc
 inside_command _ h = refl

@@ -1,4 +1,4 @@
--- Each list that the machine with commands that wait takes is the beginning of a pipelined conversation, and each beginning is taken.
+-- The machine with waiting commands accepts exactly the beginnings of pipelined conversations.
 use Rattle.mysql_conversation.specs.Agreements.{Agreed}
 use Rattle.std.proofs.Common.{◌≡◌, ℕ, List, [], ◌∷◌, ◌++◌, ◌⊎◌, inl, inr, Some, None, refl, sym, ap, subst, ◌∙◌, Bool, true, false}
 use Rattle.std.proofs.lemmas.Bool.{cases_Bool}
@@ -25,7 +25,7 @@ use Rattle.mysql_conversation.specs.declared.state.State.TheVariants as state
 use Rattle.mysql_conversation.specs.declared.packet_kind.InitialPhase.{InitialPhase}
 use Rattle.mysql_conversation.specs.declared.pipeline.Waiting.{Waiting}
 
--- ---- pipelined conversations are what is taken
+-- ---- pipelined conversations are what the machine accepts
 
 start_sound : (o : InitialPhase) → Sound (start o)
 start_sound o = ((λ h. refl), tt)
@@ -42,7 +42,7 @@ run_is_pipelined d o items t r over =
     let p = in_turn_plain d (entrance o) 0 h.0 t h.2 in
     (h.0, takes_is_conversation d o (packets h.0) (t.state, p.0, over.0), p.1, subst (λ b. Early b items h.0) (entrance_listens o) h.1)
 
--- ---- after some packets no exchange runs, and no command waits
+-- ---- some packets lead to a state without a running exchange or waiting command
 
 abbrev PipeEnds : Agreed → Standing → Type 0
 PipeEnds d w = (more : List Numbered) × (t : Standing) × PipeRun d w more t × Over t
@@ -50,7 +50,7 @@ PipeEnds d w = (more : List Numbered) × (t : Standing) × PipeRun d w more t ×
 then_ends : (d : Agreed) (w : Standing) (x : Numbered) (m : Standing) → Steps d w x m → PipeEnds d m → PipeEnds d w
 then_ends d w x m e h = (x ∷ h.0, h.1, (m, e, h.2), h.3)
 
--- the exchange that runs comes to its end, if the others do
+-- the running exchange ends, if the others do
 abbrev Settles : Agreed → ℕ → ℕ → List Waiting → State → Type 0
 Settles d i l q s = PipeEnds d (settle s i l q)
 
@@ -59,7 +59,7 @@ served_ends d i l q s p k rs e h =
     subst (λ w. PipeEnds d w) (sym (settle_stays s i l q (running_idle s rs)))
     (then_ends d (standing s i l q) (place Server p k i) (settle state.Rest i l q) (server_next d (standing s i l q) (place Server p k i) state.Rest (settle state.Rest i l q) refl e refl refl refl) h)
 
--- a login comes to its end by an OK packet, and another exchange by an error
+-- an OK packet ends a login, and an error ends another exchange
 login_step : (d : Agreed) (b : Bool) → take_step d (state.Authentication true b) Server ok_bytes ≡ Some (kind.Ok, state.Rest)
 login_step d b = rw (no_report d ok_bytes refl, ok_status_of d plain ok_bytes (ok_spelled d)) refl
 
@@ -69,7 +69,7 @@ each_settles d i l q s n h = elim (cases_Bool (is_login s)) [
   | inr e ↦ served_ends d i l q s (0xff ∷ []) kind.Error n (rw (short_report d) (failed_no_report s ∙ error_rests s n e)) h
 ]
 
--- the commands that wait come to their ends, and the last may be COM_QUIT
+-- the exchanges of the waiting commands end, and the last command may be COM_QUIT
 rest_settles : (d : Agreed) (i l : ℕ) (q : List Waiting) → OnlyLast q → Settles d i l q state.Rest
 rest_settles d i l [] o = ([], standing state.Rest i l [], refl, (refl, refl))
 rest_settles d i l (n ∷ q) o = elim (begin_due n.command) [
@@ -115,7 +115,7 @@ beginning_runs d o items h =
 pub one_standing : (d : Agreed) (w : Standing) (x : Numbered) (m n : Standing) → Steps d w x m → Steps d w x n → m ≡ n
 one_standing d w x m n e f = ap (λ (o : Outcome). o.2) (some_is (sym e ∙ f))
 
--- where a packet is refused, no kind and no number makes the list with it a beginning
+-- if a packet is refused, the list with it is no beginning under any kind and number
 pub pipe_refused : (d : Agreed) (o : InitialPhase) (items : List Numbered) (w : Standing) (x : Numbered) → PipeRun d (start o) items w → step_of d w x ≡ None → IsPipelinedBeginning d o (items ++ x ∷ []) → ⊥
 pipe_refused d o items w x r e h =
     let b = beginning_runs d o (items ++ x ∷ []) h in
@@ -125,7 +125,7 @@ pipe_refused d o items w x r e h =
     let none : step_of d p.0 x ≡ None = subst (λ w. step_of d w x ≡ None) (sym same) e in
     absurd (cc (q, none))
 
--- ---- at rest, and one packet more
+-- ---- no exchange runs, and one more packet
 
 pub pipe_at_rest : (d : Agreed) (o : InitialPhase) (items : List Numbered) (w : Standing) → PipeRun d (start o) items w → IsPipelined d o items → Over w
 pipe_at_rest d o items w r h =
@@ -135,13 +135,13 @@ pipe_at_rest d o items w r h =
 pub pipe_one_more : (d : Agreed) (o : InitialPhase) (items : List Numbered) (w : Standing) (side : Side) (p : List ℕ) (k : PacketKind) (n : ℕ) (m : Standing) → PipeRun d (start o) items w → pipe_step d w side p ≡ Some (k, n, m) → PipeRun d (start o) (items ++ place side p k n ∷ []) m
 pipe_one_more d o items w side p k n m r e = join (Steps d) (start o) items w (place side p k n ∷ []) m r (m, e, refl)
 
--- a step that is taken goes on with what was taken
+-- an accepted step continues the accepted packets
 pub pipe_comes : (d : Agreed) (o : InitialPhase) (items : List Numbered) (w : Standing) (side : Side) (p : List ℕ) (r : Option Outcome) → PipeRun d (start o) items w → pipe_step d w side p ≡ r → r ≢ None
     → (k : PacketKind) × (n : ℕ) × IsPipelinedBeginning d o (items ++ place side p k n ∷ [])
 pipe_comes d o items w side p None run e h = absurd (h refl)
 pipe_comes d o items w side p (Some x) run e h = (x.0, x.1, run_is_beginning d o (items ++ place side p x.0 x.1 ∷ []) x.2 (pipe_one_more d o items w side p x.0 x.1 x.2 run e))
 
--- a packet is of one kind, and of one exchange, after what came before it
+-- the earlier packets determine a packet's kind and exchange
 pub pipe_one_kind : (d : Agreed) (o : InitialPhase) (items : List Numbered) (side : Side) (p : List ℕ) (j k : PacketKind) (m n : ℕ)
     → IsPipelinedBeginning d o (items ++ place side p j m ∷ []) → IsPipelinedBeginning d o (items ++ place side p k n ∷ []) → (j ≡ k) × (m ≡ n)
 pipe_one_kind d o items side p j k m n g h =
@@ -154,7 +154,7 @@ pipe_one_kind d o items side p j k m n g h =
     let o = some_is (sym u ∙ y.2.1) in
     (ap (λ (o : Outcome). o.0) o, ap (λ (o : Outcome). o.1) o)
 
--- ---- a conversation in which no command comes early
+-- ---- a conversation without pipelined commands
 
 numbered_packets : (n : ℕ) (items : List Packet) → packets (numbered n items) ≡ items
 numbered_packets n [] = refl
@@ -171,7 +171,7 @@ early_same b (x ∷ xs) = inl (xs, refl, early_same (asks x.packet.kind) xs)
 pub conversation_is_pipelined : (d : Agreed) (o : InitialPhase) (items : List Packet) → IsConversation d o items → IsPipelined d o (numbered 0 items)
 conversation_is_pipelined d o items h = (numbered 0 items, subst (λ xs. IsConversation d o xs) (sym (numbered_packets 0 items)) h, numbered_are 0 items, early_same false (numbered 0 items))
 
--- ---- what the calls say
+-- ---- the results of the calls
 
 pub none_waits : (q : List Waiting) → waits q ≡ false → q ≡ []
 none_waits [] h = refl
@@ -185,6 +185,6 @@ pub lift_err : {A E : Type 0} {P Q : E → Type 0} (r : Result A E) → ((x : E)
 lift_err (Ok x) f h = tt
 lift_err (Err e) f h = f e h
 
--- what was agreed on and where it began stay
+-- the agreement and the initial phase are unchanged
 pub run_stays : (d e : Agreed) (o q : InitialPhase) (xs : List Numbered) (t : Standing) → e ≡ d → q ≡ o → PipeRun d (start o) xs t → PipeRun e (start q) xs t
 run_stays d e o q xs t a b r = subst (λ e. PipeRun e (start q) xs t) (sym a) (subst (λ q. PipeRun d (start q) xs t) (sym b) r)

@@ -1,4 +1,4 @@
--- What the machine takes, the grammar allows: what may come from each state on, up to the end of the exchange.
+-- The grammar allows what the machine accepts: what may come from each state up to the end of the exchange.
 use Rattle.std.proofs.Common.{◌≡◌, ℕ, zero, suc, List, ◌∷◌, inl, inr, refl, ap, Bool, true, false}
 use Rattle.mysql_wire.specs.Flags.{StatusFlags}
 use Rattle.mysql_conversation.specs.Agreements.{Agreed, deprecates_eof}
@@ -30,7 +30,7 @@ infile_answer a r = (c.ok a true followed_by c.results a r) or c.ok a false
 abbrev pub rows_answer : Agreed → Request → Part
 rows_answer a r = (c.end a true followed_by c.results a r) or c.end a false
 
--- the EOF packet of columns after which the cursor that was asked for is open
+-- the EOF packet after the columns of an open cursor
 abbrev pub cursor : Agreed → Request → Bool → Bool → Part
 cursor a Query d more = never
 cursor a Execution d more = never
@@ -103,7 +103,7 @@ more_results a f items mid rest x b = (b.0, many_more (c.result a f true) items 
 pub last_result : (a : Agreed) (f : Request) (items rest : List Packet) → c.result a f false items rest → c.results a f items rest
 last_result a f items rest x = (items, many_none (c.result a f true) items, x)
 
--- a file, and what answers it
+-- a file, and its answer
 pub answered_file : (a : Agreed) (f : Request) (items mid rest : List Packet) → c.loaded items mid → infile_answer a f mid rest → c.results a f items rest
 answered_file a f items mid rest x (inl b) = more_results a f items b.0 rest (inr (inl (mid, x, b.1))) b.2
 answered_file a f items mid rest x (inr b) = last_result a f items rest (inr (inl (mid, x, b)))

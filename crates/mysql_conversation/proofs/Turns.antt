@@ -1,4 +1,4 @@
--- What commands do, and what packets of the client that are none.
+-- The effects of commands, and of the client's other packets.
 use Rattle.std.proofs.Common.{◌≡◌, ℕ, List, [], ◌∷◌, ◌⊎◌, inl, inr, Option, Some, None, refl, sym, ap, subst, ◌∙◌, Bool, true, false}
 use Rattle.std.proofs.lemmas.Bool.{eqb-true}
 use Rattle.std.specs.Prelude.{◌==◌, not}
@@ -18,7 +18,7 @@ use Rattle.mysql_conversation.specs.declared.packet_kind.Side.TheVariants.{Clien
 use Rattle.mysql_conversation.specs.declared.state.State.{State}
 use Rattle.mysql_conversation.specs.declared.state.State.TheVariants as state
 
--- a command at rest
+-- a command between exchanges
 abbrev pub command_step : Option Command → Option (PacketKind × State)
 command_step None = None
 command_step (Some c) = Some (kind_of c, begin c)
@@ -39,11 +39,11 @@ kind_is_command c = refl
 pub begin_listens : (c : Command) → listens (begin c) ≡ false
 begin_listens c = answers_quiet c.answer
 
--- after COM_QUIT no command comes
+-- no command comes after COM_QUIT
 pub begin_shut : (c : Command) → is_shut (begin c) ≡ is_quit c.answer
 begin_shut c = answers_shut c.answer
 
--- what answers a command is due, where it is answered
+-- the answer to a command is due, if there is one
 pub begin_due : (c : Command) → (begin c ≡ state.Rest) ⊎ ((is_quit c.answer ≡ true) ⊎ (is_due (begin c) ≡ true))
 begin_due c = answers_due c.answer
   where
@@ -61,11 +61,11 @@ begin_due c = answers_due c.answer
     answers_due answer.Clone = inr (inr refl)
     answers_due answer.SessionError = inr (inr refl)
 
--- what the client says while an exchange runs is no command
+-- the client's packets in a running exchange are no commands
 pub running_kind : (d : Agreed) (s : State) (p : List ℕ) (k : PacketKind) (m : State) → rests s ≡ false → take_step d s Client p ≡ Some (k, m) → commands k ≡ false
 running_kind d s p k m n h = inside_command k ((take_listens d s Client p k m h).1 ∙ ap not n)
 
--- no command begins as an acknowledgement does
+-- no command begins like an acknowledgement
 no_ack : (p : List ℕ) (c : Command) → command_of p ≡ Some c → first_is 0xef p ≡ false
 no_ack [] c h = refl
 no_ack (code ∷ bytes) c h = not_ef code (code == 0xef) refl h
@@ -80,7 +80,7 @@ no_ack (code ∷ bytes) c h = not_ef code (code == 0xef) refl h
 ack_refused : (p : List ℕ) (c : Command) → command_of p ≡ Some c → ack_step p ≡ None
 ack_refused p c h = rw (no_ack p c h) refl
 
--- where the server is to speak, a command is no packet of the exchange
+-- at the server's turn, a command is no packet of the exchange
 pub no_aside : (d : Agreed) (s : State) (p : List ℕ) (c : Command) → is_due s ≡ true → command_of p ≡ Some c → take_step d s Client p ≡ None
 no_aside d state.Rest p c h e = absurd cc
 no_aside d (state.Authentication login true) p c h e = absurd cc

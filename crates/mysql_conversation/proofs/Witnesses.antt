@@ -77,7 +77,7 @@ row_is Query = refl
 row_is Execution = refl
 row_is Cursor = refl
 
--- the end of rows of a state in which it is read so
+-- the end of rows, in a state that reads it so
 comes_end : (a : Agreed) (s m : State) → ((p : List ℕ) → line_of a Text p ≡ Some (line.End false) → line_of a Binary p ≡ Some (line.End false) → serve a s p ≡ Some (ending (deprecates_eof a), m)) → Comes a s Server (end_name (deprecates_eof a))
 comes_end a s m f =
     let e = end_bytes a (deprecates_eof a) in
@@ -85,7 +85,7 @@ comes_end a s m f =
 
 -- ---- counts
 
--- a byte says whether definitions follow, or none
+-- a byte that says whether definitions follow, or no byte
 count_of : Bool → ColumnCount
 count_of true = record { count = raw_int 1; metadata_follows = Some (raw_int 1) }
 count_of false = record { count = raw_int 1; metadata_follows = None }

@@ -1,5 +1,6 @@
 -- Which packets form a conversation: the protocol's pages as a grammar of lists of packets.
 use Rattle.std.specs.Prelude.{◌≡◌, ◌≢◌, ◌⊎◌, ℕ, zero, suc, List, [], ◌∷◌, ◌++◌, Bool, true, false, not, Option, Some, None, ◌==◌, ◌&&◌, if◌then◌else◌}
+use Rattle.mysql_wire.specs.CommandCodes.{COM_SLEEP, COM_QUIT, COM_INIT_DB, COM_QUERY, COM_FIELD_LIST, COM_CREATE_DB, COM_DROP_DB, COM_REFRESH, COM_SHUTDOWN, COM_STATISTICS, COM_PROCESS_INFO, COM_PROCESS_KILL, COM_DEBUG, COM_PING, COM_CHANGE_USER, COM_BINLOG_DUMP, COM_REGISTER_SLAVE, COM_STMT_PREPARE, COM_STMT_EXECUTE, COM_STMT_SEND_LONG_DATA, COM_STMT_CLOSE, COM_STMT_RESET, COM_SET_OPTION, COM_STMT_FETCH, COM_BINLOG_DUMP_GTID, COM_RESET_CONNECTION, COM_CLONE, COM_STMT_BULK_EXECUTE}
 use Rattle.mysql_wire.specs.Flags.{StatusFlags}
 use Rattle.mysql_conversation.specs.Agreements.{Agreed, deprecates_eof, asks_factors}
 use Rattle.mysql_conversation.specs.Parts.{nothing, never, one, ◌followed_by◌, ◌or◌, for_some, times, many, broken}
@@ -207,39 +208,39 @@ execution false = Execution
 -- the answer to a command with this code, if it is a command's
 abbrev pub answering : ℕ → Bool → Option Answer
 answering code cursor =
-    if code == 0x03 then Some (answer.Results Query)  -- COM_QUERY
-    else (if code == 0x17 then Some (answer.Results (execution cursor))  -- COM_STMT_EXECUTE
-    else (if code == 0x16 then Some answer.Prepared  -- COM_STMT_PREPARE
-    else (if code == 0x1c then Some answer.Rows  -- COM_STMT_FETCH
-    else (if code == 0x19 then Some answer.Nothing  -- COM_STMT_CLOSE
-    else (if code == 0x18 then Some answer.Nothing  -- COM_STMT_SEND_LONG_DATA
-    else (if code == 0x01 then Some answer.Quit  -- COM_QUIT
-    else (if code == 0x0e then Some (answer.Acknowledgement false)  -- COM_PING
-    else (if code == 0x02 then Some (answer.Acknowledgement false)  -- COM_INIT_DB
-    else (if code == 0x1a then Some (answer.Acknowledgement false)  -- COM_STMT_RESET
-    else (if code == 0x1b then Some (answer.Acknowledgement true)  -- COM_SET_OPTION
-    else (if code == 0x1f then Some (answer.Acknowledgement false)  -- COM_RESET_CONNECTION
-    else (if code == 0x09 then Some answer.Text  -- COM_STATISTICS
-    else (if code == 0x0a then Some (answer.Results Query)  -- COM_PROCESS_INFO
-    else (if code == 0xfa then Some (answer.Results Execution)  -- COM_STMT_BULK_EXECUTE
-    else (if code == 0x04 then Some answer.Fields  -- COM_FIELD_LIST
-    else (if code == 0x05 then Some (answer.Acknowledgement false)  -- COM_CREATE_DB
-    else (if code == 0x06 then Some (answer.Acknowledgement false)  -- COM_DROP_DB
-    else (if code == 0x07 then Some (answer.Acknowledgement false)  -- COM_REFRESH
-    else (if code == 0x08 then Some (answer.Acknowledgement true)  -- COM_SHUTDOWN
-    else (if code == 0x0c then Some (answer.Acknowledgement false)  -- COM_PROCESS_KILL
-    else (if code == 0x0d then Some (answer.Acknowledgement true)  -- COM_DEBUG
-    else (if code == 0x15 then Some (answer.Acknowledgement false)  -- COM_REGISTER_SLAVE
-    else (if code == 0x11 then Some answer.Authentication  -- COM_CHANGE_USER
-    else (if code == 0x12 then Some answer.Events  -- COM_BINLOG_DUMP
-    else (if code == 0x1e then Some answer.Events  -- COM_BINLOG_DUMP_GTID
-    else (if code == 0x20 then Some answer.Clone  -- COM_CLONE
+    if code == COM_QUERY then Some (answer.Results Query)
+    else (if code == COM_STMT_EXECUTE then Some (answer.Results (execution cursor))
+    else (if code == COM_STMT_PREPARE then Some answer.Prepared
+    else (if code == COM_STMT_FETCH then Some answer.Rows
+    else (if code == COM_STMT_CLOSE then Some answer.Nothing
+    else (if code == COM_STMT_SEND_LONG_DATA then Some answer.Nothing
+    else (if code == COM_QUIT then Some answer.Quit
+    else (if code == COM_PING then Some (answer.Acknowledgement false)
+    else (if code == COM_INIT_DB then Some (answer.Acknowledgement false)
+    else (if code == COM_STMT_RESET then Some (answer.Acknowledgement false)
+    else (if code == COM_SET_OPTION then Some (answer.Acknowledgement true)
+    else (if code == COM_RESET_CONNECTION then Some (answer.Acknowledgement false)
+    else (if code == COM_STATISTICS then Some answer.Text
+    else (if code == COM_PROCESS_INFO then Some (answer.Results Query)
+    else (if code == COM_STMT_BULK_EXECUTE then Some (answer.Results Execution)
+    else (if code == COM_FIELD_LIST then Some answer.Fields
+    else (if code == COM_CREATE_DB then Some (answer.Acknowledgement false)
+    else (if code == COM_DROP_DB then Some (answer.Acknowledgement false)
+    else (if code == COM_REFRESH then Some (answer.Acknowledgement false)
+    else (if code == COM_SHUTDOWN then Some (answer.Acknowledgement true)
+    else (if code == COM_PROCESS_KILL then Some (answer.Acknowledgement false)
+    else (if code == COM_DEBUG then Some (answer.Acknowledgement true)
+    else (if code == COM_REGISTER_SLAVE then Some (answer.Acknowledgement false)
+    else (if code == COM_CHANGE_USER then Some answer.Authentication
+    else (if code == COM_BINLOG_DUMP then Some answer.Events
+    else (if code == COM_BINLOG_DUMP_GTID then Some answer.Events
+    else (if code == COM_CLONE then Some answer.Clone
     else (if code == 0xef then None  -- an acknowledgement of an event
     else Some answer.SessionError)))))))))))))))))))))))))))
 
 -- the command code; a server takes an empty packet for COM_SLEEP (`Protocol_classic::get_command` in MySQL, `do_command` in MariaDB)
 abbrev pub code_of : List ℕ → ℕ
-code_of [] = 0
+code_of [] = COM_SLEEP
 code_of (code ∷ bytes) = code
 
 abbrev pub command : ℕ → Bool → Part

@@ -1,10 +1,10 @@
--- A fitting cut exists exactly where each row fits alone in its place.
+-- A fitting cut exists exactly if each row fits alone at its place.
 use Rattle.std.proofs.Common.{◌≡◌, ◌↔◌, Bool, true, false, List, [], ◌∷◌, ◌++◌, refl, sym, ap, subst, arith}
 use Rattle.mysql_cuts.specs.Cut.{Packing, PartFits, FitsFrom, rows_in, NoneEmpty, HasFittingCut, RowsFitAlone}
 use Rattle.mysql_cuts.proofs.Packed.{PartFits-back, PartFits-front}
 
 module _ {X : Type 0} (k : Packing X) where
-  -- what fits with types fits in a later place too
+  -- a row that fits with types fits at a later place too
   later_fits : (always : Bool) (part : List X) → k.types_always ≡ always → PartFits k true part → PartFits k k.types_always part
   later_fits true part e f = let P : Bool → Type 0 = λ t. PartFits k t part in subst P (sym e) f
   later_fits false part e f = let P : Bool → Type 0 = λ t. PartFits k t part in subst P (sym e) (let h = f.0 in omega arith, f.1)
@@ -33,7 +33,7 @@ module _ {X : Type 0} (k : Packing X) where
       let more = singles_fit k.types_always rows r.1 in
       ((x ∷ []) ∷ more.0, (λ e. cc, more.1), ap (λ (l : List X). x ∷ l) more.2, (r.0, more.3))
 
-  -- a fitting cut exists exactly where each row fits alone in its place
+  -- a fitting cut exists exactly if each row fits alone at its place
   pub fits_alone : (rows : List X) → HasFittingCut k rows ↔ RowsFitAlone k true rows
   fits_alone rows = (
     λ c. subst (RowsFitAlone k true) c.1.0.1 (alone_cut c.0 c.1.0.0 c.1.1),

@@ -5,7 +5,7 @@ use Rattle.std.proofs.lemmas.List.{take_all}
 use Rattle.mysql_cuts.specs.Cut.{Packing, rows_in, NoneEmpty, rows_in_first, IsFittingCut, IsFewest, IsFullFromFront}
 
 module _ {X : Type 0} where
-  -- fewer parts than there are hold fewer rows
+  -- fewer parts hold fewer rows
   fewer_rows : (parts : List (List X)) (n : ℕ) → NoneEmpty parts → n < length parts → rows_in_first n parts < length (rows_in parts)
   fewer_rows [] n m h = absurd (omega arith)
   fewer_rows ([] ∷ parts) n m h = absurd (m.0 refl)

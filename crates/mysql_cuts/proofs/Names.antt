@@ -7,7 +7,7 @@ use Rattle.mysql_cuts.specs.Cut.{Packing, request_size, WithinRows, PartFits, Fi
 use Rattle.mysql_cuts.specs.Fewest.{NamesFitting, NamesFewest, CapacityIs}
 use Rattle.mysql_cuts.proofs.Packed.{types_after_push, IsPacked, packed_none, packed_more, packed_close, packed_stuck, packed_fewest, fits_front, length-parts}
 
--- these ends name a fitting cut of the rows that come after `start` others
+-- these ends are a fitting cut of the rows after the first `start`
 pub record Names (k : Packing ℕ) (types : Bool) (start : ℕ) (rows : List ℕ) (ends : List ℕ) : Type 0 where
   pub parts : List (List ℕ)
   pub named : ends ≡ ends_after start parts
@@ -15,7 +15,7 @@ pub record Names (k : Packing ℕ) (types : Bool) (start : ℕ) (rows : List ℕ
   pub whole : rows_in parts ≡ rows
   pub fits : FitsFrom k types parts
 
--- a packer has come to place i of the rows: this many parts are closed, and a given number of rows are in the open one, which has this capacity
+-- a packer at place i of the rows: the number of closed parts, of rows in the open one, and its remaining capacity
 pub record Counts (k : Packing ℕ) (rows : List ℕ) (i closed inside : ℕ) (capacity : Option ℕ) : Type 0 where
   pub full : List (List ℕ)
   pub part : List ℕ
@@ -33,7 +33,7 @@ nonempty-from_length [] h e = absurd (omega arith)
 nonempty-from_length (x ∷ p) h e = cc
 
 module _ (k : Packing ℕ) where
-  -- what is asked of the first end
+  -- the condition on the first end
   pub record Begins (types : Bool) (start : ℕ) (rows : List ℕ) (e : ℕ) (es : List ℕ) : Type 0 where
     pub after : start < e
     pub within : e ≤ start + length rows
@@ -63,7 +63,7 @@ module _ (k : Packing ℕ) where
   pub begins : (types : Bool) (start : ℕ) (rows : List ℕ) (e : ℕ) (es : List ℕ) → Names k types start rows (e ∷ es) → Begins types start rows e es
   begins types start rows e es n = begins-parts types start rows e es n.parts n.named n.none_empty n.whole n.fits
 
-  -- one more part before a fitting cut
+  -- one more part at the front of a fitting cut
   pub goes_on : (types : Bool) (start : ℕ) (rows : List ℕ) (e : ℕ) (es : List ℕ) → Begins types start rows e es → Names k types start rows (e ∷ es)
   goes_on types start rows e es b =
       let width : length (take (e - start) rows) ≡ e - start = length-take-le (e - start) rows (let h = b.within in omega arith) in
@@ -80,21 +80,21 @@ module _ (k : Packing ℕ) where
   ends_none start [] n = refl
   ends_none start (p ∷ ps) n = cc
 
-  -- with no ends left there are no rows
+  -- without ends there are no rows
   pub names_end : (types : Bool) (start : ℕ) (rows : List ℕ) → Names k types start rows [] → rows ≡ []
   names_end types start rows n = sym n.whole ∙ ends_none start n.parts n.named
 
   pub names_none : (types : Bool) (start : ℕ) (rows : List ℕ) → rows ≡ [] → Names k types start rows []
   names_none types start rows e = record { parts = []; named = refl; none_empty = tt; whole = sym e; fits = tt }
 
-  -- the ends of a whole cut
+  -- the ends of a complete cut
   pub names_whole : (sizes ends : List ℕ) → NamesFitting k sizes ends → Names k true 0 sizes ends
   names_whole sizes ends n = record { parts = n.0; named = n.1; none_empty = n.2.0.0; whole = n.2.0.1; fits = n.2.1 }
 
   pub whole_names : (sizes ends : List ℕ) → Names k true 0 sizes ends → NamesFitting k sizes ends
   whole_names sizes ends n = (n.parts, n.named, ((n.none_empty, n.whole), n.fits))
 
-  -- a loop over the ends has come to place i
+  -- a loop over the ends at place i
   pub begins_at : (types : Bool) (start : ℕ) (sizes ends : List ℕ) (i : ℕ) → i < length ends → start ≤ length sizes → Names k types start (drop start sizes) (drop i ends)
       → Begins types start (drop start sizes) (get_or ends i 0) (drop (i + 1) ends)
   begins_at types start sizes ends i h s n =
@@ -121,7 +121,7 @@ module _ (k : Packing ℕ) where
       let rest : drop (get_or ends i 0 - start) (drop start sizes) ≡ drop (get_or ends i 0) sizes = drop-drop (get_or ends i 0 - start) start sizes ∙ ap (λ m. drop m sizes) at in
       subst Q rest b.others
 
-  -- the loop over the ends has come to their end
+  -- the loop over the ends at the end
   pub names_last : (types : Bool) (start : ℕ) (sizes ends : List ℕ) (i : ℕ) → length ends ≤ i → start ≤ length sizes → Names k types start (drop start sizes) (drop i ends) → start ≡ length sizes
   names_last types start sizes ends i h s n =
       let P : List ℕ → Type 0 = Names k types start (drop start sizes) in
@@ -147,7 +147,7 @@ module _ (k : Packing ℕ) where
       let b = c.inside_is in
       omega (arith, whole, length-append (rows_in c.full) c.part, length-take-le i rows h)
 
-  -- the next row has capacity in the open part
+  -- the next row fits the open part
   pub counts_more : (rows : List ℕ) (i closed inside left : ℕ) (capacity : Option ℕ) → i < length rows → Counts k rows i closed inside capacity
       → WithinRows k.max_rows (inside + 1) → capacity ≡ Some (left + get_or rows i 0) → ((n : ℕ) → k.weight n ≡ n) → Counts k rows (i + 1) closed (inside + 1) (Some left)
   counts_more rows i closed inside left capacity h c w r plain =
@@ -182,7 +182,7 @@ module _ (k : Packing ℕ) where
       let tight : had < x = n (subst W count f.1) in
       omega arith
 
-  -- the next row has no capacity in the open part, which has rows: it is closed
+  -- the next row doesn't fit the open part, which has rows: it is closed
   pub counts_close : (rows : List ℕ) (i closed inside : ℕ) (capacity later : Option ℕ) → i < length rows → Counts k rows i closed inside capacity → 0 < inside
       → (WithinRows k.max_rows (inside + 1) → IfSome capacity (λ had. had < get_or rows i 0)) → ((n : ℕ) → k.weight n ≡ n) → CapacityIs k k.types_always [] later → Counts k rows i (closed + 1) 0 later
   counts_close rows i closed inside capacity later h c some n plain r =
@@ -202,7 +202,7 @@ module _ (k : Packing ℕ) where
         capacity_is = subst T (sym (types_after_push k true c.full c.part)) r;
       }
 
-  -- the next row has no capacity in an open part without rows
+  -- the next row doesn't fit an open part without rows
   pub counts_stuck : (rows : List ℕ) (i closed : ℕ) (capacity : Option ℕ) → i < length rows → Counts k rows i closed 0 capacity
       → (WithinRows k.max_rows (0 + 1) → IfSome capacity (λ had. had < get_or rows i 0)) → ((n : ℕ) → k.weight n ≡ n) → HasFittingCut k rows → ⊥
   counts_stuck rows i closed capacity h c n plain f =
@@ -215,7 +215,7 @@ module _ (k : Packing ℕ) where
       packed_stuck k c.full (take i rows) x (drop (i + 1) rows) packed (no_capacity (types_after k true c.full) [] x 0 capacity (subst R none c.capacity_is) refl n plain)
       (subst F (take_more rows i 0 h) (fits_front k rows (i + 1) f))
 
-  -- all rows are passed, and the open part has none
+  -- the rows end, and the open part has none
   pub counts_done : (rows : List ℕ) (i closed : ℕ) (capacity : Option ℕ) → length rows ≤ i → Counts k rows i closed 0 capacity → (parts : List (List ℕ)) × IsFewest k rows parts × (length parts ≡ closed)
   counts_done rows i closed capacity h c =
       let P : List ℕ → List ℕ → List ℕ → Type 0 = IsPacked k true c.full in
@@ -224,7 +224,7 @@ module _ (k : Packing ℕ) where
       let b : P [] rows (drop i rows) = subst (λ before. P [] before (drop i rows)) (take_all i rows h) a in
       (c.full, packed_fewest k c.full rows (subst (P [] rows) (drop_all i rows h) b), c.closed_is)
 
-  -- all rows are passed, and the open part is the last
+  -- the rows end, and the open part is the last
   pub counts_last : (rows : List ℕ) (i closed inside : ℕ) (capacity : Option ℕ) → length rows ≤ i → Counts k rows i closed inside capacity → 0 < inside
       → (parts : List (List ℕ)) × IsFewest k rows parts × (length parts ≡ closed + 1)
   counts_last rows i closed inside capacity h c some =
@@ -246,7 +246,7 @@ module _ (k : Packing ℕ) where
       let lengths : length ends ≡ length n.0 = ap length n.1 ∙ length-ends 0 n.0 in
       (n.0, n.1, (n.2, λ others f. let less = best.1.1 others f in omega (arith, less, lengths, l, best.2)))
 
-  -- a fewest cut has as many parts as another
+  -- all fewest cuts have the same number of parts
   pub fewest_count : (sizes ends : List ℕ) (least : ℕ) → (parts : List (List ℕ)) × IsFewest k sizes parts × (length parts ≡ least) → NamesFewest k sizes ends → length ends ≡ least
   fewest_count sizes ends least best n =
       let lengths : length ends ≡ length n.0 = ap length n.1 ∙ length-ends 0 n.0 in

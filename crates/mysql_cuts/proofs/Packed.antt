@@ -1,4 +1,4 @@
--- Cuts that are full from the front: no other cut is ahead of one, and none has fewer parts.
+-- Cuts that are full from the front: no other cut is ahead of one or has fewer parts.
 use Rattle.std.proofs.Common.{◌≡◌, ◌≢◌, ℕ, zero, suc, ◌+◌, ◌-◌, ◌<◌, ◌≤◌, Bool, true, List, [], ◌∷◌, ◌++◌, length, take, drop, Option, Some, None, refl, sym, ◌∙◌, ap, subst, inl, inr, arith, length-append, append_assoc}
 use Rattle.std.proofs.lemmas.Bool.{cases_lt}
 use Rattle.std.proofs.lemmas.List.Sums.{sum_by-append}
@@ -9,7 +9,7 @@ use Rattle.mysql_cuts.specs.Cut.{Packing, WithinRows, PartFits, FitsFrom, rows_i
 
 -- ---- lists
 
--- of two ways to cut one list, the longer front goes on from the shorter
+-- of two fronts of a list, the longer one begins with the shorter
 pub split_longer : {X : Type 0} (r p q s : List X) → p ++ q ≡ r ++ s → length r ≤ length p → (t : List X) × (p ≡ r ++ t) × (s ≡ t ++ q)
 split_longer [] p q s e h = (p, refl, sym e)
 split_longer (y ∷ r) [] q s e h = absurd (omega arith)
@@ -21,12 +21,12 @@ split_longer (y ∷ r) (x ∷ p) q s e h =
 
 -- ---- a part
 
--- a request of fewer rows is allowed too
+-- a request with fewer rows is allowed too
 WithinRows-less : (most : Option ℕ) (m n : ℕ) → m ≤ n → WithinRows most n → WithinRows most m
 WithinRows-less None m n h w = tt
 WithinRows-less (Some most) m n h w = omega arith
 
--- fewer rows at the back
+-- fewer rows at the end
 pub PartFits-back : {X : Type 0} (k : Packing X) (types : Bool) (p q : List X) → PartFits k types (p ++ q) → PartFits k types p
 PartFits-back k types p q f =
     (omega (arith, sum_by-append k.weight p q), WithinRows-less k.max_rows (length p) (length (p ++ q)) (omega (arith, length-append p q)) f.1)
@@ -39,7 +39,7 @@ PartFits-front k types p q f =
 -- ---- a cut that is full from the front
 
 module _ {X : Type 0} (k : Packing X) where
-  -- what goes on past a part that the next row does not fit with, does not fit
+  -- a part that extends beyond a full one doesn't fit
   too_long : (types : Bool) (q extra p : List X) (x : X) (ts : List X) → PartFits k types q → (PartFits k types (p ++ x ∷ []) → ⊥) → q ≡ (extra ++ p) ++ x ∷ ts → ⊥
   too_long types q extra p x ts f n e =
       let same : q ≡ extra ++ ((p ++ x ∷ []) ++ ts) = e ∙ append_assoc extra p (x ∷ ts) ∙ ap (λ (l : List X). extra ++ l) (sym (append_assoc p (x ∷ []) ts)) in
@@ -130,7 +130,7 @@ module _ {X : Type 0} (k : Packing X) where
       let Q : List X → Type 0 = NextDoesNotFit k types q in
       (c.0, subst Q (joined_seam full part rest) c.1, FullFrom-push k.types_always full part rest c.2 (subst P (sym (later full)) p) (subst N (sym (later full)) n))
 
-  -- from a request on that does not send types first, no cut takes a row that does not fit alone
+  -- after the first request, no cut has a row that doesn't fit alone
   stuck_later : (full others : List (List X)) (extra : List X) (x : X) (rest tail : List X) → FullFrom k k.types_always full (x ∷ rest) → FitsFrom k k.types_always others
       → (PartFits k k.types_always (x ∷ []) → ⊥) → rows_in others ++ tail ≡ extra ++ (rows_in full ++ x ∷ rest) → length (rows_in others) ≤ length extra + length (rows_in full)
   stuck_later full [] extra x rest tail c f n e = omega arith
@@ -147,7 +147,7 @@ module _ {X : Type 0} (k : Packing X) where
       let less = stuck_later full others t.0 x rest tail c.2 f.1 n t.2 in
       omega (arith, less, lengths, length-append extra p, length-append q t.0, length-append q (rows_in others), length-append p (rows_in full))
 
-  -- no fitting cut takes a row that does not fit alone where the full parts before it end
+  -- no fitting cut has a row that doesn't fit alone after the full parts before it
   pub stuck : (types : Bool) (full others : List (List X)) (x : X) (rest tail : List X) → FullFrom k types full (x ∷ rest) → NoneEmpty others → FitsFrom k types others
       → (PartFits k (types_after k types full) (x ∷ []) → ⊥) → rows_in others ++ tail ≡ rows_in full ++ x ∷ rest → length (rows_in others) ≤ length (rows_in full)
   stuck types full [] x rest tail c m f n e = omega arith
@@ -164,7 +164,7 @@ module _ {X : Type 0} (k : Packing X) where
       let less = stuck_later full others t.0 x rest tail c.2 f.1 n t.2 in
       omega (arith, less, lengths, length-append q t.0, length-append q (rows_in others), length-append p (rows_in full))
 
-  -- a beginning of rows that are cut has a cut
+  -- the beginning of rows with a cut has a cut
   pub cut_front : (types : Bool) (parts : List (List X)) (n : ℕ) → NoneEmpty parts → FitsFrom k types parts
       → (others : List (List X)) × NoneEmpty others × (rows_in others ≡ take n (rows_in parts)) × FitsFrom k types others
   cut_front types parts zero m f = ([], tt, refl, tt)
@@ -187,9 +187,9 @@ module _ {X : Type 0} (k : Packing X) where
             ((x ∷ p) ∷ others.0, (m.0, others.1), ap (λ (l : List X). x ∷ (p ++ l)) others.2 ∙ ap (λ (l : List X). x ∷ l) (sym g), (f.0, others.3))
       ]
 
-  -- ---- the state of a packer: parts that are closed, rows of an open part, and the rows to come
+  -- ---- the state of a packer: closed parts, the rows of an open part, and the rows to come
 
-  -- the rows of the open part may be a request, if there are any
+  -- the rows of the open part, if there are any, are a fitting request
   abbrev pub OpenFits : Bool → List X → Type 0
   OpenFits types [] = Unit {0}
   OpenFits types (x ∷ xs) = PartFits k types (x ∷ xs)
@@ -230,7 +230,7 @@ module _ {X : Type 0} (k : Packing X) where
     open_fits = OpenFits-from (types_after k types full) (part ++ x ∷ []) f;
   }
 
-  -- the open part is closed, since the next row, if there is one, does not fit with it
+  -- the open part is closed, since there is no next row or it doesn't fit
   pub packed_close : (types : Bool) (full : List (List X)) (part before rest : List X) → IsPacked types full part before rest → part ≢ []
       → NextDoesNotFit k (types_after k types full) part rest → IsPacked types (full ++ part ∷ []) [] before rest
   packed_close types full part before rest p m n = record {
@@ -240,7 +240,7 @@ module _ {X : Type 0} (k : Packing X) where
     open_fits = tt;
   }
 
-  -- ---- where all rows are packed
+  -- ---- all rows are packed
 
   -- all rows are in full parts: the cut is a fewest one
   pub packed_fewest : (full : List (List X)) (rows : List X) → IsPacked true full [] rows [] → IsFewest k rows full
@@ -250,7 +250,7 @@ module _ {X : Type 0} (k : Packing X) where
         λ others c. not_fewer true full others [] [] p.full_so_far p.none_empty c.1 (c.0.1 ∙ sym whole ∙ sym (append-nil (rows_in full))),
       )
 
-  -- the closed parts are full from the front, whatever comes after them
+  -- the closed parts are full from the front, whatever follows them
   pub packed_full : (types : Bool) (full : List (List X)) (part before rest : List X) → IsPacked types full part before rest → types ≡ true → IsFullFromFront k (before ++ rest) full
   packed_full types full part before rest p first n h b others c =
       let whole : before ++ rest ≡ rows_in full ++ (part ++ rest) = ap (λ (l : List X). l ++ rest) (sym p.same) ∙ append_assoc (rows_in full) part rest in
@@ -270,13 +270,13 @@ module _ {X : Type 0} (k : Packing X) where
     ),
   )
 
-  -- a beginning of rows that have a fitting cut has one
+  -- the beginning of rows with a fitting cut has one
   pub fits_front : (rows : List X) (n : ℕ) → HasFittingCut k rows → HasFittingCut k (take n rows)
   fits_front rows n c =
       let others = cut_front true c.0 n c.1.0.0 c.1.1 in
       (others.0, ((others.1, others.2 ∙ ap (take n) c.1.0.1), others.3))
 
-  -- a row that does not fit alone, where a request begins: no fitting cut takes it
+  -- no fitting cut has a row that doesn't fit alone at the start of a request
   pub packed_stuck : (full : List (List X)) (before : List X) (x : X) (rest : List X) → IsPacked true full [] before (x ∷ rest)
       → (PartFits k (types_after k true full) (x ∷ []) → ⊥) → HasFittingCut k (before ++ x ∷ []) → ⊥
   packed_stuck full before x rest p n c =
@@ -290,7 +290,7 @@ module _ {X : Type 0} (k : Packing X) where
   types_after_push types [] part = refl
   types_after_push types (p ∷ parts) part = refl
 
-  -- there are no more parts than rows in them
+  -- there are at most as many parts as rows
   pub length-parts : (parts : List (List X)) → NoneEmpty parts → length parts ≤ length (rows_in parts)
   length-parts [] m = omega arith
   length-parts ([] ∷ parts) m = absurd (m.0 refl)

@@ -1,4 +1,4 @@
--- Cuts of rows and cuts of their weights are the same cuts.
+-- The cuts of rows are the cuts of their weights.
 use Rattle.std.proofs.Common.{◌≡◌, ℕ, ◌+◌, Bool, true, List, [], ◌∷◌, ◌++◌, length, map, take, drop, refl, sym, ◌∙◌, ap, subst, arith}
 use Rattle.std.proofs.lemmas.List.{map-append, length-map, take-map, drop-map, take-append-drop, take_at, drop_at}
 use Rattle.std.proofs.lemmas.List.Sums.{sum-map}
@@ -63,7 +63,7 @@ module _ {X : Type 0} (k : Packing X) where
   length_to : (parts : List (List X)) → length (weigh parts) ≡ length parts
   length_to parts = length-map parts (map k.weight)
 
-  -- a fewest cut is one by the weights
+  -- a fewest cut is fewest by the weights
   pub fewest_weighed : (rows : List X) (parts : List (List X)) → IsFewest k rows parts → IsFewest (weighed k) (map k.weight rows) (weigh parts)
   fewest_weighed rows parts f = (
     ((none_to parts f.0.0.0, joined_to parts ∙ ap (map k.weight) f.0.0.1), all_to true parts f.0.1),

@@ -1,4 +1,4 @@
--- What no payload's frames can be, and that bytes are the frames of one payload at most.
+-- Bytes that are no payload's frames, and that bytes are the frames of at most one payload.
 use Rattle.std.proofs.Common.{◌≡◌, ℕ, ◌+◌, ◌*◌, ◌/◌, ◌%◌, ◌<◌, ◌≤◌, zero, suc, List, [], ◌∷◌, ◌++◌, length, take, drop, refl, sym, ap, subst, ◌∙◌, arith, append_assoc, length-append, length-drop, get_or}
 use Rattle.std.proofs.lemmas.List.{length-take-le}
 use Rattle.mysql_frames.specs.Frames.{header, next, FramedIn}
@@ -6,7 +6,7 @@ use Rattle.mysql_frames.specs.FrameHeader.{length_in}
 use Rattle.mysql_frames.specs.Unfinished.{raw, number_of}
 use Rattle.mysql_frames.proofs.Raw.{number_first, number_more, next_below}
 
--- fronts of one length are one
+-- fronts of the same length are equal
 pub same_front : (xs ys us vs : List ℕ) → length xs ≡ length us → xs ++ ys ≡ us ++ vs → (xs ≡ us) × (ys ≡ vs)
 same_front [] ys [] vs e h = (refl, h)
 same_front [] ys (a ∷ us) vs e h = absurd (omega arith)
@@ -27,7 +27,7 @@ header_same a b m n xs ys h =
 pub length_in_header : (len n : ℕ) (xs : List ℕ) → length_in (header len n ++ xs) ≡ len
 length_in_header len n xs = omega arith
 
--- a whole header is that of the length that it says
+-- a complete header is the header of its length
 pub head_is : (head : List ℕ) → length head ≡ 4 → ((i : ℕ) → get_or head i 0 < 256) → head ≡ header (length_in head) (get_or head 3 0)
 head_is [] e fits = absurd (omega arith)
 head_is (a ∷ []) e fits = absurd (omega arith)
@@ -48,7 +48,7 @@ pub four : (size full number : ℕ) (payload : List ℕ) (after : ℕ) (bytes re
 four size zero number payload after bytes rest h = omega (arith, ap length h.1)
 four size (suc full) number payload after bytes rest h = omega (arith, ap length h.5)
 
--- The header says how long the front is, which is there, and part of the payload.
+-- The header has the length of the front, which is present and part of the payload.
 pub first_header : (size full number : ℕ) (payload : List ℕ) (after : ℕ) (head body rest : List ℕ) → length head ≡ 4 → FramedIn size full number payload after (head ++ body) rest
     → (len : ℕ) × (head ≡ header len number) × (len ≤ length payload) × (len ≤ length body)
 first_header size zero number payload after head body rest e h =
@@ -58,7 +58,7 @@ first_header size (suc full) number payload after head body rest e h =
     let f = same_front head body (header size number) (h.0 ++ h.2) e h.5 in
     (size, f.0, omega (arith, ap length h.4, length-append h.0 h.1, h.3), omega (arith, ap length f.1, length-append h.0 h.2, h.3))
 
--- After the full frames that a reader took, the rest of the payload is framed.
+-- After the full frames that a reader accepted, the rest of the payload follows in frames.
 pub peel : (size full i number : ℕ) (payload : List ℕ) (after : ℕ) (head got more rest : List ℕ)
     → number < 256 → full * size ≤ length got → FramedIn size i number payload after (raw size full number got head ++ more) rest
     → (j : ℕ) × (left : List ℕ) × (body : List ℕ) × (length payload ≡ full * size + length left) × (length got ≡ full * size + length body) × FramedIn size j (number_of full number) left after (head ++ (body ++ more)) rest
@@ -90,7 +90,7 @@ peel size (suc full) (suc i) number payload after head got more rest b e h =
       subst (λ n. FramedIn size r.0 n r.1 after (head ++ (r.2 ++ more)) rest) (number_more full number) r.5,
     )
 
--- bytes are the frames of one payload at most, which end at one place
+-- bytes begin with the frames of at most one payload, which end at one place
 pub framed_once : (size i j number : ℕ) (p q : List ℕ) (a b : ℕ) (bytes r s : List ℕ)
     → FramedIn size i number p a bytes r → FramedIn size j number q b bytes s → (p ≡ q) × (a ≡ b) × (r ≡ s)
 framed_once size zero zero number p q a b bytes r s g h =

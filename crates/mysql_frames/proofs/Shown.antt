@@ -1,4 +1,4 @@
--- What the headers that a reader holds show.
+-- What the held headers show.
 use Rattle.std.proofs.Common.{◌≡◌, ◌≢◌, ℕ, ◌+◌, ◌*◌, ◌/◌, ◌<◌, ◌≤◌, ◌⊎◌, inl, inr, zero, suc, List, ◌++◌, length, take, drop, refl, sym, ap, subst, ◌∙◌, arith, length-append, length-drop}
 use Rattle.std.proofs.lemmas.List.{length-take-le}
 use Rattle.mysql_frames.specs.Frames.{header, most, next, FullFrames}
@@ -7,7 +7,7 @@ use Rattle.mysql_frames.specs.Unfinished.{raw, number_of}
 use Rattle.mysql_frames.proofs.Raw.{number_first, number_more, next_below}
 use Rattle.mysql_frames.proofs.Peel.{header_same, same_front}
 
--- a reader took full frames, and then what it has of the next one
+-- a reader accepted full frames, and holds a part of the next one
 pub full_raw : (size full number : ℕ) (head got : List ℕ) → number < 256 → full * size ≤ length got
     → (body : List ℕ) × (length got ≡ full * size + length body) × FullFrames size full number (number_of full number) (raw size full number got head) (head ++ body)
 full_raw size zero number head got b e = (got, omega arith, (sym (number_first number b), refl))
@@ -26,13 +26,13 @@ full_raw size (suc full) number head got b e =
       ),
     )
 
--- bytes after which comes something are no fewer than that
+-- the rest after full frames is no longer than the bytes
 pub no_fewer : (size full number after : ℕ) (bytes rest : List ℕ) → FullFrames size full number after bytes rest → length rest ≤ length bytes
 no_fewer size zero number after bytes rest h = omega (arith, ap length h.1)
 no_fewer size (suc full) number after bytes rest h =
     omega (arith, no_fewer size full (next number) after h.1 rest h.4, ap length h.3, length-append h.0 h.1)
 
--- after full frames comes one that the reader took, or part of what it has of the next one
+-- after full frames follows one that the reader accepted, or a part of the next one
 pub peel_full : (size full j number after : ℕ) (head got rest : List ℕ) → number < 256 → full * size ≤ length got → FullFrames size j number after (raw size full number got head) rest
     → ((j < full) × (others : List ℕ) × (rest ≡ header size after ++ others))
     ⊎ ((i : ℕ) × (body : List ℕ) × (j ≡ full + i) × (length got ≡ full * size + length body) × FullFrames size i (number_of full number) after (head ++ body) rest)
@@ -54,7 +54,7 @@ peel_full size (suc full) (suc j) number after head got rest b e h =
           inr (a.0, a.1, omega (arith, a.2), omega (arith, a.3, length-drop size got), subst (λ n. FullFrames size a.0 n after (head ++ a.1) rest) (number_more full number) a.4)
     ]
 
--- where the next header isn't whole, each header is in order and within the limit
+-- if the next header is incomplete, each header is in order and within the limit
 pub head_right : (full j number after len other limit : ℕ) (head got others : List ℕ) → number < 256 → length got ≡ full * most → length head < 4 → length got ≤ limit
     → FullFrames most j number after (raw most full number got head) (header len other ++ others) → (other ≡ after) × (j * most + len ≤ limit)
 head_right full j number after len other limit head got others b e short within h =
@@ -63,7 +63,7 @@ head_right full j number after len other limit head got others b e short within 
       | inr a ↦ absurd (omega (arith, a.3, no_fewer most a.0 (number_of full number) after (head ++ a.1) (header len other ++ others) a.4, length-append head a.1))
     ]
 
--- where the next frame isn't whole, and its header is in order and within the limit, each is so
+-- if the next frame is incomplete, and its header is in order and within the limit, each header is
 body_right_in : (i full number after len other said : ℕ) (body others : List ℕ) → length body < said
     → FullFrames most i number after (header said number ++ body) (header len other ++ others) → (i ≡ 0) × (other ≡ after) × (len ≡ said)
 body_right_in zero full number after len other said body others short h =
@@ -84,14 +84,14 @@ body_right full j number after len other limit said head got others b e is short
           (r.1, omega (arith, a.2, r.0, r.2, within))
     ]
 
--- so no fault is shown
+-- so no error is shown
 pub none_shown : (reader : ReaderState)
     → ((full after len number : ℕ) (others : List ℕ) → FullFrames most full reader.number after reader.held (header len number ++ others) → (number ≡ after) × (full * most + len ≤ reader.limit))
     → ShowsNoFault reader
 none_shown reader right =
     (λ s. s.6 (right s.0 s.1 s.2 s.3 s.4 s.5.before).0, λ s. absurd (omega (arith, s.5, (right s.0 s.1 s.2 s.1 s.3 s.4.before).1)))
 
--- a header of another number
+-- a header out of order
 pub shown_order : (full number limit len other : ℕ) (head got : List ℕ) → number < 256 → full * most ≤ length got → length got ≤ limit → head ≡ header len other
     → other ≢ number_of full number → ShowsOutOfOrder (record { held = raw most full number got head; number = number; limit = limit })
 shown_order full number limit len other head got b e within is wrong =
@@ -105,7 +105,7 @@ shown_order full number limit len other head got b e within is wrong =
       wrong,
     )
 
--- a header of a frame with which the payload is too long
+-- a header with which the payload exceeds the limit
 pub shown_long : (full number limit len : ℕ) (head got : List ℕ) → number < 256 → full * most ≤ length got → length got ≤ limit → head ≡ header len (number_of full number)
     → limit < full * most + len → ShowsTooLong (record { held = raw most full number got head; number = number; limit = limit })
 shown_long full number limit len head got b e within is long =
@@ -118,7 +118,7 @@ shown_long full number limit len head got b e within is long =
       long,
     )
 
--- a frame of which a part lacks
+-- a frame with missing bytes
 pub part_lacks : (full number limit len : ℕ) (head got : List ℕ) → number < 256 → full * most ≤ length got → head ≡ header len (number_of full number)
     → full * most + len ≤ limit → length got < full * most + len → LacksPart (record { held = raw most full number got head; number = number; limit = limit })
 part_lacks full number limit len head got b e is within short =
@@ -144,7 +144,7 @@ pub held_bounded : (full number limit : ℕ) (payload head : List ℕ) → full 
     → length (raw most full number payload head) ≤ limit + 4 * (limit / most + 1)
 held_bounded full number limit payload head e within four = omega (arith, raw_length most full number payload head e, e, within, four)
 
--- a header out of order, and one with which the payload is too long, are not both the first that is wrong
+-- the first wrong header is either out of order or beyond the limit
 one_fault : (i j start number a b la lb limit other : ℕ) (bytes others rest : List ℕ) → start + i * most ≤ limit → limit < start + j * most + lb → other ≢ a
     → FullFrames most i number a bytes (header la other ++ others) → FullFrames most j number b bytes (header lb b ++ rest) → ⊥
 one_fault zero zero start number a b la lb limit other bytes others rest within long wrong g h =

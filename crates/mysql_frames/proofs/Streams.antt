@@ -1,4 +1,4 @@
--- Bytes are one stream of payloads, and a stream goes on.
+-- Bytes are one stream of payloads, which can be continued.
 use Rattle.std.proofs.Common.{◌≡◌, ℕ, zero, suc, List, [], ◌∷◌, ◌++◌, length, refl, sym, ap, subst, ◌∙◌, append_assoc}
 use Rattle.mysql_frames.specs.Frames.{header, most, next, FramedIn, Framed, Stream}
 use Rattle.mysql_frames.specs.FrameReader.{NoneWhole}
@@ -23,14 +23,14 @@ stream_more number [] after bytes rest more h = (h.0, ap (λ b. b ++ more) h.1)
 stream_more number (p ∷ ps) after bytes rest more h =
     (h.0, h.1 ++ more, (h.2.0, framed_more most h.2.0 number p h.0 bytes h.1 more h.2.1), stream_more h.0 ps after h.1 rest more h.3)
 
--- one payload more
+-- one more payload
 pub stream_then : (number : ℕ) (payloads : List (List ℕ)) (mid : ℕ) (bytes rest : List ℕ) (payload : List ℕ) (after : ℕ) (left : List ℕ)
     → Stream number payloads mid bytes rest → Framed mid payload after rest left → Stream number (payloads ++ payload ∷ []) after bytes left
 stream_then number [] mid bytes rest payload after left h f =
     (after, left, subst (λ n. Framed n payload after bytes left) (sym h.0) (subst (λ b. Framed mid payload after b left) (sym h.1) f), (refl, refl))
 stream_then number (p ∷ ps) mid bytes rest payload after left h f = (h.0, h.1, h.2, stream_then h.0 ps mid h.1 rest payload after left h.3 f)
 
--- up to a rest in which is no payload, bytes are the frames of one list of payloads
+-- up to a rest without a payload, bytes are the frames of exactly one list of payloads
 pub stream_once : (number : ℕ) (ps qs : List (List ℕ)) (a b : ℕ) (bytes r s : List ℕ)
     → Stream number ps a bytes r → Stream number qs b bytes s → NoneWhole a r → NoneWhole b s → (ps ≡ qs) × (a ≡ b) × (r ≡ s)
 stream_once number [] [] a b bytes r s g h x y = (refl, sym g.0 ∙ h.0, sym g.1 ∙ h.1)

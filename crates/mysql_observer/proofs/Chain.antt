@@ -1,4 +1,4 @@
--- What is tracked after packets one after another is what it is after the steps of the conversation.
+-- The table after the packets in order is the table after the steps of the conversation.
 use Rattle.std.proofs.Common.{◌≡◌, ℕ, Bool, true, false, List, [], ◌∷◌, ◌++◌, inl, inr, refl, sym, ap, subst, ◌∙◌}
 use Rattle.std.specs.Prelude.{◌&&◌}
 use Rattle.mysql_conversation.specs.Agreements.{Agreed}
@@ -25,7 +25,7 @@ step_by a front x before y old next early l (inl h) =
     h.2 ∙ ap (λ b. tracked_after true early b y.packet.kind y.number y.packet.payload old) q.0
 step_by a front x before y old next early l (inr h) = absurd (h.0 a (front, x, before ++ y ∷ [], more_of front x before (y ∷ []), l))
 
--- what is tracked after packets that come after the login
+-- what is tracked after the packets that follow the login
 tracked_after_login : (a : Agreed) (front : List Numbered) (x : Numbered) (before rest : List Numbered) (old f : Tracked) → IsLoggedIn a front x → AreTracked (front ++ x ∷ before) rest old f
     → (steps : List Step) × (items_of steps ≡ rest) × AreEarlyAfter (front ++ x ∷ before) steps × (f ≡ after_steps a steps old)
 tracked_after_login a front x before [] old f l h = ([], refl, tt, h)

@@ -1,4 +1,4 @@
--- What was found to be of its kind by what it holds is read as one.
+-- A packet that was classified by reading it is read again as that kind.
 use Rattle.std.specs.Prelude.{◌≡◌, ℕ, List, Bool, true, false, Some, Ok, Err, refl}
 use Rattle.mysql_wire.specs.declared.codes.column_type.ColumnType.{ColumnType}
 use Rattle.mysql_wire.specs.Flags.{StatusFlags}

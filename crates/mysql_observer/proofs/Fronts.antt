@@ -1,4 +1,4 @@
--- What is kept of a pipelined command says all that the command does with statements.
+-- The kept part of a pipelined command has all that affects the statements.
 use Rattle.std.proofs.Common.{◌≡◌, ℕ, suc, ◌≤◌, ◌==◌, ◌||◌, min, length, take, nat_lt, Bool, true, false, List, [], ◌∷◌, Option, None, Some, refl, sym, ap, ◌∙◌, arith, if◌then◌else◌}
 use Rattle.std.proofs.lemmas.Bool.{eqb-true, ltb-true}
 use Rattle.mysql_wire.specs.Form.{bytes, number}
@@ -12,7 +12,7 @@ use Rattle.mysql_statements.specs.Packets.{data_at, number_at}
 use Rattle.mysql_statements.specs.Table.{Table, otherwise}
 use Rattle.mysql_observer.specs.Tracked.{command_taken, front}
 
--- ---- numbers in front
+-- ---- numbers at the front
 
 no_less_when : (m n : ℕ) (b : Bool) → nat_lt m n ≡ b → n ≤ m → b ≡ false
 no_less_when m n true e h = absurd (let k = ltb-true m n e in omega (arith, k, h))
@@ -67,13 +67,13 @@ code_cut : (p : List ℕ) → code_of (cut p) ≡ code_of p
 code_cut [] = refl
 code_cut (a ∷ r) = let n : min (length (a ∷ r)) 7 ≡ suc (min (length r) 6) = omega arith in ap (λ n. code_of (take n (a ∷ r))) n
 
--- ---- what a command does
+-- ---- the effect of a command
 
 branch : {A : Type 0} (b : Bool) (x y u v : A) → (b ≡ true → x ≡ y) → (b ≡ false → u ≡ v) → (if b then x else u) ≡ (if b then y else v)
 branch true x y u v f g = f refl
 branch false x y u v f g = g refl
 
--- of the commands of one statement only executions depend on what follows the number
+-- of the commands with a statement's number only executions depend on what follows it
 one_same : {A : Type 0} (b17 bfa b1c b19 b1a : Bool) (closed reset fetched bulk bulk' single single' : A) → (b17 || bfa || b1c || b19 || b1a) ≡ true → (b17 || bfa) ≡ false
     → (if b19 then closed else (if b1a then reset else (if b1c then fetched else (if bfa then bulk else single))))
     ≡ (if b19 then closed else (if b1a then reset else (if b1c then fetched else (if bfa then bulk' else single'))))

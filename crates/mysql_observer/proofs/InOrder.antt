@@ -1,4 +1,4 @@
--- What is known is what the packets say in the order of the conversation.
+-- The table is that of the packets in the order of the conversation.
 use Rattle.std.proofs.Common.{◌≡◌, ℕ, ◌+◌, ◌-◌, ◌<◌, ◌≤◌, max, Bool, true, false, cond, nat_lt, nat_le, List, [], ◌∷◌, ◌++◌, filter, map, Option, None, Some, refl, sym, ap, ◌∙◌, subst, append_assoc, arith, if◌then◌else◌, IsTrue}
 use Rattle.std.proofs.lemmas.Bool.{lt-ltb, leb-true, leb-false, ltb-true, ltb-false}
 use Rattle.std.proofs.lemmas.List.{append-nil}
@@ -19,7 +19,7 @@ abbrev pub AreCommands : List Numbered → Type 0
 AreCommands [] = Unit {0}
 AreCommands (x ∷ xs) = IsCommand x × AreCommands xs
 
--- ---- the commands that are taken
+-- ---- the served commands
 
 taken_as : (a : Agreed) (x : Numbered) (t : Table) → IsCommand x → command_taken a (front x.packet.payload) t ≡ after true a x.packet.kind x.packet.payload t
 taken_as a x t h = front_taken a x.packet.payload t ∙ ap (λ k. after true a k x.packet.payload t) (sym h)
@@ -41,7 +41,7 @@ served_is : (a : Agreed) (n m l : ℕ) (xs : List Numbered) (t : Table) → Asce
 served_is a n m l [] t h c = refl
 served_is a n m l (x ∷ xs) t h c = served_when (nat_le x.number n) a n l x xs t refl c.0 h.1 (λ u. served_is a n x.number l xs u h.1 c.1)
 
--- ---- those that go on waiting
+-- ---- those that stay waiting
 
 no_less : (m n : ℕ) (b : Bool) → nat_lt m n ≡ b → n ≤ m → b ≡ false
 no_less m n true e h = absurd (let k = ltb-true m n e in omega (arith, k, h))
@@ -126,9 +126,9 @@ tables_append : (a : Agreed) (xs ys : List Numbered) (t : Table) → tables_afte
 tables_append a [] ys t = refl
 tables_append a (x ∷ xs) ys t = tables_append a xs ys (after true a x.packet.kind x.packet.payload t)
 
--- ---- what is known after packets
+-- ---- the table after packets
 
--- the table is that of the exchanges up to the one at which the server is, and the commands after it wait
+-- the table is that of the exchanges up to the server's, and the commands after it wait
 pub record InOrder (a : Agreed) (t : Table) (items : List Numbered) (at last : ℕ) (f : Tracked) : Type 0 where
   pub lost : f.lost ≡ None
   pub table : f.table ≡ tables_after a (up_to at items) t
@@ -163,7 +163,7 @@ not_later n items x e =
     ∙ ap (λ q. later n items ++ q) (skips (λ y. nat_lt n y.number) x [] (no_less n x.number (nat_lt n x.number) refl (omega (arith, e))))
     ∙ append-nil (later n items)
 
--- the exchanges up to a later one are those up to this one, and what waits of them
+-- the exchanges up to a later one are those up to this one, and their waiting commands
 up_to_at : (at last n : ℕ) (items : List Numbered) → at ≤ n → Ascends at (later at items) last → up_to n items ≡ up_to at items ++ sooner n (later at items)
 up_to_at at last n items le h =
     let e : (n - at) + at ≡ n = omega (arith, le) in

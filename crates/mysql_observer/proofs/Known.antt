@@ -1,4 +1,4 @@
--- What an observer knows after a packet.
+-- What an observer tracks after a packet.
 use Rattle.std.proofs.Common.{◌≡◌, ◌↔◌, arith, ℕ, max, Result, Ok, Err, IfOk, OnErr, Bool, true, false, not, ◌&&◌, List, [], ◌∷◌, ◌++◌, Option, Some, None, IfSome, IfNone, option_copied, IsTrue, inl, inr, refl, sym, ap, subst, ◌∙◌}
 use Rattle.std.specs.Borrow.{Bor}
 use Rattle.mysql_conversation.specs.Agreements.{Agreed}
@@ -32,11 +32,11 @@ highest_more : (items : List Numbered) (x : Numbered) → highest_exchange (item
 highest_more [] x = omega arith
 highest_more (y ∷ items) x = let h = highest_more items x in omega (arith, h)
 
--- the highest number of what came, with one more
+-- the highest exchange number, after one more packet
 pub highest_now : (items : List Numbered) (x : Numbered) (was now : ℕ) → was ≡ highest_exchange items → now ≡ max was x.number → now ≡ highest_exchange (items ++ x ∷ [])
 highest_now items x was now h e = let more = highest_more items x in omega (arith, h, e, more)
 
--- ---- early commands
+-- ---- pipelined commands
 
 false_is_not : false ≡ true → ⊥
 false_is_not e = absurd cc
@@ -72,7 +72,7 @@ resumed_context o a before items k p c agreed count columns semi_sync h = record
   semi_sync = semi_sync;
 }
 
--- ---- what is known
+-- ---- the tracked state
 
 pub knows_more : (agreed : Option Agreed) (early memory : Bool) (s : Session) (items : List Numbered) (x : Numbered) (old new : Tracked)
     → IsEarly early items x
@@ -115,6 +115,6 @@ agreed_is None s some none items t = λ a l. none items a t l
 same_error : {A E : Type 0} (why e : E) → ◌≡◌ {A = Result A E} (Err why) (Err e) → why ≡ e
 same_error why e h = cc
 
--- exactly where the other call returned it
+-- exactly if the other call returned it
 pub error_as : {A B E P : Type 0} (why e : E) → ◌≡◌ {A = Result A E} (Err why) (Err e) ↔ P → ◌≡◌ {A = Result B E} (Err why) (Err e) ↔ P
 error_as {A} {B} why e h = (λ k. h.0 (ap Err (same_error {A = B} why e k)), λ p. ap Err (same_error {A = A} why e (h.1 p)))

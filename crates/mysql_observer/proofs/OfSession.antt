@@ -1,4 +1,4 @@
--- What comes early in a session comes early in the conversation that follows the login.
+-- A command that is pipelined in a session is pipelined in the conversation after the login.
 use Rattle.std.proofs.Common.{Bool, true, false, List, [], ◌∷◌, ◌++◌, inl, inr, refl, subst}
 use Rattle.mysql_conversation.specs.Agreements.{Agreed}
 use Rattle.mysql_conversation.specs.Pipelined.{Numbered}

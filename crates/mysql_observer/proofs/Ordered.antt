@@ -1,4 +1,4 @@
--- Commands that wait, and are taken when the server comes to them, are taken in the order of the conversation.
+-- Waiting commands that are served when the server reaches them are served in the order of the conversation.
 use Rattle.std.proofs.Common.{◌≡◌, ◌≢◌, ℕ, zero, suc, ◌+◌, ◌<◌, ◌≤◌, Bool, true, false, cond, nat_lt, nat_le, ◌==◌, List, [], ◌∷◌, ◌++◌, filter, refl, sym, ap, ◌∙◌, append_assoc, arith, eq-eqb}
 use Rattle.std.proofs.lemmas.Bool.{ne_eqb, le-leb, lt-ltb, leb-true, leb-false, eqb-true}
 use Rattle.std.proofs.lemmas.List.{append-nil}
@@ -21,12 +21,12 @@ pub filter_append : (test : Numbered → Bool) (xs ys : List Numbered) → filte
 filter_append test [] ys = refl
 filter_append test (x ∷ xs) ys = ap (λ l. cond (test x) (x ∷ l) l) (filter_append test xs ys) ∙ cons_when (test x) x (filter test xs) (filter test ys)
 
--- ---- one that comes
+-- ---- one more command
 
 number_is : ℕ → Numbered → Bool
 number_is n x = x.number == n
 
--- it is of its exchange
+-- it belongs to its exchange
 pub exchange_more : (n : ℕ) (items : List Numbered) (x : Numbered) → x.number ≡ n → of_exchange n (items ++ x ∷ []) ≡ of_exchange n items ++ x ∷ []
 exchange_more n items x e = filter_append (λ y. y.number == n) items (x ∷ []) ∙ ap (λ l. of_exchange n items ++ l) (keeps (λ y. y.number == n) x [] (eq-eqb x.number n e))
 
@@ -49,14 +49,14 @@ up_to_more (suc n) items x e =
     ∙ ap (λ l. up_to n items ++ l) (exchange_more (suc n) items x e)
     ∙ sym (append_assoc (up_to n items) (of_exchange (suc n) items) (x ∷ []))
 
--- ---- those that wait
+-- ---- the waiting commands
 
--- the numbers ascend, from above one number up to another
+-- the numbers ascend, from above one number to another
 abbrev pub Ascends : ℕ → List Numbered → ℕ → Type 0
 Ascends m [] l = m ≤ l
 Ascends m (x ∷ xs) l = (m < x.number) × Ascends x.number xs l
 
--- no order is none
+-- the empty order is empty
 leb_no_when : (m n : ℕ) (b : Bool) → nat_le m n ≡ b → n < m → b ≡ false
 leb_no_when m n true e h = absurd (let k = leb-true m n e in omega (arith, k, h))
 leb_no_when m n false e h = refl
@@ -86,7 +86,7 @@ none_of n m l [] h a = refl
 none_of n m l (x ∷ xs) h a =
     skips (λ y. y.number == n) x xs (ne_eqb x.number n (λ e. omega (arith, e, h, a.0))) ∙ none_of n x.number l xs (omega (arith, h, a.0)) a.1
 
--- ---- those up to an exchange, one exchange after another
+-- ---- the commands up to an exchange, by exchanges
 
 sooner_here : (n : ℕ) (l : ℕ) (x : Numbered) (xs : List Numbered) → x.number ≡ suc n → Ascends x.number xs l
     → sooner (suc n) xs ≡ sooner n xs ++ of_exchange (suc n) xs → sooner (suc n) (x ∷ xs) ≡ sooner n (x ∷ xs) ++ of_exchange (suc n) (x ∷ xs)
@@ -112,7 +112,7 @@ sooner_after n x xs h ih =
     ∙ sym (ap (λ w. w ++ of_exchange (suc n) (x ∷ xs)) (skips (λ y. nat_le y.number n) x xs (leb_no x.number n (omega (arith, h))))
     ∙ ap (λ w. sooner n xs ++ w) (skips (λ y. y.number == suc n) x xs (ne_eqb x.number (suc n) (λ e. omega (arith, e, h)))))
 
--- what is equal is found to be
+-- equal numbers compare equal
 clash_with : (k n : ℕ) → k ≡ n → (k == n) ≡ false → ⊥
 clash_with k n q g = let e = eq-eqb k n q in absurd (cc)
 
@@ -132,7 +132,7 @@ sooner_suc n m l (x ∷ xs) a =
     place_when x.number n (nat_le x.number n) (x.number == suc n) refl refl
     (λ h. sooner_before n x xs h ih) (λ e. sooner_here n l x xs e a.1 ih) (λ h. sooner_after n x xs h ih)
 
--- ---- of an exchange after one there is what comes later
+-- ---- the packets of a later exchange come later
 
 later_in : (n m : ℕ) (x : Numbered) (xs : List Numbered) → x.number ≡ n → m < n → of_exchange n xs ≡ of_exchange n (later m xs) → of_exchange n (x ∷ xs) ≡ of_exchange n (later m (x ∷ xs))
 later_in n m x xs e h ih =

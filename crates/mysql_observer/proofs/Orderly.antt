@@ -1,4 +1,4 @@
--- The packets of a pipeline are orderly: a command is the next one, and another packet is of the exchange at which the server is.
+-- The packets of a pipeline are in order: a command begins the next exchange, and any other packet belongs to the server's exchange.
 use Rattle.std.proofs.Common.{◌≡◌, ◌⊎◌, ℕ, ◌+◌, ◌<◌, ◌≤◌, max, Bool, true, false, cond, ◌&&◌, List, [], ◌∷◌, ◌++◌, inl, inr, Option, Some, None, refl, sym, ap, subst, ◌∙◌, arith}
 use Rattle.std.proofs.lemmas.Bool.{cases_Bool}
 use Rattle.mysql_conversation.specs.Agreements.{Agreed}
@@ -26,7 +26,7 @@ use Rattle.mysql_conversation.proofs.Stood.{pipelined_runs}
 use Rattle.mysql_conversation.proofs.Stood.{one_standing}
 use Rattle.mysql_observer.specs.Order.{IsEarlyIn, AreEarly, Step, items_of, IsNext, at_after, AreOrderly}
 
--- the numbers of the commands that wait ascend, from above the exchange that runs up to the last command
+-- the numbers of the waiting commands ascend, from above the running exchange to the last command
 abbrev pub AscendTo : ℕ → List Waiting → ℕ → Type 0
 AscendTo i [] l = i ≤ l
 AscendTo i (n ∷ q) l = (i < n.number) × AscendTo n.number q l
@@ -46,7 +46,7 @@ settle_up m i l (n ∷ q) h = elim (cases_Bool (is_rest m)) [
   | inr e ↦ rw e (omega arith, h)
 ]
 
--- the server is at an exchange, not before one of which a packet came
+-- the server is at an exchange, at or after each one of which a packet came
 pub record Stands (at : ℕ) (w : Standing) : Type 0 where
   pub from : at ≤ w.number
   pub ascend : AscendTo w.number w.waiting w.last
@@ -60,7 +60,7 @@ stands_on at w m v h s e = (
 
 -- ---- a packet that is no command
 
--- it is of the exchange at which the server is
+-- it belongs to the server's exchange
 abbrev Turned : Standing → ℕ → Standing → Type 0
 Turned w n v = (w.number ≡ n) × Stands w.number v × (v.last ≡ w.last)
 
@@ -139,7 +139,7 @@ not_due s r = elim (cases_Bool (is_due s)) [
   | inr e ↦ e
 ]
 
--- in its turn it is of the exchange at which the server is then
+-- in its turn it belongs to the server's exchange
 in_turn_stands : (at : ℕ) (w : Standing) (c : Command) (v : Standing) → Over w → Sound v → after w c ≡ v → Stands (w.last + 1) v
 in_turn_stands at w c v o s e =
     let a : after w c ≡ standing (begin c) (w.last + 1) (w.last + 1) [] =
@@ -149,7 +149,7 @@ in_turn_stands at w c v o s e =
 
 -- ---- each packet
 
--- a packet, and whether it is a command that came early: then it is a command; else it is none, or nothing was left to be answered
+-- a packet, and whether it is a pipelined command; otherwise it is no command, or no answer is due
 pub record IsFlagged (w : Standing) (s : Step) : Type 0 where
   pub early : s.is_early ≡ true → is_command s.item.packet ≡ true
   pub turn : s.is_early ≡ false → (is_command s.item.packet ≡ false) ⊎ Over w
@@ -158,7 +158,7 @@ abbrev pub AreFlagged : Agreed → Standing → List Step → Standing → Type 
 AreFlagged d w [] t = w ≡ t
 AreFlagged d w (s ∷ ss) t = (v : Standing) × Steps d w s.item v × IsFlagged w s × AreFlagged d v ss t
 
--- it is the next, and how the server stands after it
+-- it is the next one, and the server's exchange after it
 abbrev Follows : Bool → ℕ → Standing → Numbered → Standing → Type 0
 Follows b at w x v = IsNext b at w.last x × Stands (at_after b at x) v × (v.last ≡ max w.last x.number)
 

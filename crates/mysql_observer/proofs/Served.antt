@@ -1,4 +1,4 @@
--- Commands that waited are taken one after another.
+-- Waiting commands are served in order.
 use Rattle.std.proofs.Common.{◌≡◌, ℕ, ◌<◌, ◌≤◌, Bool, true, false, nat_le, List, [], ◌∷◌, refl, sym, ap, ◌∙◌, arith, if◌then◌else◌}
 use Rattle.std.proofs.lemmas.Bool.{le-leb, leb-true}
 use Rattle.mysql_conversation.specs.Agreements.{Agreed}
@@ -19,7 +19,7 @@ no_order : (m n : ℕ) (b : Bool) → nat_le m n ≡ b → n < m → b ≡ false
 no_order m n true e h = absurd (let k = leb-true m n e in omega (arith, k, h))
 no_order m n false e h = refl
 
--- none is served where the first is later
+-- none is served if the first is later
 pub none_served : (a : Agreed) (n : ℕ) (cs : List Command) (t : Table) → FirstIsLater n cs → t ≡ table_served a n cs t
 none_served a n [] t h = refl
 none_served a n (c ∷ cs) t h = sym (ap (λ b. if b then table_served a n cs (command_taken a c.payload t) else t) (no_order c.number n (nat_le c.number n) refl h))

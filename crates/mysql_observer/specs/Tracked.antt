@@ -1,5 +1,6 @@
 -- What the packets so far say about statements and pipelined commands.
 use Rattle.std.specs.Prelude.{◌≡◌, ℕ, ◌==◌, ◌||◌, nat_le, min, take, length, Bool, true, false, not, ◌&&◌, List, [], ◌∷◌, Option, Some, None, is_some, if◌then◌else◌, IsTrue}
+use Rattle.mysql_wire.specs.CommandCodes.{COM_STMT_EXECUTE, COM_STMT_BULK_EXECUTE}
 use Rattle.mysql_prepared.specs.declared.execute_view.BoundParam.{BoundParam}
 use Rattle.mysql_conversation.specs.Agreements.{Agreed}
 use Rattle.mysql_conversation.specs.Conversation.{code_of}
@@ -47,7 +48,7 @@ served a n f = record f { table = table_served a n f.early.commands f.table; ear
 -- ---- the parameters of an execution, before it is taken
 
 abbrev pub is_execution : PacketKind → Bool
-is_execution (kind.Command code) = code == 0x17
+is_execution (kind.Command code) = code == COM_STMT_EXECUTE
 is_execution _ = false
 
 -- a row says nothing about later packets
@@ -75,7 +76,7 @@ params_kept memory s = if memory then params_of s else None
 -- What is kept of a command that waits: all of an execution, since its types may be anywhere, and of another command what stands before
 -- the data of COM_STMT_SEND_LONG_DATA.
 abbrev pub front : List ℕ → List ℕ
-front p = if code_of p == 0x17 || code_of p == 0xfa then p else take (min (length p) 7) p
+front p = if code_of p == COM_STMT_EXECUTE || code_of p == COM_STMT_BULK_EXECUTE then p else take (min (length p) 7) p
 
 -- no statement is known up to the last command that could not be kept
 abbrev pub is_lost : Option ℕ → ℕ → Bool

@@ -1,4 +1,4 @@
--- What an answer is that is no error.
+-- Results without an error.
 use Rattle.std.proofs.Common.{rules, ◌≡◌, false}
 use Rattle.std.specs.Prelude.{IsTrue}
 use Rattle.mysql_replies.specs.ErrPacket.{is_error, is_progress_report}

@@ -1,4 +1,4 @@
--- Binary rows, whose values are counted one after another.
+-- Binary rows, with their values counted in order.
 use Rattle.std.proofs.Common.{◌≡◌, ◌<◌, ◌≤◌, ◌+◌, ◌∷◌, ℕ, zero, suc, true, false, ◌&&◌, List, [], length, drop, get_or, refl, sym, ap, ◌∙◌, arith, add-one}
 use Rattle.std.proofs.lemmas.Bool.{and_parts}
 use Rattle.std.specs.List.{list_all}
@@ -12,7 +12,7 @@ use Rattle.mysql_packets_c.specs.Value.{is_value, value_content, values_contents
 use Rattle.mysql_packets_c.specs.declared.rows.CColumnType.{CColumnType}
 use Rattle.mysql_packets_c.specs.declared.value.CValue.{CValue}
 
--- what a place past the end would hold
+-- the value of a place past the end
 abbrev pub no_column : CColumnType
 no_column = record { column_type = 0; is_unsigned = 0 }
 
@@ -32,7 +32,7 @@ fits-from columns values i c v same lt = rw add-one (from columns values i same 
     from (d ∷ columns) (w ∷ values) zero same lt = swapped (is_value w) (list_all is_value values) (takes (type_of d) (unsigned_of d) (value_content w)) (takes_row type_of unsigned_of columns (values_contents values))
     from (d ∷ columns) (w ∷ values) (suc i) same lt = from columns values i (omega (arith, same)) (omega (arith, lt))
 
--- none is left at its end
+-- none is left at the end
 pub fits-end : (columns : List CColumnType) (values : List CValue) (i : ℕ) → length columns ≡ length values → length values ≤ i → row_fits (drop i columns) (drop i values) ≡ true
 fits-end [] [] zero same past = refl
 fits-end [] [] (suc i) same past = refl

@@ -1,4 +1,4 @@
--- A bulk request that is written row by row.
+-- A bulk request written row by row.
 use Rattle.std.proofs.Common.{◌≡◌, ◌≢◌, ◌<◌, ◌≤◌, ◌+◌, ◌*◌, ◌++◌, ◌∷◌, ◌-◌, ◌^◌, ℕ, Bool, true, false, ◌&&◌, List, [], length, map, take, drop, Some, None, refl, sym, subst, ap, ◌∙◌, arith, inl, inr, min, append_assoc, length-append, sum_by}
 use Rattle.std.proofs.lemmas.Bool.{and_parts, cases_lt, leb-true}
 use Rattle.std.proofs.lemmas.Grind.{flat_map-append}
@@ -36,12 +36,12 @@ head-size : (statement_id flags : ℕ) (types : List CColumnType) → length (he
 head-size statement_id flags types =
     omega (arith, length-head (record { stmt_id = statement_id; bulk_flags = request_flags true (flags == 64); types = declared_types types }), length-map types declared_type)
 
--- no memory is too small for it
+-- its length doesn't overflow
 pub head-put : (statement_id flags code : ℕ) (types : List CColumnType) (old new : List ℕ) (written : ℕ) → length types < 2 ^ 63 - 7 → PutsUnlessTooLong (head_bytes statement_id flags types) code old new written
     → Puts (head_bytes statement_id flags types) code old new written
 head-put statement_id flags code types old new written few h = h.puts (λ e. omega (arith, (h.long e).long, head-size statement_id flags types, few))
 
--- it is a request in which no row waits
+-- it is a request without rows
 pub head-holds : (statement_id flags max : ℕ) (types : List CColumnType) (old new : List ℕ) (written : ℕ) → Puts (head_bytes statement_id flags types) 0 old new written
     → HoldsRows statement_id flags max types [] (take written new)
 head-holds statement_id flags max types old new written h =
@@ -81,9 +81,9 @@ pub not-a-row : (types : List CColumnType) (row : List CValue) → length types 
 not-a-row types row n =
     ap (λ b. list_all is_value row && b) (not_as_long value_content (declared_types types) row (λ e. n (sym (length-map types declared_type) ∙ e))) ∙ and-false (list_all is_value row)
 
--- ---- what is answered
+-- ---- results
 
--- the bytes with the row are counted without an end
+-- the bytes with the row are counted without overflow
 pub counted : (limit used more longer : ℕ) (row : List CValue) → more ≡ saturated (row_size (values_contents row)) → longer ≡ min (used + more) (2 ^ 64 - 1) → longer ≤ limit → limit < 2 ^ 64 - 1 → longer ≡ size_with used row
 counted limit used more longer row is sum within top = within-limit limit used more longer (row_size (values_contents row)) is sum within top
 
@@ -119,7 +119,7 @@ row-added limit used more longer row old new before is sum within top fits put =
       fits = λ h f. (refl, put ∙ ap (λ n. take used old ++ (flat_map cell_bytes row ++ drop n old)) same, whole);
     }
 
--- the row takes its own bytes
+-- the row adds its own bytes
 pub more-bytes : (limit used more longer : ℕ) (types : List CColumnType) (row : List CValue) → takes_row types row ≡ true → more ≡ saturated (row_size (values_contents row)) → longer ≡ min (used + more) (2 ^ 64 - 1) → longer ≤ limit → limit < 2 ^ 64 - 1
     → more ≡ length (flat_map cell_bytes row)
 unfolding saturated
@@ -130,7 +130,7 @@ more-bytes limit used more longer types row taken is sum within top =
 -- ---- the builder
 
 module _ (statement_id flags max : ℕ) (types : List CColumnType) where
-  -- how many bytes a request of the rows has
+  -- the length of a request of the rows
   so-far : (rows : List (List Content)) (bytes : List ℕ) → HoldsRows statement_id flags max types rows bytes → length bytes ≡ 7 + 2 * length types + sum_by row_size rows
   so-far rows bytes h =
       let cells : length (flat_map cell (rows_in rows)) ≡ sum_by row_size rows = length-cells (rows_in rows) ∙ size-rows_in rows in
@@ -169,7 +169,7 @@ module _ (statement_id flags max : ℕ) (types : List CColumnType) where
         fit = λ some. (omega (arith, so-far rows bytes h, size-more rows row, le), tt);
       }
 
-  -- a writer in which the rows wait
+  -- a writer with the rows waiting
   writer : (rows : List (List Content)) → WriterState
   writer rows = record {
     stmt_id = statement_id;
@@ -205,7 +205,7 @@ module _ (statement_id flags max : ℕ) (types : List CColumnType) where
   some-row [] row = λ e. cc
   some-row (r ∷ rows) row = λ e. cc
 
-  -- the row waits with the others
+  -- the row is added to the waiting rows
   pub adds : (rows : List (List Content)) (row : List CValue) (bytes written : List ℕ) → HoldsRows statement_id flags max types rows bytes → takes_row types row ≡ true → length bytes + row_size (values_contents row) ≤ max - 4
       → written ≡ bytes ++ flat_map cell_bytes row → AddsAsBuilder statement_id flags max types rows (values_contents row) 0 written
   adds rows row bytes written h taken le is =
@@ -263,7 +263,7 @@ used-within max used size types h =
     let third = and_parts (nat_le (7 + 2 * length types) used) (nat_le used size) second.1 in
     leb-true used size third.1
 
--- a row that does not fit is one for the builder too
+-- a row that doesn't fit doesn't fit the builder either
 pub add-full : (statement_id flags max used more longer : ℕ) (types : List CColumnType) (row : List CValue) (rows : List (List Content)) (old written : List ℕ)
     → may_add max used (length old) types ≡ true → takes_row types row ≡ true → more ≡ saturated (row_size (values_contents row)) → longer ≡ min (used + more) (2 ^ 64 - 1) → max - 4 < longer
     → HoldsRows statement_id flags max types rows (take used old) → AddsAsBuilder statement_id flags max types rows (values_contents row) 6 written
@@ -273,7 +273,7 @@ add-full statement_id flags max used more longer types row rows old written may 
     let long = length-take-le used old (used-within max used (length old) types may) in
     is-full statement_id flags max types rows row (take used old) written h taken (omega (arith, large, long))
 
--- and so is one that fits
+-- and a row that fits also fits the builder
 pub add-fits : (statement_id flags max used more longer : ℕ) (types : List CColumnType) (row : List CValue) (rows : List (List Content)) (old new : List ℕ)
     → takes_row types row ≡ true → more ≡ saturated (row_size (values_contents row)) → longer ≡ min (used + more) (2 ^ 64 - 1) → longer ≤ max - 4 → max - 4 < 2 ^ 64 - 1 → longer ≤ length old
     → new ≡ take used old ++ (flat_map cell_bytes row ++ drop (used + more) old) → HoldsRows statement_id flags max types rows (take used old)

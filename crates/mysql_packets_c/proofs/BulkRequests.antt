@@ -1,4 +1,4 @@
--- The request that is written of the rows that were counted.
+-- The request written for the counted rows.
 use Rattle.std.proofs.Common.{◌≡◌, ◌≢◌, ◌<◌, ◌≤◌, ◌+◌, ◌*◌, ◌++◌, ◌∷◌, ◌-◌, ◌^◌, ℕ, zero, suc, Bool, true, false, ◌&&◌, List, [], length, map, take, drop, Option, Some, None, refl, sym, subst, ap, ◌∙◌, arith, inl, inr, ◌⊎◌, get_or, min, add-one, append_assoc, if◌then◌else◌, sum_by}
 use Rattle.std.proofs.lemmas.Bool.{and_parts}
 use Rattle.std.proofs.lemmas.List.{append-nil, drop-drop, take-map, drop-map, length-drop, length-map, length-take-le, nil_from_length}
@@ -82,7 +82,7 @@ sent-types types (row ∷ rows) some = refl
 some-rows : (columns n : ℕ) (values : List CValue) → 1 ≤ n → first_rows columns n values ≢ []
 some-rows columns n values some none = let e : n ≡ 0 = sym (length-rows_of columns n (values_contents values)) ∙ ap length none in omega (arith, e, some)
 
--- the cells of values are those of what they hold
+-- the cells of values are those of their contents
 plain-cell : (content : Content) (b : Bool) → is_null content ≡ b → param_cell (Sent (Plain content)) ≡ cell content
 plain-cell content true e = ap (λ (null : Bool). if null then 1 ∷ [] else 0 ∷ bin content) e ∙ sym (null-cell content e)
 plain-cell content false e = ap (λ (null : Bool). if null then 1 ∷ [] else 0 ∷ bin content) e ∙ sym (value-cell content e)
@@ -114,7 +114,7 @@ bytes-of call n len values h some =
     ∙ ap (λ (l : List Content). head.bytes (record { stmt_id = call.statement_id; bulk_flags = request_flags true (call.flags == 64); types = types }) ++ (values_bytes (map with_indicator l) ++ [])) held
     ∙ ap (λ (l : List ℕ). head.bytes (record { stmt_id = call.statement_id; bulk_flags = request_flags true (call.flags == 64); types = types }) ++ l) (cells-of first h.are_rows.are_values)
 
--- a writer that has written the rows
+-- a writer with the rows written
 written : (call : BulkCall) (n : ℕ) (values : List CValue) → WriterState
 written call n values = record {
   stmt_id = call.statement_id;

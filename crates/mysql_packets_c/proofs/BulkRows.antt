@@ -1,4 +1,4 @@
--- Rows that are counted one after another.
+-- Rows are counted in order.
 use Rattle.std.proofs.Common.{◌≡◌, ◌≢◌, ◌<◌, ◌≤◌, ◌+◌, ◌*◌, ◌++◌, ◌∷◌, ◌-◌, ◌^◌, ℕ, zero, suc, Bool, true, false, ◌&&◌, List, [], length, map, take, drop, Option, Some, None, refl, sym, subst, ap, ◌∙◌, arith, inl, inr, ◌⊎◌, get_or, min, add-one, append_assoc, if◌then◌else◌, sum_by}
 use Rattle.std.proofs.lemmas.Bool.{and_parts}
 use Rattle.std.proofs.lemmas.List.{append-nil, drop-drop, take-map, drop-map, length-drop, length-map, length-take-le, nil_from_length}
@@ -27,7 +27,7 @@ prefix-map : (columns : List CColumnType) → prefix_len (λ kind. not (not (is_
 prefix-map [] = refl
 prefix-map (c ∷ columns) = ap (λ n. if not (not (is_declarable (declared_type c))) then 1 + n else 0) (prefix-map columns)
 
--- the first type that is refused is that of the first such column
+-- the first refused type is that of the first such column
 pub first-refused : (columns : List CColumnType) → position (λ column. not (is_declarable (declared_type column))) columns ≡ first_refused columns
 first-refused columns = rw (prefix-map columns, length-map columns declared_type) refl
 
@@ -86,7 +86,7 @@ row-within columns rows n len e h =
 pub row-there : (columns rows n : ℕ) (values : List CValue) → length values ≡ rows * columns → n < rows → columns ≤ length (drop (n * columns) values)
 row-there columns rows n values e h = omega (arith, row-within columns rows n (length values) e h, length-drop (n * columns) values)
 
--- one row more that is values
+-- one more row of values
 pub rows-next : (columns rows n : ℕ) (values : List CValue) → length values ≡ rows * columns → n < rows → AreRows columns n values → list_all is_value (row_at columns n values) ≡ true → AreRows columns (n + 1) values
 rows-next columns rows n values e h before row = record {
   within = omega (arith, row-within columns rows n (length values) e h, next-place columns n);
@@ -134,7 +134,7 @@ some-columns flags max zero values h =
     absurd cc
 some-columns flags max (suc columns) values h = omega arith
 
--- no row is refused where there is none
+-- no row is refused if there is none
 pub none-there : (s : BuilderState) (columns : ℕ) (values : List CValue) (code : ℕ) → RefusesAny s columns values code → 1 ≤ columns → values ≡ [] → ⊥
 none-there s columns values code refused some none =
     let there : refused.count * columns + columns ≤ 0 = subst (λ (vs : List CValue). refused.count * columns + columns ≤ length vs) none refused.refused.there in
@@ -147,7 +147,7 @@ size-next : (call : BulkCall) (columns n : ℕ) (values : List CValue)
     → sum_by row_size (first_rows columns n values ++ values_contents (row_at columns n values) ∷ []) ≡ sum_by row_size (first_rows columns n values) + row_size (values_contents (row_at columns n values))
 size-next call columns n values = omega (arith, sum_by-append row_size (first_rows columns n values) (values_contents (row_at columns n values) ∷ []))
 
--- sums that end at 2^64 - 1
+-- sums that saturate at 2^64 - 1
 pub past-limit : (limit len more longer size : ℕ) → more ≡ saturated size → longer ≡ min (len + more) (2 ^ 64 - 1) → limit < longer → limit < len + size
 unfolding saturated
 past-limit limit len more longer size e f h = omega (arith, e, f, h)
@@ -236,7 +236,7 @@ all-counted call rows len values whole h = record {
       nil_from_length values (whole ∙ ap (λ k. k * length call.columns.now) none ∙ nothing);
 }
 
--- no row is counted where there is none
+-- no row is counted if there is none
 pub none-first : (call : BulkCall) (n len : ℕ) (values : List CValue) → HasRows (builder_for call) (length call.columns.now) n len values → 1 ≤ length call.columns.now → values ≡ [] → n ≡ 0
 none-first call n len values h some none = no-rows n (subst (λ (vs : List CValue). n * length call.columns.now ≤ length vs) none h.are_rows.within)
   where

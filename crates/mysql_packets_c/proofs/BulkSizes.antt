@@ -1,4 +1,4 @@
--- The sizes of rows, one after another.
+-- The sizes of rows, in order.
 use Rattle.std.proofs.Common.{◌≡◌, ◌<◌, ◌≤◌, ◌+◌, ◌*◌, ◌-◌, ◌++◌, ◌∷◌, ◌&&◌, ℕ, suc, true, List, [], length, take, drop, slice_set, refl, sym, ap, ◌∙◌, arith}
 use Rattle.std.proofs.lemmas.List.{drop-drop, map-append, take_more_set, take-append-drop}
 use Rattle.mysql_wire.specs.Writing.{saturated}
@@ -30,7 +30,7 @@ takes-all columns rows values =
 pub takes-none : (columns : List CColumnType) (rows n : ℕ) (values : List CValue) → rows ≤ n → takes_rows columns (rows - n) values ≡ true
 takes-none columns rows n values le = let none : rows - n ≡ 0 = omega arith in rw none refl
 
--- one size more stands in its place
+-- one more size is in its place
 pub size-put : (columns n size : ℕ) (values : List CValue) (sizes : List ℕ) → take n sizes ≡ sizes_of (first_rows columns n values) → n < length sizes
     → size ≡ saturated (row_size (values_contents (row_at columns n values))) → take (n + 1) (slice_set sizes n size) ≡ sizes_of (first_rows columns (n + 1) values)
 size-put columns n size values sizes so_far fits is =
@@ -40,7 +40,7 @@ size-put columns n size values sizes so_far fits is =
     ∙ sym (map-append (λ row. saturated (row_size row)) (first_rows columns n values) (values_contents (row_at columns n values) ∷ []))
     ∙ sym (ap sizes_of (first-next columns n values))
 
--- all of them stand there
+-- all of them are there
 pub sizes-put : (n : ℕ) (old new front : List ℕ) → take n new ≡ front → drop n new ≡ drop n old → new ≡ front ++ drop n old
 sizes-put n old new front first others = sym (take-append-drop n new) ∙ ap (λ l. l ++ drop n new) first ∙ ap (λ l. front ++ l) others
 

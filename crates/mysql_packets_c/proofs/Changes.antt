@@ -1,4 +1,4 @@
--- What is answered of a value at the front of some bytes.
+-- The result for a value at the front of some bytes.
 use Rattle.std.proofs.Common.{◌≡◌, ℕ, List, [], Ok, false, refl, sym, subst, ap, ◌∙◌}
 use Rattle.mysql_wire.specs.declared.fault.FaultOf.{FaultOf}
 use Rattle.mysql_wire.specs.declared.fault.FaultOf.TheVariants as fault
@@ -26,14 +26,14 @@ pub entry-read : (read : Reading SessionStateInfo) (info : SessionStateInfo) (le
     → read ≡ Ok (info, left) → decoded_as_sent info ≡ Ok (c, []) → entry_of read ≡ Ok ((info, c), left)
 entry-read read info left c e d = ap entry_of e ∙ ap (λ r. with_change info left r) d
 
--- an entry that is refused
+-- a refused entry
 pub entry-fault : (read : Reading SessionStateInfo) (e : FaultOf) → Faults false e read → Faults {A = Entry} false e (entry_of read)
 entry-fault read fault.UnexpectedEof h = ap entry_of h
 entry-fault read (fault.InvalidData text) h = ap entry_of h
 entry-fault read (fault.InvalidInput text) h = ap entry_of h
 entry-fault read fault.Memory h = absurd cc
 
--- and a change that is
+-- and a refused change
 change-after : (info : SessionStateInfo) (left : List ℕ) (e : FaultOf) → Faults false e (decoded_as_sent info) → Faults {A = Entry} false e (with_change info left (decoded_as_sent info))
 change-after info left fault.UnexpectedEof h = ap (λ r. with_change info left r) h
 change-after info left (fault.InvalidData text) h = ap (λ r. with_change info left r) h

@@ -1,4 +1,4 @@
--- Parameters that were checked, and the bytes of an execution of them.
+-- Checked parameters, and the bytes of an execution with them.
 use Rattle.std.proofs.Common.{◌≡◌, ◌≢◌, ◌<◌, ◌≤◌, ◌+◌, ◌*◌, ◌^◌, ◌-◌, ◌++◌, ◌∷◌, ◌&&◌, ◌||◌, ℕ, zero, suc, Bool, true, false, not, if◌then◌else◌, List, [], length, map, drop, get_or, nat_lt, replicate, take, Option, Some, None, is_some, cond, position, refl, sym, ap, ◌∙◌, arith}
 use Rattle.std.specs.List.{flat_map, list_all, position_or_len}
 use Rattle.std.specs.Option.{option_copied}
@@ -63,7 +63,7 @@ not-null p n is some = pick (is_null_sent p) refl
     pick false e = e
     pick true e = absurd (some (let none = ap length (null-sends-nothing p e) in omega (arith, is, none)))
 
--- one more that is not NULL
+-- one more value other than NULL
 pub nulls-next : (items : List CParameter) (i : ℕ) (p : CParameter) (n : ℕ) → i < length items → has_null (take i items) ≡ false
     → n ≡ saturated (length (sent_bytes (get_or items i p))) → n ≢ 0 → has_null (take (i + 1) items) ≡ false
 nulls-next items i p n lt before is some =
@@ -171,7 +171,7 @@ pub asked-plainly : (b : ComStmtExecuteOptionsBuilder CParameter) (head : ComStm
     → head ≡ with_count b.iteration_count (head_with b.stmt_id b.flags) → asked param_given named_type b (sent items) false ≡ plainly head items b.sends_types
 asked-plainly b head items none is_head = rw (none, is_head) refl
 
--- ---- which may be sent
+-- ---- what may be sent
 
 some-cond : (b : Bool) (n : ℕ) → is_some (cond b (Some n) None) ≡ b
 some-cond true n = refl
@@ -220,9 +220,9 @@ pub spelled-plainly : (b : ComStmtExecuteOptionsBuilder CParameter) (items : Lis
     → is_spelled (asked param_given named_type b (sent items)) ≡ not (is_some (first_unspelled (sent items)))
 spelled-plainly b items none = rw none (and-true (not (is_some (first_unspelled (sent items)))))
 
--- ---- what is put
+-- ---- what is written
 
--- bytes that one packet carries
+-- bytes that fit one packet
 pub puts-short : (bytes : List ℕ) (len code : ℕ) (old new : List ℕ) (written : ℕ) → len ≡ saturated (length bytes) → len ≤ 2 ^ 24 - 1 → written ≡ len
     → (len ≤ length old → (code ≡ 0) × (new ≡ bytes ++ drop len old)) → (length old < len → (code ≡ 5) × (new ≡ old)) → PutsUnlessTooLong bytes code old new written
 unfolding saturated

@@ -1,4 +1,4 @@
--- What is answered of a reading.
+-- The result of a reading.
 use Rattle.std.proofs.Common.{◌≡◌, ℕ, List, Option, Ok, false, refl, sym, subst}
 use Rattle.mysql_wire.specs.declared.fault.FaultOf.{FaultOf}
 use Rattle.mysql_wire.specs.declared.fault.FaultOf.TheVariants as fault
@@ -9,12 +9,12 @@ use Rattle.mysql_packets_c.specs.Rows.{values_held, RowInto}
 use Rattle.mysql_packets_c.specs.declared.value.CValue.{CValue}
 use Rattle.mysql_values.specs.Value.{Content}
 
--- a value that was read, whose fields the struct holds
+-- a value that was read into the struct's fields
 pub read-into : {A S : Type 0} (Holds : A → List ℕ → S → Type 0) (read : Reading A) (old new : S) (v : A) (rest : List ℕ)
     → read ≡ Ok (v, rest) → Holds v rest new → ReadsInto Holds read 0 old new
 read-into Holds read old new v rest e h = subst (λ (r : _). ReadsInto Holds r 0 old new) (sym e) (refl, h)
 
--- a fault, where no memory is taken
+-- a fault of a reader that doesn't allocate
 pub fault-into : {A S : Type 0} (Holds : A → List ℕ → S → Type 0) (read : Reading A) (old : S) (e : FaultOf)
     → Faults false e read → ReadsInto Holds read (fault_code e) old old
 fault-into Holds read old fault.UnexpectedEof h = subst (λ (r : _). ReadsInto Holds r 1 old old) (sym h) (refl, refl)
@@ -22,7 +22,7 @@ fault-into Holds read old (fault.InvalidData text) h = subst (λ (r : _). ReadsI
 fault-into Holds read old (fault.InvalidInput text) h = subst (λ (r : _). ReadsInto Holds r 3 old old) (sym h) (refl, refl)
 fault-into Holds read old fault.Memory h = absurd cc
 
--- the same of a row
+-- the same for a row
 pub row-into : (packet : List ℕ) (values : List CValue) (read : Reading (List (Option Content))) (old used : ℕ) (rest : List ℕ)
     → read ≡ Ok (values_held values, rest) → used ≡ used_of packet rest → RowInto packet values read 0 old used
 row-into packet values read old used rest e u = subst (λ (r : _). RowInto packet values r 0 old used) (sym e) (refl, refl, u)

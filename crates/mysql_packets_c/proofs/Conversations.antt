@@ -23,13 +23,13 @@ use Rattle.mysql_packets_c.specs.declared.conversation.CPacket.{CPacket}
 one_opening : (n : ℕ) (o p : InitialPhase) → opening_of n ≡ Some o → opening_of n ≡ Some p → o ≡ p
 one_opening n o p e f = same_Some o p (sym e ∙ f)
 
--- where nothing can have been taken at a place, the numbers are of no conversation
+-- numbers that no conversation can reach belong to none
 pub none_taken : {A : Type 0} (r : Option A) (c : CConversation) (o : InitialPhase) → opening_of c.opening ≡ Some o
     → IfNone r ((items : List Packet) → TakenAt (agreed_of c) (state_of c o) items → ⊥) → IfNone r (IsNone c)
 none_taken None c o e h = λ items t. h items (subst (λ p. TakenAt (agreed_of c) (state_of c p) items) (one_opening c.opening t.0 o t.1 e) t.2)
 none_taken (Some x) c o e h = tt
 
--- whether it is whole, as the library says
+-- whether it is complete, as in the library
 pub whole_is : (r : Bool) (c : CConversation) (conversation : Conversation) (items : List Packet) → IsOf c conversation
     → (IsTrue r ↔ IsConversation (history.agreed conversation) (history.opening conversation) items) → IsTrue r ↔ IsWhole c items
 whole_is r c conversation items is rests = (
@@ -37,12 +37,12 @@ whole_is r c conversation items is rests = (
   (λ w. rests.1 (subst (λ o. IsConversation (history.agreed conversation) o items) (one_opening c.opening w.0 (history.opening conversation) w.1 is.opening) (subst (λ a. IsConversation a w.0 items) (sym is.agreed) w.2))),
 )
 
--- a flag that is 1 where this is true, and else 0
+-- a flag that is 1 if this is true, otherwise 0
 pub flag_is : {W : Type 0} (r : Bool) (flag : ℕ) → (r ≡ true → flag ≡ 1) → (r ≡ false → flag ≡ 0) → (IsTrue r ↔ W) → (flag ≡ 1) ↔ W
 flag_is true flag when_true when_false w = ((λ f. w.0 refl), (λ x. when_true refl))
 flag_is false flag when_true when_false w = ((λ f. let no : 0 ≡ 1 = sym (when_false refl) ∙ f in absurd cc), (λ x. let no : false ≡ true = w.1 x in absurd cc))
 
--- a row is taken where the library says so
+-- a row is accepted if the library accepts it
 pub row_taken : (r : Option PacketKind) (c : CConversation) (o : InitialPhase) (payload : List ℕ) → opening_of c.opening ≡ Some o
     → IfSome r (λ kind. (items : List Packet) → TakenAt (agreed_of c) (state_of c o) items → TakenAt (agreed_of c) (state_of c o) (items ++ packet Server payload kind ∷ []))
     → IfSome r (λ kind. (items : List Packet) → Taken c items → Taken c (items ++ packet Server payload kind ∷ []))
@@ -50,17 +50,17 @@ row_taken None c o payload e h = tt
 row_taken (Some kind) c o payload e h = λ items t.
     (o, e, h items (subst (λ p. TakenAt (agreed_of c) (state_of c p) items) (one_opening c.opening t.0 o t.1 e) t.2))
 
--- the beginning of it is that of the library's
+-- its beginning is that of the library's conversation
 pub begun_as : (c : CConversation) (conversation : Conversation) (o : InitialPhase) (items : List Packet) → IsOf c conversation → opening_of c.opening ≡ Some o
     → IsBeginning (agreed_of c) o items → IsBeginning (history.agreed conversation) (history.opening conversation) items
 begun_as c conversation o items is e b =
     subst (λ p. IsBeginning (history.agreed conversation) p items) (one_opening c.opening o (history.opening conversation) e is.opening) (subst (λ a. IsBeginning a o items) (sym is.agreed) b)
 
--- a session that stands where the numbers say has taken what they say
+-- a session in the state of these numbers has accepted the packets that they describe
 pub session_taken : (c : CConversation) (s : Session) (items : List Numbered) → StandsAt (login_state_of c) s → LoginTaken c items → SessionTaken s items
 session_taken c s items e t = subst (λ p. TakenIn p items) (same_Some t.1.0 s.phase (sym t.1.1 ∙ e)) t.1.2
 
--- what a session takes before its conversation, the numbers take; or the conversation begins
+-- the numbers accept what a session accepts before its conversation; or the conversation begins
 pub leads : (before after : CConversation) (old new : Session) (side : Side) (payload : List ℕ) (kind : PacketKind) (number : ℕ) (out : CPacket) → StandsAt (login_state_of before) old → out ≡ packet_of kind
     → ((items : List Numbered) → SessionTaken old items → SessionTaken new (items ++ place side payload kind number ∷ []))
     → (((items : List Numbered) → SessionTaken new items → LoginTaken after items) ⊎ ((items : List Numbered) → SessionTaken new items → LogsIn after items))

@@ -1,11 +1,11 @@
--- The names of parameters that are read one after another.
+-- The names of parameters, read in order.
 use Rattle.std.proofs.Common.{◌≡◌, ◌<◌, ◌≤◌, ◌-◌, ◌++◌, ◌∷◌, ◌+◌, ℕ, List, [], slice_set, length, drop, take, sym, subst, ap, ◌∙◌, arith}
 use Rattle.std.proofs.lemmas.List.{append-nil, append_assoc, drop-drop, map-append, take_more_set}
 use Rattle.mysql_prepared.specs.ExecuteRead.{HasNoParam, ParamsLeft, TypedParam}
 use Rattle.mysql_packets_c.specs.ExecutionNames.{FillsNames, held, names_of}
 use Rattle.mysql_packets_c.specs.declared.text.CBytes.{CBytes}
 
--- one name more
+-- one more name
 pub one-name : (names : List CBytes) (place : ℕ) (x : CBytes) (read left more : List TypedParam) (p : TypedParam)
     → names_of read ≡ held (take place names) ++ names_of left → left ≡ p ∷ more → x.bytes.now ≡ p.named_type.name → place < length names
     → names_of read ≡ held (take (place + 1) (slice_set names place x)) ++ names_of more
@@ -21,7 +21,7 @@ all-names old new before names fills none =
     let given : names_of old.params ≡ held (take (old.left - 0) names) = rw (none.0, none.1, append-nil) at fills.names in
     subst (λ (n : ℕ). names_of old.params ≡ held (take n names)) whole given
 
--- further places are as they were too
+-- further places are unchanged too
 dropped : {X : Type 0} (i n : ℕ) (before after : List X) → i ≤ n → drop i after ≡ drop i before → drop n after ≡ drop n before
 dropped i n before after le same =
     let whole : i + (n - i) ≡ n = omega arith in

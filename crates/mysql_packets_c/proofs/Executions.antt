@@ -1,4 +1,4 @@
--- What filling places gives of an execution.
+-- An execution read into places.
 use Rattle.std.proofs.Common.{◌≡◌, ◌≢◌, ◌<◌, ◌≤◌, ◌-◌, ◌++◌, ◌∷◌, ◌+◌, ℕ, List, [], slice_set, Result, Ok, Err, Bool, length, drop, map, take, get_or, false, refl, sym, subst, ap, ◌∙◌, arith, if◌then◌else◌}
 use Rattle.std.proofs.lemmas.List.{append-nil, append_assoc, drop-drop, drop_more, length-drop, length-map, take_more_set}
 use Rattle.mysql_wire.specs.declared.fault.FaultKind.{FaultKind}
@@ -27,7 +27,7 @@ use Rattle.mysql_packets_c.specs.declared.value.CValue.{CValue}
 use Rattle.mysql_packets_c.specs.Rows.{FillsBoth, FillsPlaces}
 use Rattle.mysql_packets_c.proofs.FilledRows.{none-both, none-filled, one-more, one-param-set}
 
--- ---- one parameter more
+-- ---- one more parameter
 
 pub one-content : (values : List CValue) (place : ℕ) (x : CValue) (read left more : List TypedParam) (p : TypedParam)
     → contents_of read ≡ map param_content (take place values) ++ contents_of left → left ≡ p ∷ more → param_content x ≡ content_of p.param → place < length values
@@ -77,14 +77,14 @@ read-each {A = A} form place [] bytes xs rest e = let same : ([], bytes) ≡ (xs
 read-each form place (c ∷ cs) bytes xs rest e =
     several ((form place c).reads bytes) (λ mid. (each form (place + 1) cs).reads mid) (length cs) (λ mid. read-each form (place + 1) cs mid) xs rest e ∙ omega arith
 
--- the attributes that follow, as many as there are types
+-- the attributes that follow, one for each type
 pub counted-attributes : (view : AttributesLeft) (nulls : List ℕ) (place : ℕ) (types : List NamedType) (bytes rest : List ℕ) → view ≡ attributes_left nulls place types bytes
     → view.all ≡ Ok (attributes_read view.all, rest) → length (attributes_read view.all) ≡ view.left
 counted-attributes view nulls place types bytes rest is read =
     let here : (each (attribute nulls) place types).reads bytes ≡ Ok (attributes_read view.all, rest) = sym (ap (λ (v : AttributesLeft). v.all) is) ∙ read in
     read-each (attribute nulls) place types bytes (attributes_read view.all) rest here ∙ sym (ap (λ (v : AttributesLeft). v.left) is)
 
--- a fault ends all
+-- a fault ends the reading
 pub then-fault : {A B : Type 0} (r : Reading A) (next : A → List ℕ → Reading B) (e : FaultOf) → Faults false e r → Faults false e (then_read r next)
 then-fault r next fault.UnexpectedEof h = rw h refl
 then-fault r next (fault.InvalidData text) h = rw h refl
@@ -102,7 +102,7 @@ some-filled count is_read old new values_before values types_before types left f
   places = record { set = fills.set; others = fills.other_values };
 }
 
--- of both arrays as many places are set
+-- the same number of places is set in both arrays
 pub both-filled : (count : ℕ) (is_read : Type 0) (old new : ParamsLeft) (values_before values : List CValue) (types_before types : List CColumnType)
     → old.left ≡ count → FillsParams old new values_before values types_before types → (is_read → HasNoParam new) → FillsBoth count is_read values_before values types_before types
 both-filled count is_read old new values_before values types_before types left fills done = record {
@@ -113,7 +113,7 @@ both-filled count is_read old new values_before values types_before types left f
   other_places = fills.other_types;
 }
 
--- further places are as they were too
+-- further places are unchanged too
 dropped : {X : Type 0} (i n : ℕ) (before after : List X) → i ≤ n → drop i after ≡ drop i before → drop n after ≡ drop n before
 dropped i n before after le same =
     let whole : i + (n - i) ≡ n = omega arith in
@@ -131,7 +131,7 @@ not-memory (fault.InvalidData text) read h = λ is. absurd cc
 not-memory (fault.InvalidInput text) read h = λ is. absurd cc
 not-memory fault.Memory read h = absurd cc
 
--- ---- what the server knows before
+-- ---- what the server knew before
 
 list-at : (params : List CBoundParam) (i n : ℕ) → n ≡ i → bound_list (drop i params) ≡ bound_list (drop n params)
 list-at params i n is = ap (λ (k : ℕ). bound_list (drop k params)) (sym is)
@@ -142,7 +142,7 @@ all-left sent params len =
     let none : length params - sent.left ≡ 0 = omega (arith, len) in
     ap (λ (k : ℕ). left_of sent (bound_list (drop k params))) none
 
--- what is left once no parameter is
+-- what is left after the last parameter
 pub record NoneLeft (sent : ParamsBytes) (left : ParamsLeft) : Type 0 where
   pub none : HasNoParam left
   pub end : left.end ≡ Ok sent.values
@@ -219,7 +219,7 @@ module _ (c : CapabilityFlags) (flags : ℕ) (params : List BoundParam) (bytes :
 pub front-sends : (c : CapabilityFlags) (flags params : ℕ) (bytes : List ℕ) (b : ParamsBytes) → StandsAfter c flags params bytes b → sends_types ((execution_front c flags params).reads bytes) ≡ (if b.sends_types then 1 else 0)
 front-sends c flags params bytes b (f, after, reads, is) = rw (reads, is) refl
 
--- a fault comes after any parameters
+-- a fault may follow any number of parameters
 fault-after : (ps : List TypedParam) (end : Result (List ℕ) FaultKind) (e : FaultOf) → Faults false e (params_to [] end) → Faults false e (params_to ps end)
 fault-after ps (Err k) e h = h
 fault-after ps (Ok rest) fault.UnexpectedEof h = absurd cc

@@ -1,4 +1,4 @@
--- What filling places gives of a row.
+-- A row read into places.
 use Rattle.std.proofs.Common.{◌≡◌, ◌-◌, ◌++◌, ◌∷◌, ◌+◌, ◌<◌, ◌≤◌, ℕ, List, [], get_or, refl, slice_set, Option, Result, Ok, Err, length, map, take, drop, false, sym, subst, ap, ◌∙◌, arith, ◌==◌, Bool, if◌then◌else◌}
 use Rattle.std.proofs.lemmas.List.{append-nil, append_assoc, drop-drop, drop-set-lt, get_or-drop, length-map, length-set, length-take-le, map-append, take_more, take_more_set}
 use Rattle.std.proofs.lemmas.List.Elements.{AllZip-push}
@@ -16,7 +16,7 @@ use Rattle.mysql_packets_c.specs.Value.{IsSet, Sets, SetsParam, date_with_offset
 use Rattle.mysql_packets_c.specs.declared.rows.CColumnType.{CColumnType}
 use Rattle.mysql_packets_c.specs.declared.value.CValue.{CValue}
 
--- what stands in the places so far
+-- the content of the places so far
 abbrev pub SoFar : (first row : RowLeft) (before values : List CValue) → ℕ → Type 0
 SoFar first row before values place = record {
   count : place + row.left ≡ first.left;
@@ -27,7 +27,7 @@ SoFar first row before values place = record {
   len : length values ≡ length before;
 }
 
--- one value more stands in its place
+-- one more value is in its place
 pub one-more : {C : Type 0} (held : CValue → C) (values : List CValue) (place : ℕ) (x : CValue) (read left more : List C) (c : C) → read ≡ map held (take place values) ++ left → left ≡ c ∷ more
     → held x ≡ c → place < length values → read ≡ map held (take (place + 1) (slice_set values place x)) ++ more
 one-more held values place x read left more c before first is fits =
@@ -35,7 +35,7 @@ one-more held values place x read left more c before first is fits =
     before ∙ ap (λ vs. map held (take place values) ++ vs) (first ∙ ap (λ v. v ∷ more) (sym is))
     ∙ sym (ap (λ vs. vs ++ more) stored ∙ append_assoc (map held (take place values)) (held x ∷ []) more)
 
--- one place more is set
+-- one more place is set
 pub one-param-set : (before values : List CValue) (place : ℕ) (x z : CValue) (c : ParamContent) → AllZip IsSet (take place before) (take place values) → drop place values ≡ drop place before
     → length values ≡ length before → place < length values → param_content x ≡ c → SetsParam c (get_or values place z) x
     → AllZip IsSet (take (place + 1) before) (take (place + 1) (slice_set values place x))
@@ -66,7 +66,7 @@ plain-kind x n kind not_eight =
     ap (λ (k : ℕ). if k == 8 then WithOffset (date_with_offset_of x) else Plain (value_content x)) kind
     ∙ ap (λ (b : Bool). if b then WithOffset (date_with_offset_of x) else Plain (value_content x)) not_eight
 
--- as a parameter it holds the same
+-- as a parameter it has the same content
 plain-held : (c : Content) (old x : CValue) → value_content x ≡ c → Sets c old x → param_content x ≡ Plain c
 plain-held c old x is sets = plain-kind x (kind_of c) sets.kind (kind-of-eight c) ∙ ap Plain is
 
@@ -76,13 +76,13 @@ pub one-set : (before values : List CValue) (place : ℕ) (x z : CValue) (c : Co
 one-set before values place x z c set others len fits content sets =
     one-param-set before values place x z (Plain c) set others len fits (plain-held c (get_or values place z) x content sets) sets
 
--- the places after it are as they were
+-- the places after it are unchanged
 pub others-kept : {X : Type 0} (before values : List X) (place : ℕ) (x : X) → drop place values ≡ drop place before → drop (place + 1) (slice_set values place x) ≡ drop (place + 1) before
 others-kept before values place x others =
     let past : place < place + 1 = omega arith in
     drop-set-lt (place + 1) values place x past ∙ sym (drop-drop 1 place values) ∙ ap (drop 1) others ∙ drop-drop 1 place before
 
--- one value more is put into its place
+-- one more value is stored in its place
 pub one-filled : (first row after : RowLeft) (before values : List CValue) (place : ℕ) (x z : CValue) (c : Content) → SoFar first row before values place
     → Gives row c after → value_content x ≡ c → Sets c (get_or values place z) x → place < length values
     → SoFar first after before (slice_set values place x) (place + 1)
@@ -113,7 +113,7 @@ none-both columns is_read values others none = record {
   other_places = refl;
 }
 
--- all that is good was read
+-- everything before the fault was read
 module _ (old new : RowLeft) (before after : List CValue) (fit : old.left ≤ length before) (fills : Fills old new before after) (none : new.values ≡ []) where
   abbrev count : ℕ
   count = old.left - new.left
@@ -133,7 +133,7 @@ module _ (old new : RowLeft) (before after : List CValue) (fit : old.left ≤ le
     };
   }
 
--- of a text row, whether it is whole or not
+-- of a text row, complete or not
 pub text-whole : (columns : ℕ) (packet : List ℕ) (old new : RowLeft) (before after : List CValue) → old ≡ text_row_left columns packet → columns ≤ length before
     → Fills old new before after → IsDone new → FillsGood (good_text columns packet) before after
 text-whole columns packet old new before after is fit fills done =
@@ -160,7 +160,7 @@ pub binary-refused : (columns : List CColumnType) (packet : List ℕ) (old new :
 binary-refused columns packet old new before after e is fit fills refused =
     binary-good columns packet old before after is (good-filled old new before after fit fills refused.0)
 
--- no value stands after a front that is none
+-- a faulty front has no value after it
 nothing-filled : (before : List CValue) → FillsGood [] before before
 nothing-filled before = record { held = refl; places = record { set = tt; others = refl } }
 

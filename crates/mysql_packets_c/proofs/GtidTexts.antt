@@ -1,4 +1,4 @@
--- What is answered of the texts of GTID sets.
+-- The results for texts of GTID sets.
 use Rattle.std.proofs.Common.{◌≡◌, ℕ, List, Ok, Some, None, Bool, true, false, refl, sym, subst, ◌∙◌, ◌⊎◌, inl, inr}
 use Rattle.std.specs.List.{list_all}
 use Rattle.std.specs.Prelude.{is_some}
@@ -20,7 +20,7 @@ either_way : (b : Bool) → (b ≡ true) ⊎ (b ≡ false)
 either_way true = inl refl
 either_way false = inr refl
 
--- the sids that are held
+-- the stored sids
 pub held-are : (list : List CSid) (held : List Sid) → sids_held list ≡ Some held → sids_or list ≡ held
 held-are list held e =
     elim (either_way (list_all (λ s. is_some (tag_held s)) list)) [

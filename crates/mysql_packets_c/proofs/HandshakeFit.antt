@@ -1,4 +1,4 @@
--- A handshake whose fields fit is read again.
+-- A handshake is read back if its fields fit.
 use Rattle.std.proofs.Common.{ℕ, zero, suc, List, [], ◌∷◌, length, Bool, true, false, IsTrue, not, nat_le, ◌&&◌, ◌==◌, refl, arith}
 use Rattle.std.proofs.lemmas.Bool.{leb-true}
 use Rattle.mysql_auth.specs.Handshake as handshake

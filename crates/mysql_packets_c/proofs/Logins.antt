@@ -1,4 +1,4 @@
--- A login and a change of user end in their attributes.
+-- A login and a change of user end with their attributes.
 use Rattle.std.proofs.Common.{◌≡◌, ◌≢◌, ◌==◌, ◌&&◌, ℕ, Bool, true, false, not, List, [], ◌∷◌, ◌++◌, Option, Some, None, if◌then◌else◌, append_assoc, refl, subst, sym, ap, ◌∙◌}
 use Rattle.std.proofs.lemmas.Bool.{ne_eqb}
 use Rattle.std.proofs.lemmas.List.{append-nil}
@@ -37,7 +37,7 @@ session flags p = (session_change_user flags).bytes p
 joined : (h u a d c n p : List ℕ) → (h ++ (u ++ (a ++ (d ++ ((c ++ (n ++ ([] ++ []))) ++ []))))) ++ (p ++ []) ≡ h ++ (u ++ (a ++ (d ++ ((c ++ (n ++ (p ++ []))) ++ []))))
 joined h u a d c n p = simp (append-nil, append_assoc)
 
--- What follows the schema ends in the attributes. The other flags are those of a session without attributes.
+-- What follows the schema ends with the attributes. The other flags are those of a session without attributes.
 more-ends : (flags others : CapabilityFlags) (user auth database : List ℕ) (set : ℕ) (plugin : Option AuthPlugin) (pairs : List Attribute) → has others.0 CLIENT_PLUGIN_AUTH ≡ has flags.0 CLIENT_PLUGIN_AUTH
     → has others.0 CLIENT_CONNECT_ATTRS ≡ false → has flags.0 CLIENT_CONNECT_ATTRS ≡ true
     → session others (change_of user auth database (Some (more_data_of set plugin None))) ++ (attributes.bytes pairs ++ []) ≡ session flags (change_of user auth database (Some (more_data_of set plugin (Some pairs))))
@@ -73,7 +73,7 @@ change-without n c given none = ap (λ (b : Bool). change_with n c (if b then So
 
 pub ruleset changes = (change-ends, change-without)
 
--- a number that is set
+-- a number that is present
 set-is : (n : ℕ) → n ≢ 0 → is_set n ≡ true
 set-is n some = ap not (ne_eqb n 0 some)
 
@@ -97,7 +97,7 @@ login-without c given p none is =
     let empty : connect_attributes p ≡ None = is ∙ ap (λ (n : ℕ). if_set n []) none in
     ap (λ (a : Option (List Attribute)). record p { connect_attributes = a }) (ap (λ (n : ℕ). if_set n (merged_pairs given)) none ∙ sym empty)
 
--- a level that is set is that
+-- a level that is present is that number
 pub level-held : (level : Option ℕ) → option_map (λ (n : RawInt ℕ ℕ). n.0) (option_map raw_int level) ≡ level
 level-held None = refl
 level-held (Some n) = refl

@@ -1,4 +1,4 @@
--- Pairs that are put into a map, by the names that came before.
+-- Pairs inserted into a map, by the names before them.
 use Rattle.std.proofs.Common.{◌≡◌, ℕ, Bool, true, false, ◌||◌, List, [], ◌∷◌, ◌++◌, ◌+◌, ◌<◌, ◌≤◌, length, take, drop, get_or, if◌then◌else◌, option_map, Option, Some, None, refl, sym, ap, ◌∙◌}
 use Rattle.std.proofs.lemmas.Str.{IsUtf8-from_is_utf8, is_utf8-from_IsUtf8}
 use Rattle.std.proofs.lemmas.List.{drop_all, drop_more, length-append, map-append, take_more}
@@ -55,7 +55,7 @@ first-known name value es (p ∷ pairs) = insert-step name value es pairs p (sam
 
 -- ---- what comes before
 
--- a name that came already adds none
+-- a repeated name adds no pair
 known-step : (b c : Bool) (q : Attribute) (l m : List Attribute) → c ≡ b → l ≡ m → (if c then l else q ∷ l) ≡ (if b then m else q ∷ m)
 known-step true c q l m e h = rw (e, h) refl
 known-step false c q l m e h = rw (e, h) refl
@@ -119,11 +119,11 @@ all-apart : (pairs : List Attribute) → apart [] pairs ≡ pairs
 all-apart [] = refl
 all-apart (p ∷ pairs) = ap (λ l. p ∷ l) (all-apart pairs)
 
--- the map that pairs make
+-- the map of pairs
 pub firsts-merged : (pairs : List Attribute) → firsts [] pairs ≡ merged pairs
 firsts-merged pairs = firsts-apart [] pairs ∙ ap (λ l. insert_all same [] l) (all-apart pairs)
 
--- ---- one after another
+-- ---- in order
 
 named-pairs : (attributes : List CAttribute) (name : List ℕ) → has_name name attributes ≡ is_named name (pairs_of attributes)
 named-pairs [] name = refl
@@ -170,7 +170,7 @@ last-next attributes i a d name value next within is e =
 pub last-end : (attributes : List CAttribute) (i : ℕ) (name value : List ℕ) → length attributes ≤ i → last_of name value (pairs_of (drop i attributes)) ≡ value
 last-end attributes i name value past = ap (λ (x : List CAttribute). last_of name value (pairs_of x)) (drop_all i attributes past)
 
--- how many bytes the first of them takes
+-- the length of the first one
 pub pairs-more : (p : Attribute) (pairs : List Attribute) → length (pairs_bytes (p ∷ pairs)) ≡ length (attribute.bytes p) + length (pairs_bytes pairs)
 pairs-more p pairs = length-append (attribute.bytes p) (pairs_bytes pairs)
 

@@ -1,10 +1,10 @@
--- Bytes that are mixed one after another.
+-- Bytes that are combined one by one.
 use Rattle.std.proofs.Common.{◌≡◌, ◌<◌, ◌+◌, ◌++◌, ℕ, zero, suc, List, [], ◌∷◌, length, take, drop, slice_set, get_or, refl, ap, ◌∙◌, arith}
 use Rattle.std.specs.Int.Bits.{bit_xor}
 use Rattle.std.proofs.lemmas.List.{append-nil, drop_all, take_all}
 use Rattle.mysql_packets_c.specs.Scramble.{mixed}
 
--- the first ones are mixed
+-- the first ones are combined
 abbrev pub mixed_to : ℕ → List ℕ → List ℕ → List ℕ
 mixed_to n xs ys = mixed (take n xs) (take n ys) ++ drop n xs
 

@@ -4,7 +4,7 @@ use Rattle.std.proofs.lemmas.Bool.{le-leb, leb-true, lt-ltb, ltb-false, ltb-true
 use Rattle.std.specs.Int.{cast_signed}
 use Rattle.mysql_packets_c.specs.Value.{is_offset}
 
--- what a number is in two's complement, by whether it is below 2^63
+-- a number in two's complement, by whether it is below 2^63
 abbrev signed : ℕ → Bool → ℤ
 signed n small = if small then pos n else negsuc (2 ^ 64 - suc n)
 
@@ -19,7 +19,7 @@ fits-by n false whole e fits =
     let small : 2 ^ 64 - suc n < 2 ^ 15 = fits.sfits in
     rw (le-leb (2 ^ 64 - 2 ^ 15) n (omega (arith, past, small, whole))) (or-true (nat_lt n (2 ^ 15)))
 
--- a number is an offset where 16 bits hold what it is in two's complement
+-- a number is an offset if its two's complement fits 16 bits
 pub fits-offset : (n : ℕ) → n < 2 ^ 64 → FitsSigned w16 (cast_signed w64 n) → is_offset n ≡ true
 fits-offset n whole fits = fits-by n (nat_lt n (2 ^ 63)) whole refl fits
 

@@ -15,7 +15,7 @@ good-later (Ok x) a items rest e =
     (sym (ap (λ (p : List Attribute × List ℕ). p.0) h), (x.1, refl))
 good-later (Err k) a items rest e = absurd cc
 
--- the first of what is left, and the others
+-- the first of the rest, and the others
 pub next-first : (old new : AttributesLeft) (a : Attribute) → IsGood old → old.all ≡ more a new.all → attributes_read old.all ≡ a ∷ attributes_read new.all
 next-first old new a good e = (good-later new.all a (attributes_read old.all) good.0 (sym e ∙ good.1)).0
 
@@ -26,7 +26,7 @@ next-good old new a good e = (good-later new.all a (attributes_read old.all) goo
 pub none-first : (old : AttributesLeft) (rest : List ℕ) → old.all ≡ Ok ([], rest) → attributes_read old.all ≡ []
 none-first old rest e = ap attributes_read e
 
--- what is good is not refused
+-- a valid one isn't refused
 pub good-fault : (old : AttributesLeft) (e : FaultOf) → IsGood old → Faults false e old.all → ⊥
 good-fault old fault.UnexpectedEof good h = cc (good.1, h)
 good-fault old (fault.InvalidData text) good h = cc (good.1, h)
@@ -44,7 +44,7 @@ at-first list a xs n e none = rw (e, none) refl
 pub at-none : (list : List Attribute) (n : ℕ) → list ≡ [] → at list n ≡ None
 at-none list n e = rw e refl
 
--- what is answered
+-- the result
 pub attribute-into : {A : Type 0} (attributes : A → List Attribute) (i : ℕ) (read : Reading A) (a : A) (rest : List ℕ) (x : Option Attribute) (code : ℕ) (old new : CParameter)
     → read ≡ Ok (a, rest) → at (attributes a) i ≡ x → Gives x code old new → AttributeInto attributes i read code old new
 attribute-into attributes i read a rest x code old new e is h =

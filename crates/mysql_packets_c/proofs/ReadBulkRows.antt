@@ -1,4 +1,4 @@
--- The types and the rows of a bulk execution, read one after another.
+-- The types and the rows of a bulk execution, read in order.
 use Rattle.std.proofs.Common.{◌≡◌, ◌<◌, ◌≤◌, ◌+◌, ◌*◌, ◌-◌, ◌++◌, ◌∷◌, ℕ, Bool, true, false, List, [], length, map, take, drop, get_or, slice_set, Result, Ok, Err, refl, sym, subst, ap, ◌∙◌, arith, if◌then◌else◌, nat_lt}
 use Rattle.std.proofs.lemmas.List.{drop-drop, get_or-map, length-map, length-set, map-append, take_all, take_more_set}
 use Rattle.std.specs.List.{AllZip}
@@ -36,7 +36,7 @@ use Rattle.mysql_packets_c.proofs.FilledRows.{none-both, none-filled, one-set, o
 
 -- ---- types
 
--- the types so far stand in the first places
+-- the types so far are in the first places
 pub record TypesSoFar (old rest : List ℕ) (before types : List CColumnType) (place : ℕ) : Type 0 where
   pub found : List ParamType
   pub read : (n : ℕ) → place ≤ n → with_front found ((counted (n - place) (param_type.form tt)).reads rest) ≡ (counted n (param_type.form tt)).reads old
@@ -82,7 +82,7 @@ all-types old rest before types place s le =
     let all : take place types ≡ types = take_all place types (omega (arith, le, s.len)) in
     (s.found, all-read (param_type.form tt) s.found (length before) place rest _ le (s.read (length before) s.within), sym all ∙ s.held)
 
--- those that were read stand in the first places
+-- those that were read are in the first places
 pub types-filled : (old rest : List ℕ) (before types : List CColumnType) (place : ℕ) → TypesSoFar old rest before types place → FillsTypes old before types
 types-filled old rest before types place s = record {
   count = place;
@@ -167,7 +167,7 @@ column-reads c d types place rest is lt =
 
 -- ---- rows
 
--- the values so far stand in the first places, and how each is given
+-- the values so far are in the first places, with their indicators
 pub record RowSoFar (types : List CColumnType) (old rest : List ℕ) (values_before values : List CValue) (indicators_before indicators : List ℕ) (place : ℕ) : Type 0 where
   pub row : List ParamValue
   pub read : with_front row ((each value_of_column place (drop place (map column_of types))).reads rest) ≡ (bulk_row types).reads old
@@ -228,7 +228,7 @@ one-value types old rest after values_before values indicators_before indicators
       indicator_places = length-set indicators place code ∙ s.indicator_places;
     }
 
--- no memory is refused where none is taken
+-- a reader that doesn't allocate doesn't return Memory
 without-memory : {A B : Type 0} (e : FaultOf) (part : Reading A) (read : Reading B) → Faults false e part → Faults true e read → Faults false e read
 without-memory fault.UnexpectedEof part read h f = f
 without-memory (fault.InvalidData text) part read h f = f

@@ -1,4 +1,4 @@
--- The text of a GTID set that is written from the caller's structs.
+-- The text of a GTID set, written from the caller's structs.
 use Rattle.std.proofs.Common.{◌≡◌, ℕ, ◌+◌, ◌-◌, ◌^◌, ◌<◌, ◌≤◌, min, List, [], ◌∷◌, ◌++◌, length, take, drop, get_or, Option, Some, None, true, refl, sym, ap, ◌∙◌, append_assoc, arith}
 use Rattle.std.proofs.lemmas.List.{append-nil, drop-drop, get_or-map, length-append, length-map, take-append-drop, take_all}
 use Rattle.std.proofs.lemmas.List.Folds.{flat_map-map}
@@ -50,7 +50,7 @@ module _ (list : List CSid) (k : ℕ) (s d : CSid) (lt : k < length list) (is : 
   unfolding saturated
   next-total before b total len sum is next added = omega (arith, is, next, added, next-length before b)
 
-  -- there is capacity for it, where there is for the whole
+  -- there is capacity for it if there is for all of it
   pub next-fits : (before : Option Sid) → before ≡ last_from None (take k (sids_or list)) → (held now : List ℕ) (capacity grown : ℕ) → now ≡ held ++ texts_after None (take k (sids_or list)) → capacity ≤ grown
       → length held + length (set_text (sids_or list)) ≤ capacity → length now + length (next_text before (sid_or s)) ≤ grown
   unfolding set_text

@@ -1,4 +1,4 @@
--- What structs tell of sids.
+-- The sids of structs.
 use Rattle.std.proofs.Common.{◌≡◌, ℕ, ◌≤◌, List, [], ◌∷◌, length, take, Some, None, refl, sym, ap, ◌∙◌, arith}
 use Rattle.std.proofs.lemmas.Bool.{le-leb}
 use Rattle.std.specs.Str.{IsUtf8}
@@ -35,7 +35,7 @@ tag-place (b ∷ bytes) h = refl
 
 pub ruleset tag_places = (tag-place)
 
--- ---- a tag that is put
+-- ---- a tag that is written
 
 pub tag-put : (out : CSid) (tag : List ℕ) → IsTag tag → out.tag_length ≡ length tag → take (length tag) out.tag ≡ tag → tag_held out ≡ Some (Some tag)
 unfolding tag_held

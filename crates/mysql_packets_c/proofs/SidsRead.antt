@@ -25,7 +25,7 @@ from_none (Err e) h = (e, refl)
 same-some : {A : Type 0} (x y : A) → ◌≡◌ {A = Option A} (Some x) (Some y) → x ≡ y
 same-some x y h = cc
 
--- what was read before: it stands in the places, if they are this many
+-- what was read before, in the places if there are enough
 pub record StandsBefore (n : ℕ) (places : List CInterval) (left total : Result (List GnoInterval) InvalidSid) : Type 0 where
   pub front : List GnoInterval
   pub read : with_front front left ≡ total
@@ -115,7 +115,7 @@ module _ (read : Result Sid InvalidSid) (found : Result SidParts InvalidSid) (is
 
 pub ruleset sids_in = (parts-tell, parts-refused, no-parts)
 
--- ---- what the call answers
+-- ---- the result of the call
 
 pub sid-found : (read : Result Sid InvalidSid) (places answer : ℕ) (old new : CSid) (needed : ℕ) (found : SidText) → Found (Some found) read
     → ((s : Sid) → Tells found s → PutsSid s places answer old new needed) → SidInto read places answer old new needed
@@ -126,7 +126,7 @@ same-tag : (s t : CSid) → s.tag ≡ t.tag → s.tag_length ≡ t.tag_length �
 unfolding tag_held
 same-tag s t tag len = rw (tag, len) refl
 
--- the struct holds the intervals where they stand in their places
+-- the struct has the intervals if they are in their places
 pub sid-put : (s : Sid) (answer : ℕ) (old mid new : CSid) (before after : List CInterval) (needed : ℕ) → PutsParts s answer old mid before after needed → answer ≡ 0
     → new.uuid ≡ mid.uuid → new.tag ≡ mid.tag → new.tag_length ≡ mid.tag_length → new.intervals.now ≡ take needed after → PutsSid s (length before) answer old new needed
 sid-put s answer old mid new before after needed puts done uuid tag len stands = record {
@@ -147,7 +147,7 @@ pub none-found : (read : Result Sid InvalidSid) (places answer : ℕ) (old new :
 none-found (Ok s) places answer old new needed h refuses = absurd h
 none-found (Err e) places answer old new needed h refuses = refuses
 
--- the intervals that a text spells, where they are known
+-- the intervals that a text spells, if they are known
 pub places-of : (read : Result (List GnoInterval) InvalidSid) (list : List GnoInterval) (n : ℕ) (old new : List CInterval) → read ≡ Ok list → n ≡ length list → n ≤ length old
     → IfOk read (λ all. length all ≤ length old → intervals_of (take (length all) new) ≡ all) → intervals_of (take n new) ≡ list
 places-of read list n old new is count fits h = let stands : length list ≤ length old → intervals_of (take (length list) new) ≡ list = rw is at h in rw count (stands (rw count at fits))

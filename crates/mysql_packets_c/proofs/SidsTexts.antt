@@ -1,4 +1,4 @@
--- Text that is written piece by piece: what was written, with the text of what is left, is the whole.
+-- Text written in pieces: what was written, followed by the text of the rest, is all of it.
 use Rattle.std.proofs.Common.{◌≡◌, ℕ, ◌+◌, ◌≤◌, List, ◌++◌, length, sym, ap, ◌∙◌, arith}
 use Rattle.std.proofs.lemmas.List.{append-nil, length-append}
 

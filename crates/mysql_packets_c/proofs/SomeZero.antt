@@ -1,4 +1,4 @@
--- Whether a zero is among bytes.
+-- Whether bytes contain a zero.
 use Rattle.std.proofs.Common.{◌≡◌, ℕ, zero, suc, List, [], ◌∷◌, length, refl, arith, sym, ◌∙◌, inl, inr}
 use Rattle.std.specs.Prelude.{nat_lt}
 use Rattle.std.proofs.lemmas.Bool.{cases_lt, lt-ltb, le-ltb}
@@ -12,7 +12,7 @@ one-more a b =
       | inr le ↦ le-ltb (suc a) (suc b) (omega (arith, le)) ∙ sym (le-ltb a b le)
     ]
 
--- what stands before the first zero is shorter, where there is one
+-- the bytes before the first zero, if there is one, are fewer
 pub shorter-has_zero : (bytes : List ℕ) → nat_lt (length (before_zero bytes)) (length bytes) ≡ has_zero bytes
 unfolding before_zero
 shorter-has_zero [] = refl

@@ -1,4 +1,4 @@
--- The bytes of a request whose sids a text spells.
+-- The bytes of a request with the sids of a text.
 use Rattle.std.proofs.Common.{◌≡◌, ℕ, ◌+◌, ◌-◌, ◌^◌, ◌<◌, List, [], ◌∷◌, ◌++◌, drop, length, map, min, Option, Some, None, Bool, true, false, refl, sym, ap, ◌∙◌, arith, append_assoc, length-append}
 use Rattle.std.specs.Char.{to_ascii_lowercase}
 use Rattle.std.specs.List.{flat_map}
@@ -28,7 +28,7 @@ block-written list tagged count len head is long =
     let many : len ≡ min (length (entries_content tagged count list)) 4294967295 = omega (arith, long, length-append (le_bytes 8 (head_for tagged count)) bytes, length-le_bytes 8 (head_for tagged count)) in
     rw (is, many, append-nil) refl
 
--- ---- one after another
+-- ---- in order
 
 module _ (bytes_of : Entry → List ℕ) (left more : List Entry) (e : Entry) (split : left ≡ e ∷ more) where
   parts-left : flat_map bytes_of left ≡ bytes_of e ++ flat_map bytes_of more

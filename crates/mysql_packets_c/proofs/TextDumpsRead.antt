@@ -1,4 +1,4 @@
--- A request whose sids a text spells is written as that of the sids which are read.
+-- A request with a text of sids is written like the request with the sids read from it.
 use Rattle.std.proofs.Common.{◌≡◌, ℕ, ◌%◌, ◌^◌, List, [], ◌∷◌, ◌++◌, length, map, Option, Some, None, is_some, Result, Ok, Err, Bool, true, false, not, nat_lt, ◌==◌, refl, sym, ap, subst, ◌∙◌, arith, append_assoc}
 use Rattle.std.specs.List.{flat_map, list_any}
 use Rattle.std.proofs.lemmas.Bool.Decides.{nat_tests}
@@ -28,7 +28,7 @@ use Rattle.mysql_packets_c.specs.declared.text_dump.Layout.{Layout}
 abbrev lengths : List Sid → List ℕ
 lengths found = map (λ s. length (intervals s)) found
 
--- ---- one after another
+-- ---- in order
 
 -- the intervals before the first sid, and the sids
 record ReadsAs (list : List Entry) (is : List GnoInterval) (found : List Sid) : Type 0 where

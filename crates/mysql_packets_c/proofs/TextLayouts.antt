@@ -1,4 +1,4 @@
--- How the sids of a text are written, as a reader goes over them.
+-- How the sids of a text are written while they are read.
 use Rattle.std.proofs.Common.{◌≡◌, ℕ, zero, suc, ◌+◌, ◌%◌, ◌^◌, ◌<◌, List, [], ◌∷◌, Ok, Err, Bool, true, false, ◌||◌, nat_lt, refl, sym, ap, ◌∙◌, arith}
 use Rattle.std.specs.List.{list_any}
 use Rattle.std.proofs.lemmas.Bool.{lt-ltb}
@@ -9,7 +9,7 @@ use Rattle.mysql_packets_c.specs.GtidEntries.{has_tag, heads, is_refused, one_if
 use Rattle.mysql_packets_c.specs.TextDump.{Adds, IsLayout}
 use Rattle.mysql_packets_c.specs.declared.text_dump.Layout.{Layout}
 
--- what was gone over, and what is left, is all
+-- what was read and the rest are all of it
 pub record LayoutSoFar (l : Layout) (left all : List Entry) : Type 0 where
   pub read : list_any is_refused left ≡ list_any is_refused all
   pub some : (l.some || nat_lt 0 (heads left)) ≡ nat_lt 0 (heads all)

@@ -1,4 +1,4 @@
--- What is answered of a version text.
+-- The results for a version text.
 use Rattle.std.proofs.Common.{◌≡◌, ℕ, List, refl, subst}
 use Rattle.mysql_packets_c.specs.ServerVersion.{VersionInto, numbers}
 use Rattle.mysql_packets_c.specs.declared.server_version.CServerVersion.{CServerVersion}

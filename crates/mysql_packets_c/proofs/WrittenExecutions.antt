@@ -36,7 +36,7 @@ copied-held None id flags count sends = refl
 copied-held (Some l) id flags count sends = refl
 
 module _ (ps : List TypedParam) where
-  -- the execution of what a builder says
+  -- the execution of a builder
   abbrev of_parts : ℕ → ℕ → ℕ → Bool → Option (List CParameter) → Bool → Execution
   of_parts id flags count sends o long = record {
     head = with_count count (head_with id (record { 0 = if has_some (list_of o) && not (has_some ps) then counted flags else flags; 1 = record {} }));
@@ -46,7 +46,7 @@ module _ (ps : List TypedParam) where
     as_long_data = long;
   }
 
-  -- a builder that says this makes what the specification's builder makes
+  -- a builder with this content builds what the specification's builder builds
   pub same-asked : (b : ComStmtExecuteOptionsBuilder CParameter) (id flags count : ℕ) (sends : Bool) (o : Option (List CParameter)) → b.stmt_id ≡ id → b.flags.0 ≡ flags
       → b.iteration_count ≡ count → b.sends_types ≡ sends → option_copied b.attributes ≡ o → asked param_given named_type b ps ≡ asked param_given named_type (builder id flags count sends o) ps
   same-asked b id flags count sends o is_id is_flags is_count is_sends is_o =
@@ -66,9 +66,9 @@ not-spelled asked (refusal.TypeMismatch place) h some = rw h refl
 not-spelled asked (refusal.AttributeTypeMismatch place) h some = rw (h.0, h.1) refl
 not-spelled asked refusal.Memory h some = absurd (some refl)
 
--- ---- what is put
+-- ---- what is written
 
--- bytes whose count is answered as 2^64 - 1 where it is that or more
+-- bytes whose count saturates at 2^64 - 1
 module _ (bytes : List ℕ) (len code : ℕ) (old new : List ℕ) (written : ℕ) (is : len ≡ saturated (length bytes)) (below : length old < 2 ^ 63)
     (put : len ≤ length old → new ≡ bytes ++ drop len old) (kept : length old < len → new ≡ old)
     (fits : len < 2 ^ 64 - 1 → len ≤ length old → code ≡ 0) (small : len < 2 ^ 64 - 1 → length old < len → code ≡ 5) (counted : len < 2 ^ 64 - 1 → written ≡ len)
@@ -103,7 +103,7 @@ module _ (bytes : List ℕ) (len code : ℕ) (old new : List ℕ) (written : ℕ
 
 -- ---- queries
 
--- the bytes of a query hang on its attributes and its text alone
+-- the bytes of a query depend only on its attributes and its text
 pub query-same : (q : ComQuery CParameter) (list : List CParameter) (bytes : List ℕ) → attributes q ≡ Some list → text q ≡ bytes
     → query_bytes param_given named_type q ≡ query_bytes param_given named_type (query_of (Some list) bytes)
 unfolding query_bytes

@@ -1,4 +1,4 @@
--- What is written of the caller's values.
+-- The bytes written for the caller's values.
 use Rattle.std.proofs.Common.{if◌then◌else◌, ◌≡◌, ◌<◌, ◌≤◌, ◌-◌, ◌^◌, ◌++◌, ◌∷◌, ℕ, List, [], Bool, true, false, ◌&&◌, IsTrue, length, drop, refl, sym, subst, ap, ◌∙◌, arith}
 use Rattle.std.specs.List.{flat_map, list_all}
 use Rattle.std.proofs.lemmas.List.Folds.{flat_map-map}
@@ -23,14 +23,14 @@ both-parts : (a b : Bool) → IsTrue (a && b) → IsTrue a × IsTrue b
 both-parts true b h = (refl, h)
 both-parts false b h = let f : IsTrue false = h in absurd cc
 
--- what is sent of a value is what it holds
+-- what is sent for a value is its content
 pub values-sent : (values : List CValue) → IsTrue (list_all is_value values) → contents param values ≡ values_contents values
 values-sent [] h = refl
 values-sent (v ∷ values) h =
     let both = both-parts (is_value v) (list_all is_value values) h in
     ap (λ (b : Bool). value_of (Sent (if b then Plain (value_content v) else if is_offset_date v then WithOffset (date_with_offset_of v) else Plain NULL)) ∷ contents param values) both.0 ∙ ap (λ (l : List Content). value_content v ∷ l) (values-sent values both.1)
 
--- what a writer answers of a count
+-- the result of a writer, by the count
 pub answered : (Such : List ℕ → Type 0) (count code : ℕ) (old new : List ℕ) (written : ℕ)
     → (count ≤ length old → (bytes : List ℕ) × Such bytes × (new ≡ bytes ++ drop count old))
     → (length old < count → new ≡ old)
@@ -44,7 +44,7 @@ answered Such count code old new written put kept fits small counted = record {
   is_count = counted;
 }
 
--- the same of a count that is answered as 2^64 - 1 where it is that or more
+-- the same for a count that saturates at 2^64 - 1
 pub answered-unless : (Such : List ℕ → Type 0) (count len code : ℕ) (old new : List ℕ) (written : ℕ)
     → len ≡ saturated count
     → length old < 2 ^ 63

@@ -1,4 +1,4 @@
--- Sids that are written from the caller's structs.
+-- Sids written from the caller's structs.
 use Rattle.std.proofs.Common.{◌≡◌, ◌≤◌, ◌+◌, ◌-◌, ◌^◌, ◌++◌, min, append_assoc, length-append, arith, ℕ, Bool, true, false, ◌||◌, ◌&&◌, List, [], ◌∷◌, length, take, Option, Some, None, if◌then◌else◌, nat_le, refl, sym, ap, ◌∙◌}
 use Rattle.std.proofs.lemmas.Bool.{leb-true}
 use Rattle.std.proofs.lemmas.List.{append-nil, length-map}
@@ -32,7 +32,7 @@ held-step : (b : Bool) (bytes : List ℕ) (x : Option (List ℕ)) → (if b then
 held-step true bytes x e = (refl, tag-there bytes x e)
 held-step false bytes x e = absurd cc
 
--- a tag that is held stands in its place
+-- a stored tag is in its place
 pub tag-stands : (s : CSid) (x : Option (List ℕ)) → tag_held s ≡ Some x → (s.tag_length ≤ 32) × (tag_bytes (tag_or s) ≡ take s.tag_length s.tag)
 unfolding tag_held
 tag-stands s x e =
@@ -49,7 +49,7 @@ any-tags (s ∷ sids) = ap (λ (b : Bool). is_some (tag_or s) || b) (any-tags si
 
 pub ruleset written_sids = (flat_map-map, length-map, any-tags)
 
--- ---- sids that are held
+-- ---- stored sids
 
 both-parts : (a b : Bool) → (a && b) ≡ true → (a ≡ true) × (b ≡ true)
 both-parts true b h = (refl, h)
@@ -63,7 +63,7 @@ held-without : (s : CSid) (t : Option (Option (List ℕ))) → is_some t ≡ fal
 held-without s None h = refl
 held-without s (Some tag) h = absurd cc
 
--- each tag is one, so that the sids are held
+-- each tag is valid, so the sids are stored
 pub all-held : (sids : List CSid) → list_all (λ s. is_some (tag_held s)) sids ≡ true → sids_held sids ≡ Some (sids_or sids)
 unfolding sid_held
 all-held [] h = refl

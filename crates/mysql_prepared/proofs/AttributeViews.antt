@@ -1,4 +1,4 @@
--- Attributes that are read one by one.
+-- Attributes are read one by one.
 use Rattle.std.proofs.Common.{◌≡◌, ℕ, ◌+◌, ◌==◌, ◌↔◌, IsTrue, Bool, false, List, [], ◌∷◌, length, Ok, Err, refl, ap, subst, ◌∙◌, arith}
 use Rattle.mysql_wire.specs.Each.{each}
 use Rattle.mysql_wire.specs.Reading.{Reading, Faults, done-rest, then_read}
@@ -11,7 +11,7 @@ use Rattle.mysql_prepared.proofs.NullBits.{is-one}
 use Rattle.mysql_prepared.specs.Attributes.{Attribute, attributes_read, value_of, values, more}
 use Rattle.mysql_prepared.specs.SentTypes.{NamedType}
 
--- the same reading, of which it is asked alone whether the attributes are there
+-- the same reading, which only tests whether the attributes are present
 abbrev pub passed : Reading (List Attribute) → Reading (Unit {0})
 passed r = then_read r (λ x rest. Ok (tt, rest))
 
@@ -46,13 +46,13 @@ module _ (nulls : List ℕ) (place : ℕ) (t : NamedType) (ts types : List Named
   first-refused (fault.InvalidData text) r = first-fails _ r
   first-refused (fault.InvalidInput text) r = first-fails _ r
 
--- ---- all of them, in a loop
+-- ---- a loop over all of them
 
 pub passed-more : (a : Attribute) (r : Reading (List Attribute)) → passed (more a r) ≡ passed r
 passed-more a (Ok x) = refl
 passed-more a (Err e) = refl
 
--- where as much was read past, the fault is the same
+-- after reading past the same bytes, the fault is the same
 same-kind : (r : Reading (List Attribute)) (k : FaultKind) → passed r ≡ Err k → r ≡ Err k
 same-kind (Ok x) k e = absurd cc
 same-kind (Err d) k e = let same : d ≡ k = cc in ap (λ (x : FaultKind). Err x) same
@@ -66,7 +66,7 @@ past-fault all left fault.UnexpectedEof same r = same-fault all left _ same r
 past-fault all left (fault.InvalidData text) same r = same-fault all left _ same r
 past-fault all left (fault.InvalidInput text) same r = same-fault all left _ same r
 
--- where nothing is left, all was read
+-- if nothing is left, everything was read
 read-to : (all : Reading (List Attribute)) (rest : List ℕ) → passed all ≡ Ok (tt, rest) → all ≡ Ok (attributes_read all, rest)
 read-to (Ok x) rest e = ap (λ (l : List ℕ). Ok (x.0, l)) (done-rest tt tt x.1 rest e)
 read-to (Err k) rest e = absurd cc
@@ -74,6 +74,6 @@ read-to (Err k) rest e = absurd cc
 pub all-read : (all left : Reading (List Attribute)) (rest : List ℕ) → passed all ≡ passed left → left ≡ Ok ([], rest) → all ≡ Ok (attributes_read all, rest)
 all-read all left rest same e = read-to all rest (same ∙ ap (λ (r : Reading (List Attribute)). passed r) e)
 
--- where none is there
+-- if there is none
 pub nothing-read : (all : Reading (List Attribute)) (rest : List ℕ) → all ≡ Ok ([], rest) → (attributes_read all ≡ []) × (all ≡ Ok (attributes_read all, rest))
 nothing-read all rest e = rw e (refl, refl)

@@ -1,4 +1,4 @@
--- A binary row that is written is read again.
+-- A binary row is read back.
 use Rattle.std.proofs.Common.{◌≡◌, ℕ, suc, ◌+◌, ◌-◌, ◌/◌, ◌%◌, ◌<◌, ◌^◌, ◌==◌, Bool, true, false, List, [], ◌∷◌, ◌++◌, length, map, get_or, Some, Ok, refl, ap, ◌∙◌, arith, append_assoc, ltb-true}
 use Rattle.std.specs.Prelude.{ℤ, pos, negsuc, not}
 use Rattle.std.specs.Int.{Width, w8, w16, w32, w64, cast_unsigned, cast_signed}
@@ -102,7 +102,7 @@ integer-again _ u n fits h = let f : false ≡ true = h in absurd cc
 
 -- ---- values
 
--- the value of a column whose bit in the bitmap is this number
+-- the value of a column with this bit in the bitmap
 cell-again : (t : ColumnType) (u : Bool) (v : Content) (bit : ℕ) → bit ≡ null_bit v → takes t u v ≡ true → IsInRange v → (rest : List ℕ)
     → (Rattle.mysql_wire.specs.Form.either (bit == 1) (Rattle.mysql_wire.specs.Form.give NULL) (bin_value t u)).Spells v (bin_in t v ++ rest) rest
 cell-again t u NULL bit e h range rest = rw e (refl, refl)

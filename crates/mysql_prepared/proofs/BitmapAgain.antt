@@ -1,4 +1,4 @@
--- A bitmap of NULLs that is written is read again.
+-- A bitmap of NULLs is read back.
 use Rattle.std.proofs.Common.{◌≡◌, ℕ, ◌+◌, ◌<◌, ◌^◌, List, length, refl}
 use Rattle.std.proofs.lemmas.Bool.{lt-ltb}
 use Rattle.mysql_wire.specs.BytesAgain.{bytes-again}

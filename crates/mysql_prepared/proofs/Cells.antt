@@ -1,4 +1,4 @@
--- A digit of the bytes' number is a bit of one byte.
+-- A binary digit of the bytes' number is a bit of one byte.
 use Rattle.std.proofs.Common.{◌≡◌, ◌≢◌, ◌⊎◌, ◌↔◌, IsTrue, ◌==◌, ◌+◌, ◌-◌, ◌*◌, ◌/◌, ◌%◌, ◌<◌, ◌^◌, ◌∷◌, [], ℕ, List, length, zero, suc, refl, sym, ◌∙◌, ap, arith, slice_index_or, slice_set, Fits, w8, inl, inr, true, false, bit_and}
 use Rattle.std.specs.Int.{bit_at}
 use Rattle.std.proofs.lemmas.Nat.Bits.{bit_at-zero, bit_at_cat_low, bit_at_cat_high, shr_and_one}
@@ -13,7 +13,7 @@ IsBytes bs = (i : ℕ) → Fits w8 (slice_index_or bs i 0)
 rest_fits : (b : ℕ) (bs : List ℕ) → IsBytes (b ∷ bs) → IsBytes bs
 rest_fits b bs h = λ i. h (suc i)
 
--- the first byte lies below the others
+-- the first byte has the lowest digits
 low_byte : (b : ℕ) (bs : List ℕ) → le_value (b ∷ bs) ≡ le_value bs * 2 ^ 8 + b
 low_byte b bs = omega arith
 
@@ -46,7 +46,7 @@ byte-set_other bs q r v p k within low alike other (inl h) =
     rw (h.1, get_or-set_same bs q v 0 within) (alike k low apart)
 byte-set_other bs q r v p k within low alike other (inr h) = ap (λ n. bit_at n k) (get_or-set_other bs q p v 0 h.1)
 
--- where a byte changes in one bit alone, every other digit stays
+-- if one bit of a byte changes, every other digit is unchanged
 pub cell-set_other : (bs : List ℕ) → IsBytes bs → (q r v : ℕ) → q < length bs → v < 256
     → ((k : ℕ) → k < 8 → k ≢ r → bit_at v k ≡ bit_at (slice_index_or bs q 0) k)
     → (j : ℕ) → j ≢ q * 8 + r → cell (slice_set bs q v) j ≡ cell bs j

@@ -1,4 +1,4 @@
--- Cells are equal where they hold the same.
+-- Cells compare equal if their contents are equal.
 use Rattle.std.proofs.Common.{◌≡◌, ◌&&◌, List, [], ◌∷◌, Option, Some, None, refl}
 use Rattle.std.specs.Option.{option_eq, option_map}
 use Rattle.std.specs.Cmp.Lexicographic.{pointwise}

@@ -1,4 +1,4 @@
--- Rows are equal exactly where their values hold the same and their columns are the same.
+-- Rows compare equal exactly if their values have the same contents and their columns are equal.
 use Rattle.std.proofs.Common.{◌≡◌, ◌↔◌, IsTrue, Decides, List, [], ◌∷◌, Option, Some, None, refl, sym, ap, ◌∙◌}
 use Rattle.std.proofs.lemmas.Bool.Decides.{Decides-and}
 use Rattle.std.proofs.lemmas.Slice.Eq.{slice_eq-Decides}

@@ -1,4 +1,4 @@
--- An execution that is written is read again.
+-- An execution is read back.
 use Rattle.std.proofs.Common.{◌≡◌, ◌≢◌, ℕ, zero, suc, ◌+◌, ◌<◌, ◌^◌, ◌==◌, ◌&&◌, ◌||◌, Bool, true, false, not, is_some, nat_lt, if◌then◌else◌, List, [], ◌∷◌, ◌++◌, length, map, drop, get_or, Option, None, Some, Ok, refl, sym, subst, ap, ◌∙◌, arith, append_assoc, unwrap_or}
 use Rattle.std.specs.List.{All, flat_map}
 use Rattle.std.proofs.lemmas.Bool.Decides.{nat_tests}
@@ -72,7 +72,7 @@ text t v = unwrap_or (param_spelled t v) []
 spelled-again : (t : ParamType) (v : ParamContent) → ParamIsInRange v → is_some (param_spelled t v) ≡ true → param_spelled t v ≡ Some (text t v)
 spelled-again t v h is = there (param_spelled t v) [] is
 
--- a value whose bit in the bitmap is this number
+-- a value with this bit in the bitmap
 value-again : (t : ParamType) (v : ParamContent) (bit : ℕ) → bit ≡ null_bit (held_of (Sent v)) → ParamIsInRange v → is_some (param_spelled t v) ≡ true
     → IsSpelling (value_of (bit == 1) t) (param_read_under t v) (text t v)
 value-again t (Plain NULL) bit e h is rest = rw e (refl, refl)
@@ -204,7 +204,7 @@ first-bits ps added i lt =
 pub second-bits : (ps added : List TypedParam) (i : ℕ) → cell (nulls_of (ps ++ added)) (length ps + i) ≡ get_or (map bit added) i 0
 second-bits ps added i = bits-are ps added (length ps + i) ∙ get-second (map bit ps) (map bit added) (length ps) i (sym (length-map ps bit))
 
--- ---- what stands before the values
+-- ---- before the values
 
 abbrev pub read_types : (names follow : Bool) → List TypedParam → List NamedType
 read_types names follow all = if follow then map (λ p. type_read names p.named_type) all else []
@@ -248,7 +248,7 @@ count-again true n m few none rest =
     rw (whole-count (n + m) fits) (n + m, rw (not-fewer n m) refl, lenenc-again (n + m) fits rest)
 count-again false n m few none rest = (omega (arith, none refl), refl)
 
--- the server looks for a count where one stands
+-- the server reads a count if one is sent
 agree : (names flag : Bool) (ps : List TypedParam) (qs : List QueryAttribute) → (has_some ps ≡ false → has_some qs ≡ true → flag ≡ true)
     → (names && (not (length ps == 0) || flag)) ≡ (names && (has_some (ps ++ sent_attributes qs) || flag))
 agree false flag ps qs h = refl
@@ -256,7 +256,7 @@ agree true flag (p ∷ ps) qs h = rw (not-zero (length (p ∷ ps)) (λ e. omega 
 agree true flag [] [] h = refl
 agree true flag [] (q ∷ qs) h = h refl refl
 
--- a count that does not stand counts no attributes
+-- without a count there are no attributes
 no-count : (names flag : Bool) (ps : List TypedParam) (qs : List QueryAttribute) → (has_some ps ≡ false → has_some qs ≡ true → flag ≡ true) → (names ≡ false → qs ≡ [])
     → (names && (has_some (ps ++ sent_attributes qs) || flag)) ≡ false → length (sent_attributes qs) ≡ 0
 no-count names flag ps [] h hn e = refl

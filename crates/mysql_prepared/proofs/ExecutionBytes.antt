@@ -1,4 +1,4 @@
--- The bytes of an execution, as its parts give them.
+-- The bytes of an execution, by its parts.
 use Rattle.std.proofs.Common.{◌≡◌, ◌<◌, ◌≤◌, ◌↔◌, IsTrue, nat_lt, rules, ℕ, ◌+◌, ◌&&◌, ◌||◌, Bool, true, false, if◌then◌else◌, List, [], ◌∷◌, ◌++◌, length, map, Option, Some, None, is_some, unwrap_or, append_assoc, refl, sym, ap, ◌∙◌, arith}
 use Rattle.std.specs.List.{flat_map}
 use Rattle.std.specs.Option.{option_map}
@@ -68,7 +68,7 @@ module _ {V A : Type 0} (param : V → Param) (named_type : V → NamedType) (at
   abbrev it : execution.Execution
   it = request.execution_of param named_type attribute attribute_type r
 
-  -- what the attributes are, as they are sent
+  -- the attributes as they are sent
   abbrev attributes : List TypedParam
   attributes = sent_params attribute attribute_type (request.listed r)
 
@@ -185,7 +185,7 @@ is-long b e f n is same len past =
     let long = ap (λ (x : execution.Execution). length (execution.execution_bytes x)) same in
     rw is (λ always. omega (arith, long, len, past), λ more. search rules)
 
--- the bytes of a request that was measured are those that are written
+-- the measured length of a request is that of its bytes
 pub written-is : (asked : Bool → execution.Execution) (e : execution.Execution) (long : Bool) → e ≡ asked long → request.IsAsLong asked long → execution.execution_bytes e ≡ request.written_bytes asked
 written-is asked e long same h = ap execution.execution_bytes (same ∙ ap asked (tested long max_payload (length (execution.execution_bytes (asked false))) h))
 

@@ -1,4 +1,4 @@
--- A block that is filled, entry by entry.
+-- A block filled entry by entry.
 use Rattle.std.proofs.Common.{◌≡◌, ◌∙◌, sym, ap, subst, suc, ℕ, ◌+◌, ◌-◌, ◌*◌, ◌<◌, ◌≤◌, ◌^◌, ◌++◌, List, [], ◌∷◌, Ok, Some, true, length, drop, take, refl, arith, length-append, append_assoc}
 use Rattle.std.specs.Prelude.{map}
 use Rattle.std.proofs.lemmas.List.{drop-drop, drop_at, append-nil, take_all}
@@ -12,7 +12,7 @@ use Rattle.mysql_prepared.specs.RowView.{RowLeft, Gives}
 use Rattle.mysql_prepared.specs.StoredRow.{AreStored, HoldsRow, IsStored, ReadsAs, code_of, entry_reading, form_of, is_storable, reads_to_store, stored_size, stored_values, value_read}
 use Rattle.mysql_prepared.proofs.StoredRows.{code-again, values-append, stored-append, values-more, stored-more}
 
--- the entries of the values that were read say what these are, whatever stands in the block after them
+-- the entries of the values read so far describe them, whatever follows in the block
 pub record Filling (row now : RowLeft) (block : List ℕ) : Type 0 where
   pub done : ℕ
   pub count : done + now.left ≡ row.left
@@ -116,6 +116,6 @@ filling-all row now block rest h none no_value end =
       end = (rest, sym h.end ∙ end);
     }
 
--- what was to be stored was read
+-- what is stored was read
 pub stored-reading : (row : RowLeft) (rest : List ℕ) → is_storable row ≡ true → row.end ≡ Ok rest → reads_to_store row ≡ Ok (map Some row.values, rest)
 stored-reading row rest fits end = rw (fits, end) refl

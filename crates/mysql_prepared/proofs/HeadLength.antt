@@ -1,4 +1,4 @@
--- What stands before the bitmap of an execution takes ten bytes.
+-- The bitmap of an execution is preceded by ten bytes.
 use Rattle.std.proofs.Common.{◌≡◌, ℕ, List, ◌+◌, ◌++◌, length, arith}
 use Rattle.std.proofs.lemmas.List.{length-append}
 use Rattle.mysql_wire.specs.LittleEndian.{length-le_bytes}

@@ -26,7 +26,7 @@ has-bits offset count v input rest e i lt =
 pub is-one : (b : Bool) (n : ℕ) → IsTrue b ↔ (n ≡ 1) → b ≡ (n == 1)
 is-one b n h = grind (arith, nat_tests, h)
 
--- the bits of the values after one that was read
+-- the bits of the values after a value that was read
 pub bits-after : (offset : ℕ) (nulls : List ℕ) (none : Bool) (place left more : ℕ) → HasBits nulls offset none place left → left ≡ more + 1 → HasBits nulls offset none (place + 1) more
 bits-after offset nulls none place left more h one = record {
   bits = λ i lt. let b : place + (i + 1) + offset < 8 * length nulls = h.bits (i + 1) (omega (arith, lt, one)) in omega (arith, b);

@@ -1,4 +1,4 @@
--- A bitmap of NULLs, as it is filled value by value, after other bits.
+-- A bitmap of NULLs, filled value by value after other bits.
 use Rattle.std.specs.List.{All}
 use Rattle.std.proofs.Common.{◌≡◌, ◌≢◌, inl, inr, ◌+◌, ◌<◌, ℕ, zero, suc, List, [], ◌∷◌, ◌++◌, length, map, take, replicate, get_or, append_assoc, refl, sym, ◌∙◌, ap, arith}
 use Rattle.std.specs.Int.{bit_at}
@@ -75,7 +75,7 @@ module _ {A : Type 0} (bit : A → ℕ) (front : List ℕ) (items : List A) (i :
       ∙ ap (λ (l : List ℕ). front ++ l) (map-append bit (take i items) (item ∷ []))
       ∙ sym (append_assoc front (map bit (take i items)) (bit item ∷ []))
 
-  -- one more bit is that of one more item
+  -- the next bit is that of the next item
   pub next_marked : (old new : List ℕ)
       → i < length items
       → item ≡ get_or items i item
@@ -87,7 +87,7 @@ module _ {A : Type 0} (bit : A → ℕ) (front : List ℕ) (items : List A) (i :
       marked_at so_far (bit item) old new cells (ap (cell new) (long within) ∙ this) (λ k other. others k (λ e. other (e ∙ sym (long within)))) k
       ∙ ap (λ (l : List ℕ). get_or l k 0) (sym (one_more within is))
 
-  -- the bit of an item that sets none stays
+  -- an item that isn't NULL leaves its bit clear
   pub next_unmarked : (bytes : List ℕ)
       → i < length items
       → item ≡ get_or items i item

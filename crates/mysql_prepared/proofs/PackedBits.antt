@@ -1,4 +1,4 @@
--- Bits that are packed into bytes.
+-- Bits packed into bytes.
 use Rattle.std.proofs.Common.{◌≡◌, ◌<◌, ◌≤◌, ◌+◌, ◌*◌, ◌/◌, ◌%◌, ◌^◌, ℕ, zero, suc, Bool, true, false, if◌then◌else◌, List, [], ◌∷◌, ◌++◌, length, map, drop, get_or, slice_index_or, refl, sym, ap, ◌∙◌, arith, add-one}
 use Rattle.std.specs.Int.{bit_at}
 use Rattle.std.specs.List.{All}
@@ -62,7 +62,7 @@ packed-more n bits = rw add-one (more n bits)
         let later : drop (8 * n) (drop 8 bits) ≡ drop (8 * suc n) bits = drop-drop (8 * n) 8 bits ∙ ap (λ (k : ℕ). drop k bits) (omega arith) in
         ap (λ (l : List ℕ). first_eight bits ∷ l) (more n (drop 8 bits) ∙ ap (λ (l : List ℕ). packed n (drop 8 bits) ++ first_eight l ∷ []) later)
 
--- the byte at a place; past the last one there are no bits
+-- the byte at a place; after the last one there are no bits
 byte-at : (n : ℕ) (bits : List ℕ) (q : ℕ) → length bits ≤ 8 * n → slice_index_or (packed n bits) q 0 ≡ first_eight (drop (8 * q) bits)
 byte-at zero [] zero few = refl
 byte-at zero [] (suc q) few = ap first_eight (sym (drop-nil (8 * suc q)))
@@ -113,7 +113,7 @@ marks-nulls held =
       cells = λ i. packed-bit (bytes_for 0 (length held)) (map null_bit held) i few (null-bits held);
     }
 
--- ---- there is one such bitmap
+-- ---- the bitmap is unique
 
 same-bytes : (xs ys : List ℕ) → IsBytes xs → IsBytes ys → length xs ≡ length ys → le_value xs ≡ le_value ys → xs ≡ ys
 same-bytes [] [] hx hy long same = refl

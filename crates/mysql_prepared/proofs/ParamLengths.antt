@@ -1,4 +1,4 @@
--- How many bytes the parameters of an execution take.
+-- The length of an execution's parameters.
 use Rattle.std.proofs.Common.{◌≡◌, ◌≢◌, ◌+◌, ◌*◌, ◌<◌, ◌≤◌, inl, inr, ◌↔◌, IsTrue, Bool, true, false, ℕ, List, [], ◌∷◌, ◌++◌, length, take, min, get_or, ap, append_assoc, refl, ◌∙◌, arith, sum_by}
 use Rattle.std.specs.List.{flat_map}
 use Rattle.std.proofs.lemmas.Bool.{cases_lt}
@@ -23,13 +23,13 @@ length-types_bytes [] = refl
 length-types_bytes (v ∷ values) =
     omega (arith, length-append (param_type.bytes (type_of (content_of v))) (types_bytes values), length-types_bytes values)
 
--- the values are as long as their sizes say
+-- the values have the lengths of their sizes
 pub length-values : (values : List Value) → length (data_bytes false values) ≡ sum_by size_of values
 length-values [] = refl
 length-values (v ∷ values) =
     omega (arith, length-append (bin (content_of v)) (data_bytes false values), length-bin (content_of v), length-values values, sum_by-cons size_of v values)
 
--- except for byte strings no value is longer than a time
+-- no value other than a byte string is longer than a time
 pub short_small : (value : Content) → length (short value) ≤ 13
 unfolding le_bytes
 short_small NULL = omega arith
@@ -46,7 +46,7 @@ short_values [] = omega arith
 short_values (v ∷ values) =
     omega (arith, length-append (short (content_of v)) (data_bytes true values), short_small (content_of v), short_values values)
 
--- there is capacity for what is written of the next value
+-- there is capacity for the next value
 pub next_fits : (bytes : Value → List ℕ) (values : List Value) (i : ℕ) (value : Value) (before now : List ℕ) (capacity : ℕ)
     → i < length values
     → value ≡ get_or values i value

@@ -1,4 +1,4 @@
--- An execution that is read parameter by parameter: one parameter, and what is read after it.
+-- An execution read parameter by parameter: one parameter, and those after it.
 use Rattle.std.proofs.Common.{◌≡◌, ◌≢◌, ◌∙◌, sym, ap, subst, suc, zero, ℕ, ◌+◌, ◌-◌, ◌≤◌, ◌==◌, ◌↔◌, List, [], ◌∷◌, Result, Ok, Err, Bool, true, false, IsTrue, length, drop, replicate, refl, arith, zero-add}
 use Rattle.std.proofs.lemmas.List.{length-replicate}
 use Rattle.std.specs.List.{All}
@@ -20,7 +20,7 @@ use Rattle.mysql_prepared.specs.declared.execute_view.BoundParam.{BoundParam}
 use Rattle.mysql_prepared.proofs.NullBits.{is-one}
 
 module _ (nulls : List ℕ) (place : ℕ) (p : BoundType) (ps : List BoundType) (bytes : List ℕ) where
-  -- one parameter, and what is read after it
+  -- one parameter, and those after it
   one-param : (x : TypedParam) (after : List ℕ) → (typed_param nulls place p).reads bytes ≡ Ok (x, after) → (params_in nulls place (p ∷ ps) bytes).params ≡ x ∷ (params_in nulls (place + 1) ps after).params
   unfolding params_in
   one-param x after h = rw h refl
@@ -143,7 +143,7 @@ module _ (nulls : List ℕ) (place : ℕ) (s : Bool) (p : BoundParam) (ps : List
     refuses (fault.InvalidData text) r = fails _ r
     refuses (fault.InvalidInput text) r = fails _ r
 
--- ---- what a reader keeps true
+-- ---- the invariant of a reader
 
 pub next-bound : (s : Bool) (earlier : ParamType) (left : ℕ) (nulls : List ℕ) (none : Bool) (place : ℕ) (ts more : List NamedType) (t : NamedType) → left ≢ 0 → IsBound s left nulls none place ts
     → TakesInForce s earlier ts t more → IsBound s (left - 1) nulls none (place + 1) more
@@ -184,7 +184,7 @@ first-bound params f none h clear =
       suffice = enough-types f.sends_types params h.0 f.types h.1 h.2.sent;
     }
 
--- a type is left where one is asked for
+-- a type is left if one is needed
 pub one-left : (s : Bool) (left : ℕ) (ts : List NamedType) → left ≢ 0 → Suffice s left ts → IsTrue s → ts ≢ []
 one-left true left ts some enough is none = let len : length ts ≡ 0 = ap length none in some (omega (arith, len, enough))
 one-left false left ts some enough is none = let f : IsTrue false = is in absurd cc
@@ -200,7 +200,7 @@ module _ (c : CapabilityFlags) (flags : ℕ) (params : List BoundParam) (bytes :
   refused-so : (e : FaultKind) → (execution_front c flags (length params)).reads bytes ≡ Err e → (execution c flags params).reads bytes ≡ Err e
   refused-so e h = rw h refl
 
-  -- the fault of what stands before the values is that of the execution
+  -- a fault before the values is the execution's
   pub front-fault : (e : FaultOf) → Faults false e ((execution_front c flags (length params)).reads bytes) → Faults false e ((execution c flags params).reads bytes)
   front-fault fault.Memory h = absurd (cc)
   front-fault fault.UnexpectedEof h = refused-so _ h
@@ -213,7 +213,7 @@ pub attributes-here : (nulls : List ℕ) (place : ℕ) (ps : List BoundParam) (t
 attributes-here nulls place [] ts bytes e = let here : place + 0 ≡ place = omega arith in rw here refl
 attributes-here nulls place (p ∷ ps) ts bytes e = absurd (omega (arith, e))
 
--- the same for a statement of a given number of parameters
+-- the same for a statement with a given number of parameters
 pub read-counted : (c : CapabilityFlags) (flags : ℕ) (params : List BoundParam) (bytes : List ℕ) (count : ℕ) → length params ≡ count → (f : BindFront) (after : List ℕ)
     → (execution_front c flags count).reads bytes ≡ Ok (f, after) → execution_of (left_of (bytes_after count f after) params) ≡ (execution c flags params).reads bytes
 read-counted c flags params bytes count len f after =

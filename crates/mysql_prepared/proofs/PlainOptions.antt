@@ -1,4 +1,4 @@
--- An execution that asks for nothing besides its values has the bytes of the plain one.
+-- An execution without options has the bytes of the plain one.
 use Rattle.std.proofs.Common.{◌≡◌, ℕ, Bool, List, [], ◌∷◌, ◌++◌, map, append_assoc, ◌∙◌, refl, sym, ap}
 use Rattle.std.specs.Prelude.{false}
 use Rattle.std.specs.List.{flat_map}
@@ -40,7 +40,7 @@ where-same (v ∷ values) bytes = refl
 regroup : (a b c d : List ℕ) → a ++ (b ++ (c ++ (d ++ []))) ≡ a ++ b ++ c ++ d
 regroup a b c d = simp (append-nil, append_assoc)
 
--- what stands after the head, without options
+-- what follows the head, without options
 abbrev after : List TypedParam → List TypedParam → Bool → List ℕ
 after all params l = where_some all (bitmap_of (map (λ p. value_of p.param) all) ++ (le_bytes 1 1 ++ (flat_map (type_bytes false) all ++ (flat_map (value_bytes l) params ++ []))))
 

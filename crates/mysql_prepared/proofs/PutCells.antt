@@ -1,4 +1,4 @@
--- A loop that puts the values of a binary row into their cells.
+-- A loop that stores the values of a binary row in their cells.
 use Rattle.std.proofs.Common.{◌≡◌, ◌==◌, ℕ, ◌+◌, ◌<◌, List, ◌∷◌, [], ◌++◌, length, drop, get_or, Option, Ok, Some, ap}
 use Rattle.mysql_replies.specs.declared.column.Column.{Column}
 use Rattle.mysql_wire.specs.Each.{each}
@@ -9,7 +9,7 @@ use Rattle.mysql_values.specs.Value.{Content}
 use Rattle.mysql_prepared.specs.Bitmap.{cell}
 use Rattle.mysql_prepared.specs.RowForm.{bin_cell, bin_value_unless}
 
--- one more value was put
+-- one more value was stored
 pub next-put : (nulls : List ℕ) (offset : ℕ) (before : List (Option Content)) (columns : List Column) (i : ℕ) (bytes : List ℕ) (total : Reading (List (Option Content)))
     → with_front before ((each (bin_cell nulls offset) i (drop i columns)).reads bytes) ≡ total
     → (d : Column) (after : List (Option Content)) (rest : List ℕ) → i < length columns

@@ -1,4 +1,4 @@
--- The bytes of a query that is sent, as its parts give them.
+-- The bytes of a sent query, by its parts.
 use Rattle.std.proofs.Common.{◌≡◌, ◌≢◌, ℕ, List, [], ◌∷◌, ◌++◌, length, map, append_assoc, refl, sym, ap, ◌∙◌}
 use Rattle.std.specs.List.{flat_map}
 use Rattle.std.specs.Prelude.{true, false}
@@ -27,13 +27,13 @@ where-full [] bytes some = absurd (some refl)
 where-full (v ∷ values) bytes some = refl
 
 module _ {A : Type 0} (attribute : A → Param) (attribute_type : A → NamedType) (q : ComQuery A) where
-  -- what attributes hold
+  -- the contents of attributes
   held-are : (l : List A) → bitmap_with attribute attribute l [] ≡ bitmap_of (map (λ p. value_of p.param) (sent_params attribute attribute_type l))
   held-are l =
       let none : contents attribute l ++ [] ≡ contents attribute l = append-nil (contents attribute l) in
       ap bitmap_of (none ∙ sym (map-map (λ p. value_of p.param) (sent_param attribute attribute_type) l))
 
-  -- what stands before the bitmap
+  -- what precedes the bitmap
   abbrev pub head_with : ServerCommand → (count sets : List ℕ) → List ℕ
   head_with command count sets = le_bytes 1 (server_command_code command) ++ (count ++ (sets ++ []))
 

@@ -1,4 +1,4 @@
--- The bytes of a binary row's values, one value after another.
+-- The bytes of a binary row's values, in order.
 use Rattle.std.proofs.Common.{◌≡◌, ℕ, zero, suc, ◌+◌, ◌<◌, ◌≤◌, ◌&&◌, Bool, true, false, IsTrue, List, [], ◌∷◌, ◌++◌, length, map, take, drop, get_or, slice_get, Some, refl, sym, ap, ◌∙◌, arith}
 use Rattle.std.specs.Int.{w64, cast_unsigned}
 use Rattle.std.specs.Prelude.{ℤ}
@@ -66,7 +66,7 @@ both_parts : (a b : Bool) → IsTrue (a && b) → IsTrue a × IsTrue b
 both_parts true b h = (refl, h)
 both_parts false b h = let f : IsTrue false = h in absurd cc
 
--- one more column takes its value
+-- one more column accepts its value
 module _ {C V : Type 0} (type_of : C → ColumnType) (unsigned : C → Bool) (param : V → Param) where
   pub taken_more : (columns : List C) (values : List V) (i : ℕ) (column : C) (value : V) → slice_get columns i ≡ Some column
       → slice_get values i ≡ Some value → IsTrue (takes_param (type_of column) (unsigned column) (param value)) → IsTrue (takes_values type_of unsigned param (take i columns) (take i values))
@@ -81,14 +81,14 @@ module _ {C V : Type 0} (type_of : C → ColumnType) (unsigned : C → Bool) (pa
       let both = both_parts (takes_param (type_of c) (unsigned c) (param v)) (takes_values type_of unsigned param (take i cs) (take i vs)) before in
       rw (both.0) (taken_more cs vs i column value a b one both.1)
 
--- a column that takes a parameter takes its value
+-- a column that accepts a parameter accepts its value
 taken-value : (t : ColumnType) (u : Bool) (p : Param) → IsTrue (takes_param t u p) → IsTrue (takes t u (value_of p))
 taken-value t u (Sent (Plain value)) h = h
 taken-value t u (Sent (WithOffset date)) h = let f : IsTrue false = h in absurd cc
 taken-value t u SentAhead h = h
 taken-value t u (AsSent has_null_bit bytes) h = let f : IsTrue false = h in absurd cc
 
--- the same of all columns of a row
+-- the same for all columns of a row
 pub taken-contents : {C V : Type 0} (type_of : C → ColumnType) (unsigned : C → Bool) (param : V → Param) (columns : List C) (values : List V) → IsTrue (takes_values type_of unsigned param columns values)
     → IsTrue (takes_row type_of unsigned columns (contents param values))
 taken-contents type_of unsigned param [] [] h = h
@@ -99,7 +99,7 @@ taken-contents type_of unsigned param (c ∷ cs) (v ∷ vs) h =
     rw (taken-value (type_of c) (unsigned c) (param v) both.0) (taken-contents type_of unsigned param cs vs both.1)
 
 module _ {C V : Type 0} (type_of : C → ColumnType) (unsigned : C → Bool) (held : V → Content) where
-  -- nothing is left of a row past its end
+  -- nothing is left after the end of a row
   pub bytes-end : (columns : List C) (values : List V) (i : ℕ) → length columns ≡ length values → length values ≤ i → values_bytes type_of unsigned (drop i columns) (map held (drop i values)) ≡ []
   bytes-end [] [] zero same past = refl
   bytes-end [] [] (suc i) same past = refl

@@ -1,4 +1,4 @@
--- A row that is read value by value: one value, and what is read after it.
+-- A row read value by value: one value, and those after it.
 use Rattle.std.proofs.Common.{◌≡◌, ◌∙◌, sym, ap, subst, zero, suc, ℕ, ◌+◌, ◌==◌, ◌↔◌, IsTrue, List, [], ◌∷◌, Result, Ok, Err, Some, Option, Bool, false, length, drop, refl, arith}
 use Rattle.std.specs.Prelude.{replicate}
 use Rattle.std.proofs.lemmas.List.{length-replicate}
@@ -21,12 +21,12 @@ use Rattle.mysql_prepared.specs.Bitmap.{cell}
 use Rattle.mysql_prepared.specs.RowView.{RowLeft, Values, values_in, then_values, row_left, text_row_left, read_to, read_of, Gives, RefusesNext, bin_row_of, ref_cell, ref_unless, text_row_of}
 use Rattle.mysql_prepared.proofs.NullBits.{is-one}
 
--- no value is good before this kind of fault
+-- no value precedes this kind of fault
 abbrev RowFails : FaultKind → RowLeft → Type 0
 RowFails e row = (row.values ≡ []) × (read_of row ≡ Err e)
 
 module _ {C : Type 0} (f : ℕ → C → Form Content) (place : ℕ) (c : C) (cs : List C) (bytes : List ℕ) where
-  -- one value, and what is read after it
+  -- one value, and those after it
   pub one-value : (x : Content) (after : List ℕ) → (f place c).reads bytes ≡ Ok (x, after) → (values_in f place (c ∷ cs) bytes).values ≡ x ∷ (values_in f (place + 1) cs after).values
   unfolding values_in
   one-value x after h = rw h refl
@@ -63,7 +63,7 @@ pub no-text : (f : ℕ → Unit {0} → Form Content) (left : ℕ) (bytes : List
 unfolding values_in
 no-text f left bytes e = (rw e refl, rw e refl)
 
--- ---- one value of a binary row, which the bitmap may say is NULL: it is the first of those that are left, read of a buffer that is the row's
+-- ---- one value of a binary row, NULL by the bitmap or read from the row's buffer: the first of the rest
 
 module _ {C : Type 0} (type_of : C → ColumnType) (unsigned : C → Bool) (nulls : List ℕ) (offset place : ℕ) (c : C) (cs left : List C) (bytes at : List ℕ)
     (is_null : Bool) (bit : IsTrue is_null ↔ (cell nulls (place + offset) ≡ 1)) (cut : left ≡ c ∷ cs) (at_is : at ≡ bytes) where
@@ -115,7 +115,7 @@ then-alike : {A B : Type 0} (r : Reading A) (n m : A → List ℕ → Reading B)
 then-alike (Ok x) n m h = h x.0 x.1
 then-alike (Err e) n m h = refl
 
--- one value of a form for each column is a given number of values of the form
+-- one value of a form for each column is a list of that many values
 each-counted : {A C : Type 0} (f : Form A) (place : ℕ) (cs : List C) (bytes : List ℕ) → (each (λ place column. f) place cs).reads bytes ≡ (counted (length cs) f).reads bytes
 unfolding each counted
 each-counted f place [] bytes = refl
@@ -138,7 +138,7 @@ text-same columns bytes = sym (each-counted (there text_value) 0 columns bytes)
 
 pub ruleset row_views = (bin-same, text-same)
 
--- ---- text rows, whose values stand at no place
+-- ---- text rows, which have no bitmap
 
 then_values-alike : (read : Reading Content) (n m : List ℕ → Values) → ((mid : List ℕ) → n mid ≡ m mid) → then_values read n ≡ then_values read m
 then_values-alike (Ok x) n m h = ap (λ (v : Values). then_values (Ok x) (λ mid. v)) (h x.1)

@@ -1,4 +1,4 @@
--- The bytes of parameters and attributes, as they are sent.
+-- The sent bytes of parameters and attributes.
 use Rattle.std.proofs.Common.{◌≡◌, ℕ, ◌+◌, ◌*◌, Bool, true, false, not, if◌then◌else◌, List, [], ◌∷◌, ◌++◌, length, map, position, Option, Some, is_some, cond, refl, ap, ◌∙◌, arith}
 use Rattle.std.specs.List.{flat_map, position_or_len}
 use Rattle.std.proofs.lemmas.List.{append-nil, length-append, length-map}
@@ -14,9 +14,9 @@ use Rattle.mysql_prepared.specs.SentParam.{bytes_under, first_unspelled, is_spel
 use Rattle.mysql_prepared.specs.ExecuteRead.{TypedParam}
 use Rattle.mysql_prepared.specs.SentTypes.{NamedType}
 
--- ---- values whose types are not chosen
+-- ---- values without chosen types
 
--- the type that a value is sent as spells it in its binary form
+-- the type of a value encodes it in its binary form
 own-type : (v : Content) → param_spelled (type_of v) (Plain v) ≡ Some (bin v)
 own-type NULL = refl
 own-type (Bytes bytes) = refl

@@ -1,4 +1,4 @@
--- The bits of parameters and attributes, as they are removed one after another.
+-- The bits of parameters and attributes, removed in order.
 use Rattle.std.proofs.Common.{◌≡◌, ◌+◌, ◌*◌, ℕ, List, length, drop, get_or, sym, ap, ◌∙◌, arith}
 use Rattle.std.proofs.lemmas.List.{drop-drop, get_or-drop, length-append, length-map}
 use Rattle.mysql_prepared.specs.Bitmap.{bytes_for}

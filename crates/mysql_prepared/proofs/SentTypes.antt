@@ -1,4 +1,4 @@
--- Types that are read one by one.
+-- Types are read one by one.
 use Rattle.std.proofs.Common.{◌≡◌, ◌≢◌, ◌∙◌, sym, ap, subst, suc, ℕ, zero, ◌-◌, ◌+◌, ◌<◌, ◌≤◌, List, [], ◌∷◌, ◌++◌, append_assoc, get_or, set, drop, Ok, Err, Bool, false, length, refl, arith}
 use Rattle.std.proofs.lemmas.List.{drop_more, drop_all, get_or_at, set_at, length-append}
 use Rattle.mysql_wire.specs.declared.fault.FaultOf.{FaultOf}
@@ -57,9 +57,9 @@ module _ (has_names : Bool) where
   pub skip-done : (count i : ℕ) (bytes : List ℕ) (all : Reading (Unit {0})) → count - i ≡ 0 → left_to_pass (count - i) bytes ≡ all → all ≡ Ok (tt, bytes)
   skip-done count i bytes all e r = sym r ∙ ap (λ (n : ℕ). left_to_pass n bytes) e ∙ all-passed bytes
 
-  -- ---- types that are there
+  -- ---- types that are present
 
-  -- types that are passed are there
+  -- types that are passed are present
   pub are-there : (count : ℕ) (bytes rest : List ℕ) (x : Unit {0}) → (passed_types has_names count).reads bytes ≡ Ok (x, rest) → (types has_names count).reads bytes ≡ Ok (types_in has_names count bytes, rest)
   are-there count bytes rest x e =
       let r = then_read-ok ((types has_names count).reads bytes) (λ x rest. Ok (tt, rest)) (x, rest) e in
@@ -81,7 +81,7 @@ module _ (has_names : Bool) where
   passing-fails count bytes (fault.InvalidData text) h = kind-same count bytes _ _ refl h
   passing-fails count bytes (fault.InvalidInput text) h = kind-same count bytes _ _ refl h
 
-  -- as many as were asked for
+  -- the requested number
   read-length : (count : ℕ) (bytes : List ℕ) (ts : List NamedType) (rest : List ℕ) → (types has_names count).reads bytes ≡ Ok (ts, rest) → length ts ≡ count
   unfolding counted
   read-length zero bytes ts rest e = let same : [] ≡ ts = done-value [] ts bytes rest e in ap length (sym same)
@@ -98,7 +98,7 @@ module _ (has_names : Bool) where
   unfolding counted
   types-next count bytes t mid h has = rw (h, has.2) refl
 
-  -- the first of the types is there, and the others after it
+  -- the first of the types is present, and the others follow it
   pub record FirstType (count : ℕ) (bytes : List ℕ) : Type 0 where
     pub t : NamedType
     pub mid : List ℕ
@@ -141,7 +141,7 @@ module _ (has_names : Bool) where
   no-fault (fault.InvalidData text) r x rest h f = absurd (cc)
   no-fault (fault.InvalidInput text) r x rest h f = absurd (cc)
 
-  -- a type that is there is no fault
+  -- a type that is present is no fault
   pub never : (left : ℕ) (bytes at : List ℕ) (e : FaultOf) → HasTypes has_names left bytes → left ≢ 0 → at ≡ bytes → Faults false e ((sent_type has_names).reads at) → ⊥
   never zero bytes at e has some is f = absurd (some refl)
   never (suc count) bytes at e has some is f =
@@ -159,9 +159,9 @@ none-there has_names bytes = ([], bytes, refl)
 
 pub ruleset places = (are-there, has-them, passing-fails, how-many)
 
--- ---- parameters that are given their types one after another
+-- ---- parameters that get their types in order
 
--- of a given number of parameters these have their types, and the others are as they were
+-- these parameters have their types, and the others are unchanged
 pub record Typed (init : List BoundParam) (start : List NamedType) (now : List BoundParam) (i : ℕ) (ts : List NamedType) : Type 0 where
   pub done : List BoundParam
   pub count : length done ≡ i

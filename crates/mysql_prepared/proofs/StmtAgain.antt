@@ -1,4 +1,4 @@
--- A statement packet whose numbers have their widths is read again; packets and bitmaps are equal exactly where they are
+-- A statement packet with numbers of their widths is read back; packets and bitmaps compare equal exactly if they are
 -- the same.
 use Rattle.std.proofs.Common.{◌≡◌, ◌↔◌, nat_eq, IsTrue, Decides, ℕ, List, ◌++◌, true, refl, subst}
 use Rattle.std.proofs.lemmas.Bool.Decides.{Decides-and}

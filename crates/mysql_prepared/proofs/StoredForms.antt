@@ -1,4 +1,4 @@
--- The forms that values are stored in.
+-- The forms of stored values.
 use Rattle.std.proofs.Common.{◌≡◌, ◌∙◌, sym, refl, ℕ, List, Bool, true, false, Ok, Err}
 use Rattle.mysql_wire.specs.Form.{bytes, either}
 use Rattle.mysql_wire.specs.Reading.{Reading, then_read, done-value}
@@ -30,12 +30,12 @@ by-flag : (is_null : Bool) (input rest : List ℕ) (x : Content) → (x ≡ NULL
 by-flag true input rest x there h = absurd (there (sym (only-null ((bytes 1).reads input) x rest h)))
 by-flag false input rest x there h = h
 
--- a text value that is not NULL is a string
+-- a text value other than NULL is a string
 pub text-string : (input rest : List ℕ) (x : Content) → (x ≡ NULL → ⊥) → text_value.reads input ≡ Ok (x, rest) → string_value.reads input ≡ Ok (x, rest)
 unfolding text_value
 text-string input rest x there h = by-flag (starts_null input) input rest x there h
 
--- what is read of a kind is read in the form that the kind is stored in
+-- a value is read in the stored form of its kind
 pub stored-as : (k : ValueKind) (u : Bool) (f : StoredForm) (input rest : List ℕ) (x : Content) → IsStoredAs k u f → (value_of_kind k u).reads input ≡ Ok (x, rest) → (form_of f).reads input ≡ Ok (x, rest)
 stored-as kind.String u f input rest x h e = h input ∙ e
 stored-as kind.Tiny u f input rest x h e = h input ∙ e

@@ -1,4 +1,4 @@
--- Rows in one block: what its entries say, one more entry, and the entry at a place.
+-- Rows in one block: its entries, one more entry, and the entry at a place.
 use Rattle.std.proofs.Common.{◌≡◌, ◌∙◌, sym, ap, subst, zero, suc, ℕ, ◌+◌, ◌-◌, ◌*◌, ◌<◌, ◌≤◌, ◌++◌, List, [], ◌∷◌, Result, Ok, Err, Some, None, Option, Bool, true, false, length, drop, take, refl, arith, length-append, length-drop}
 use Rattle.std.specs.Prelude.{slice_index, slice_get, slice_index_or, nat_lt, map, if◌then◌else◌}
 use Rattle.std.proofs.lemmas.List.{take-append-le, drop-append-le, drop-drop}
@@ -31,7 +31,7 @@ code-again stored.Double = refl
 code-again stored.Date = refl
 code-again stored.Time = refl
 
--- a fault stands after the values, whichever these are
+-- a fault follows the values, whatever they are
 pub same-fault : (e : FaultOf) (vs ws : List Content) (here there : Result (List ℕ) FaultKind) → here ≡ there → Faults false e (read_to vs here) → Faults false e (read_to ws there)
 same-fault fault.Memory vs ws here there same h = absurd (cc)
 same-fault fault.UnexpectedEof vs ws (Ok rest) there same h = absurd (cc)
@@ -48,7 +48,7 @@ unfolding stored_values
 length-stored zero entries block = refl
 length-stored (suc n) entries block = ap suc (length-stored n (drop 5 entries) block)
 
--- what an entry says does not hang on those after it
+-- an entry doesn't depend on those after it
 same-entry : (entries later block : List ℕ) → 5 ≤ length entries → entry_reading (entries ++ later) block ≡ entry_reading entries block
 same-entry [] later block h = absurd (omega (arith, h))
 same-entry (a ∷ []) later block h = absurd (omega (arith, h))
@@ -160,7 +160,7 @@ pub place-there : (n i : ℕ) (block bytes mid after : List ℕ) (code place : �
 place-there n i block bytes mid after code place lt h e =
     subst (λ (p : ℕ). p ≤ length block) (sym (entry-is i block bytes mid after code place e).1) (stored-at n i block block lt h).place
 
--- what is read at its place is the value
+-- the value is read at its place
 reading-is : (i : ℕ) (block bytes mid after : List ℕ) (code place : ℕ) → IsEntry i block bytes mid after code place → (form_of_code code).reads (drop place block) ≡ entry_reading (drop (5 * i) block) block
 reading-is i block bytes mid after code place e =
     let is = entry-is i block bytes mid after code place e in

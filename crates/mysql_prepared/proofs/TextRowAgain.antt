@@ -1,4 +1,4 @@
--- A text row that is written is read again.
+-- A text row is read back.
 use Rattle.std.proofs.Common.{◌≡◌, ℕ, List, [], ◌∷◌, ◌++◌, ◌^◌, length, Option, Some, None, Ok, false, refl, arith, append_assoc, inl, inr}
 use Rattle.std.specs.List.{All}
 use Rattle.std.proofs.lemmas.Bool.{cases_lt, lt-ltb, le-ltb, ne_eqb}
@@ -12,7 +12,7 @@ use Rattle.mysql_values.specs.ValueDeserializer.{starts_null, text_value}
 use Rattle.mysql_prepared.specs.RowView.{text_row_of}
 use Rattle.mysql_prepared.specs.TextRow.{text_cell_bytes, text_row_bytes, text_content, text_contents, TextCellFits}
 
--- no length begins as NULL does
+-- no length begins like NULL
 length-begins : (n : ℕ) (after : List ℕ) → starts_null (lenenc_bytes n ++ after) ≡ false
 unfolding lenenc_bytes
 length-begins n after =

@@ -1,6 +1,7 @@
 -- The head of an execution: what precedes its parameters.
 use Rattle.std.specs.Prelude.{ℕ, Bool, refl}
 use Rattle.bitflags.specs.Sets.{without}
+use Rattle.mysql_wire.specs.CommandCodes.{COM_STMT_EXECUTE}
 use Rattle.mysql_wire.specs.FlagMasks.{PARAMETER_COUNT_AVAILABLE}
 use Rattle.mysql_wire.specs.Codecs.{Codec, Fields, ◌>>=◌, give, field, block, packet, const_u8, u32, flags, raw_int}
 use Rattle.mysql_wire.specs.ConstantValue.{const_of}
@@ -33,7 +34,7 @@ with_count count h = record h { iteration_count = raw_int count }
 -- 17, the statement's number, the flags, and the iteration count
 abbrev pub execute_head_fields : Fields (Unit {0}) ComStmtExecuteHead ComStmtExecuteHead
 execute_head_fields = do
-  header ← field (λ h. h.header) (const_u8 0x17)
+  header ← field (λ h. h.header) (const_u8 COM_STMT_EXECUTE)
   stmt_id ← field (λ h. h.stmt_id) u32
   flags ← field (λ h. h.flags) (flags 1)
   iteration_count ← field (λ h. h.iteration_count) u32

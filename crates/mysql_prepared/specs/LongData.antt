@@ -1,6 +1,7 @@
 -- The long data of one parameter, sent before an execution.
 use Rattle.std.specs.Prelude.{ℕ, List, refl}
 use Rattle.mysql_wire.specs.Codecs.{Codec, Fields, ◌>>=◌, give, field, packet, const_u8, u16, u32, string_eof, raw_int}
+use Rattle.mysql_wire.specs.CommandCodes.{COM_STMT_SEND_LONG_DATA}
 use Rattle.mysql_prepared.specs.declared.long_data.ComStmtSendLongData.{ComStmtSendLongData}
 
 -- ---- fields
@@ -24,7 +25,7 @@ long_data_of stmt_id param_index content =
 -- 18, the statement's number, the parameter's number, and the data to the end
 abbrev pub long_data_fields : Fields (Unit {0}) ComStmtSendLongData ComStmtSendLongData
 long_data_fields = do
-  header ← field (λ p. p.header) (const_u8 0x18)
+  header ← field (λ p. p.header) (const_u8 COM_STMT_SEND_LONG_DATA)
   stmt_id ← field (λ p. p.stmt_id) u32
   param_index ← field (λ p. p.param_index) u16
   content ← field (λ p. p.content) string_eof

@@ -1,4 +1,4 @@
--- What `bulk` answers to rows.
+-- What `bulk` prints for rows.
 use Rattle.std.proofs.Common.{◌≡◌, ℕ, ◌-◌, Bool, true, List, [], length, map, ◌++◌, Option, Result, Ok, Err, Some, None, IfOk, refl, sym, subst, ◌∙◌}
 use Rattle.std.proofs.lemmas.List.Elements.{All-nil}
 use Rattle.mysql_cuts.specs.declared.rule.BulkRule.{BulkRule}
@@ -23,7 +23,7 @@ use Rattle.mysql_program.specs.Bulk.{AnswersCells, AnswersRows, builder_of, last
 pub new_builder : (call : BulkCall) → IsNew (builder_of call)
 new_builder call = record { arity = refl; types_due = refl; waiting = refl }
 
--- the ends of a fewest cut name one by the rows' sizes
+-- the ends of a fewest cut are those of one by the rows' sizes
 pub names_fewest : (law : (rule : BulkRule) (limit : ℕ) (rows : List (List Content)) (cut : List (List (List Content))) →
     IsFewest (rows_packing rule limit (first_length rows)) rows cut → NamesFewest (weights rule limit (first_length rows)) (map row_size rows) (ends_after 0 cut))
     (call : BulkCall) (rows : List (List Content)) (requests : List BulkRequest) (ends : List ℕ) (refusal : Option BulkExecuteRequestBuilderError) (left : BuilderState)
@@ -59,11 +59,11 @@ was_sent call rows requests ends left text count row_count fewest (Err error) gi
 
 -- ---- rows under declared types
 
--- no row waits in the writer that is asked for
+-- no row is waiting in the writer
 new_writer_holds : (call : BulkCall) (types : List ParamType) (capacity : ℕ) → HoldsCells (writer_of (builder_of call) types capacity) []
 new_writer_holds call types capacity = record { count = refl; size = refl; bytes = refl; taken = All-nil (Spells types); fits = λ some. absurd (some refl) }
 
--- what its run gives of rows that are these, and says why it ended
+-- what its run over these rows produces, and why it ended
 run_gives : (call : BulkCall) (types : List ParamType) (w left : WriterState) (given rows : List (List Cell)) (requests : List (List ℕ)) (outcome refusal : Option BulkRowError)
     → w ≡ writer_of (builder_of call) types w.capacity
     → ((before : List (List Cell)) → HoldsCells w before → CellsRunGives w before given requests outcome left)

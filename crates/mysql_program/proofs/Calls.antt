@@ -1,4 +1,4 @@
--- Names that are others.
+-- Different names.
 use Rattle.std.proofs.Common.{◌≡◌, ℕ, true, false, List, [], ◌∷◌, nat_eq, refl, arith}
 use Rattle.std.proofs.lemmas.Bool.{eqb-true, false_from_ne_true}
 use Rattle.std.proofs.lemmas.Grind.{common_steps}
@@ -15,6 +15,6 @@ same_name (n ∷ name) (w ∷ word) h =
     let f = same_name name word rest in
     cc
 
--- what is not that word has not that name
+-- another word isn't that name
 pub other_name : (name word : List ℕ) → (name ≡ word → ⊥) → is_named name word ≡ false
 other_name name word other = false_from_ne_true (is_named name word) (λ h. other (same_name name word h))

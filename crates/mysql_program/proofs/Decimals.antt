@@ -26,7 +26,7 @@ is_numeral w checked =
 pub is_text : (w : List ℕ) → is_decimal w ≡ true → IsUtf8 w
 is_text w checked = IsUtf8-from_ascii w (IsAscii-from_digits w (is_numeral w checked).0.1)
 
--- what is no numeral is no number
+-- a word that is no numeral is no number
 pub not_number : (bound : ℕ) (w : List ℕ) → is_decimal w ≡ false → number_below bound w ≡ None
 unfolding decimal_of
 not_number bound w checked = rw checked refl
@@ -50,7 +50,7 @@ number_parse w r checked parsed =
 
 pub ruleset numbers = (not_number, number_parse, is_text)
 
--- ---- a number is below a bound that is less
+-- ---- a number is below a larger bound
 
 pub narrow_none : (bound : ℕ) (x : Option ℕ) → below (2 ^ 64) x ≡ None → bound ≤ 2 ^ 64 → below bound x ≡ None
 narrow_none bound None h le = refl

@@ -1,4 +1,4 @@
--- What is refused where a handshake has a fault.
+-- The refusal for a handshake with a fault.
 use Rattle.std.proofs.Common.{[], Bool}
 use Rattle.mysql_wire.specs.declared.fault.FaultOf.{FaultOf}
 use Rattle.mysql_wire.specs.declared.fault.FaultOf.TheVariants as fault

@@ -1,4 +1,4 @@
--- Words of digits, whatever their base.
+-- Words of digits in any base.
 use Rattle.std.proofs.Common.{◌≡◌, ◌≢◌, ℕ, ◌<◌, Bool, true, List, [], ◌∷◌, length, nat_le, arith}
 use Rattle.std.proofs.lemmas.Grind.{common_steps}
 use Rattle.std.specs.Char.{digit_value}
@@ -6,7 +6,7 @@ use Rattle.std.specs.List.{list_all}
 use Rattle.std.specs.Str.Parse.{AllDigits, IsNumeral, without_leading_plus}
 use Rattle.std.proofs.lemmas.Bool.{and_parts}
 
--- each of these characters is a digit of the base, and none is a plus
+-- each of these characters is a digit of the base, and none is a plus sign
 abbrev pub AreDigits : (base : ℕ) → (ℕ → Bool) → Type 0
 AreDigits base is_digit = (c : ℕ) → is_digit c ≡ true → (digit_value c < base) × (c ≢ 43)
 
@@ -19,7 +19,7 @@ all_digits base is_digit are (c ∷ cs) e =
 no_plus : (c : ℕ) (cs : List ℕ) → c ≢ 43 → without_leading_plus (c ∷ cs) ≡ c ∷ cs
 no_plus c cs other = grind (arith, common_steps)
 
--- a word of such digits is a numeral, with no plus in front
+-- a word of such digits is a numeral without a plus sign
 pub numeral_of : (base : ℕ) (is_digit : ℕ → Bool) → AreDigits base is_digit → (w : List ℕ) → nat_le 1 (length w) ≡ true → list_all is_digit w ≡ true → IsNumeral base w × (without_leading_plus w ≡ w)
 numeral_of base is_digit are [] some all = absurd cc
 numeral_of base is_digit are (c ∷ cs) some all =

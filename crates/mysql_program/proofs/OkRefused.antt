@@ -1,4 +1,4 @@
--- What is refused where an OK packet, its state or a change has a fault.
+-- The refusal for an OK packet, its state or a change with a fault.
 use Rattle.std.proofs.Common.{◌≡◌, ℕ, List, [], Bool}
 use Rattle.mysql_wire.specs.declared.fault.FaultOf.{FaultOf}
 use Rattle.mysql_wire.specs.declared.fault.FaultOf.TheVariants as fault

@@ -1,4 +1,4 @@
--- What is refused where a reading has a fault.
+-- The refusal for a reading with a fault.
 use Rattle.std.proofs.Common.{◌≡◌, ℕ, List, [], Bool}
 use Rattle.mysql_wire.specs.declared.fault.FaultOf.{FaultOf}
 use Rattle.mysql_wire.specs.declared.fault.FaultOf.TheVariants as fault

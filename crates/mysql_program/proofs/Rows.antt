@@ -1,4 +1,4 @@
--- Rows that are given as text.
+-- Rows as text.
 use Rattle.std.proofs.Common.{◌≡◌, ℕ, ◌+◌, ◌-◌, List, [], ◌∷◌, ◌++◌, length, get_or, drop, Option, Some, None, nat_eq, refl, arith}
 use Rattle.std.proofs.lemmas.Grind.{common_steps}
 use Rattle.std.proofs.lemmas.List.{drop_more}
@@ -18,7 +18,7 @@ last_byte c (x ∷ xs) =
 
 pub ruleset feeds = (last_byte)
 
--- these, and then what comes of the rest
+-- these, followed by the result for the rest
 abbrev pub prepended : {B : Type 0} → List B → Option (List B) → Option (List B)
 prepended xs None = None
 prepended xs (Some ys) = Some (xs ++ ys)

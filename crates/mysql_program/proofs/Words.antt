@@ -17,7 +17,7 @@ use Rattle.mysql_program.specs.TimeText.{is_bit_word}
 hexadecimal_digits : AreDigits 16 is_ascii_hexdigit
 hexadecimal_digits c e = grind (arith, common_steps)
 
--- a number of at most eight digits has four bytes
+-- a number of at most eight digits fits four bytes
 below : (w : List ℕ) → length w ≤ 8 → AllDigits 16 w → digits_value 16 w < 2 ^ 32
 below w short digits =
     let lt = digits_value-lt 16 w digits in
@@ -60,7 +60,7 @@ are_ascii (c ∷ cs) all (suc i) = are_ascii cs (and_parts (is_ascii_hexdigit c)
 pub bits_are_text : (count : ℕ) (w : List ℕ) → is_bit_word count w ≡ true → IsUtf8 w
 bits_are_text count w checked = IsUtf8-from_ascii w (are_ascii w (bit_parts count w checked).1)
 
--- which is read as its number
+-- and it is read as its number
 bits_parse : {E : Type 0} (width count : ℕ) (w : List ℕ) (r : Result ℕ E) → 1 ≤ count → 16 ^ count ≡ 2 ^ width → is_bit_word count w ≡ true → ParsesUnsigned width 16 w r → r ≡ Ok (digits_value 16 w)
 bits_parse width count w r some fits checked parsed =
     let b = bit_parts count w checked in

@@ -1,4 +1,4 @@
--- What the program makes of a recording, piece by piece.
+-- What the program prints for a recording, piece by piece.
 use Rattle.std.proofs.Common.{◌≡◌, ◌⊎◌, inl, inr, ℕ, Bool, true, false, List, [], ◌∷◌, ◌++◌, Option, Some, None, Result, Ok, Err, OnOk, MatchResult, refl, sym, ap, subst, ◌∙◌, append_assoc, append-nil}
 use Rattle.std.specs.Io.KnownBytes.{Appends}
 use Rattle.mysql_conversation.specs.Pipelined.{Numbered}
@@ -29,7 +29,7 @@ use Rattle.mysql_show.proofs.Outputs.{cut_after, cut_longer, written_after}
 use Rattle.mysql_recorder.proofs.Seen.{recorded_shown}
 use Rattle.mysql_recorder.proofs.Stays.{stays_same, stays_then}
 
--- ---- the same after a text that stands before it
+-- ---- the same after an earlier text
 
 is_after : (w a b more : List ℕ) → b ≡ a ++ more → w ++ b ≡ (w ++ a) ++ more
 is_after w a b more e = ap (λ (l : List ℕ). w ++ l) e ∙ sym (append_assoc w a more)
@@ -71,13 +71,13 @@ lost_after : (w : List ℕ) (all : List PacketKindTag) (layout : Layout) (limit 
 lost_after w all layout limit ends text items a b (inl h) = inl (record { side = h.side; bytes = h.bytes; shown = h.shown; loses = loses_in_after w all layout limit h.side _ items a b h.loses })
 lost_after w all layout limit ends text items a b (inr h) = inr (h.0, h.1, ap (λ (l : List ℕ). w ++ l) h.2)
 
--- these entries, and then those
+-- these entries, followed by those
 writes_more : (layout : Layout) (xs ys : List Item) (w t : List ℕ) → Writes layout xs [] w → Writes layout ys [] t → Writes layout (xs ++ ys) [] (w ++ t)
 writes_more layout xs ys w t h g = writes_then layout xs ys [] w (w ++ t) h (subst (λ l. Writes layout ys l (w ++ t)) (append-nil w) (writes_after w layout ys [] t g))
 
--- ---- amid an input
+-- ---- in the middle of an input
 
--- of this input what is shown stands there, and the recording stands after it
+-- what is printed for this input is there, and the recording is in the state after it
 abbrev pub IsAmid : List PacketKindTag → Layout → ℕ → Recording → List ℕ → List ℕ → Type 0
 IsAmid all layout limit r input text =
     ((items : List Item) × Recorded r input items × Writes layout items [] text) ⊎ ((recorded.has_lost r ≡ true) × LostIn all layout limit IsAtFeed input text)
@@ -103,7 +103,7 @@ lost_ends : (all : List PacketKindTag) (layout : Layout) (limit : ℕ) (x w t : 
 lost_ends all layout limit x w t l =
     (l.0, l.1, l.2, l.3, l.4, l.5, l.6, is_lost_where all layout limit (IsAtFeed l.1) (IsLineEnd l.1) l.0 l.2 l.3 l.4 (λ f. inl f) l.7, stays_then l.4 w (w ++ t) l.8 (t, refl))
 
--- something is lost in a piece; what is shown up to there is followed by what stays of it
+-- something is lost in a piece; the entries up to there are followed by those of its rest
 lost_here : (r : Result (Unit {0}) RecordingError) (all : List PacketKindTag) (old new : Recording) (x p w t : List ℕ) (items : List Item)
     → Recorded old x items → Writes (recorded.layout old) items [] w → Loses r all p old new [] t → recorded.has_lost new ≡ true
     → (mid : List ℕ) × OnOk r (Stays mid t) × ((text : List ℕ) → Stays mid text → LostIn all (recorded.layout old) (recorded.longest old) IsAtFeed (x ++ p) (w ++ text))
@@ -190,7 +190,7 @@ pub cut_off : (all : List PacketKindTag) (layout : Layout) (limit : ℕ) (sums :
     → IsAnswer all layout limit sums at_end x (record { text = w; status = 3 })
 cut_off all layout limit sums at_end r x w h = inr (inr (inr (inr (record { made = amid_made all layout limit r x w h; status = refl }))))
 
--- what is shown of a front of it
+-- what is printed for a front of it
 begins_made : (all : List PacketKindTag) (layout : Layout) (limit : ℕ) (r : Recording) (x p w t : List ℕ) → IsAmid all layout limit r x w → BeginsMade all layout limit (x ++ p) (w ++ t)
 begins_made all layout limit r x p w t h = (x, p, w, refl, amid_made all layout limit r x w h, (t, refl))
 
@@ -224,7 +224,7 @@ for_another all layout limit sums at_end r x p w t line e answer h other says en
       ends = ends;
     })
 
--- a packet doesn't come, or it is for another reason
+-- a packet is unexpected, or there is another reason
 stopped : (all : List PacketKindTag) (layout : Layout) (limit : ℕ) (sums : Bool) (at_end : Type 0) (r : Recording) (x p w t line : List ℕ) (e : RecordingError) (answer : Answer)
     → IsAmid all layout limit r x w → IfRefused e (λ why. RefusedIn all layout why (x ++ p) (w ++ t)) → SaysError layout e line → EndsWith sums ((w ++ t) ++ line) 1 answer
     → IsAnswer all layout limit sums at_end (x ++ p) answer
@@ -246,7 +246,7 @@ stopped all layout limit sums at_end r x p w t line error.TooLong answer h stops
 stopped all layout limit sums at_end r x p w t line error.Missing answer h stops says ends =
     for_another all layout limit sums at_end r x p w t line error.Missing answer h (λ P. tt) says ends
 
--- of what stops amid a piece
+-- what stops in the middle of a piece
 piece_refused : (all : List PacketKindTag) (layout : Layout) (e : RecordingError) (x p w t : List ℕ) (items : List Item) → Writes layout items [] w
     → IfRefused e (λ why. (front : List ℕ) × (back : List ℕ) × (here : List Item) × (mid : List ℕ) × (p ≡ front ++ back)
     × Writes layout here [] mid × StopsAfter all layout (x ++ front) (items ++ here) why mid t)
@@ -323,9 +323,9 @@ finished all sums true at_end old new x w t answer says is here (inr h) ends =
     lost all (recorded.layout old) (recorded.longest old) sums at_end x answer here (record { shown = w ++ t; lost = lost_ends all (recorded.layout old) (recorded.longest old) x w t h.1; ends = ends })
 finished all sums false at_end old new x w t answer says is here (inr h) ends = absurd (let no : true ≡ false = sym (says.lost h.0) ∙ is in cc)
 
--- ---- what is written of it
+-- ---- what is written
 
--- An answer that is written, where it is amid this input it is that of this one.
+-- A written answer, which is that of this input if it ends in the middle of it.
 pub record IsGiven (all : List PacketKindTag) (layout : Layout) (limit : ℕ) (sums : Bool) (at_end : Type 0) (r : Recording) (x w input : List ℕ) (old new : Option (List ℕ)) (status : ℕ) : Type 0 where
   pub answer : Answer
   pub answers : IsAmid all layout limit r x w → IsAnswer all layout limit sums at_end input answer

@@ -41,7 +41,7 @@ pub number_given : {E : Type 0} (r : Result ℕ E) (k radix : ℕ) (word : List 
 unfolding number_in
 number_given r k radix word h = numeral_given r radix (2 ^ k) (without_leading_plus word) h
 
--- the word of a list that comes next
+-- the next word of a list
 pub next_of : {A B : Type 0} (f : A → B) (i : ℕ) (xs : List A) (d : A) → i < length xs → drop i (map f xs) ≡ f (get_or xs i d) ∷ drop (i + 1) (map f xs)
 next_of f zero [] d h = absurd (omega (arith, h))
 next_of f zero (x ∷ xs) d h = refl
@@ -86,7 +86,7 @@ asked_other : (word : List ℕ) (a : Asked) → (word ≡ codes "--json" → ⊥
 unfolding asked_by
 asked_other word a j s d = rw (other_bytes word (codes "--json") j, other_bytes word (codes "--sum") s, other_bytes word (codes "--deciphered") d) refl
 
--- what stands after a word's front
+-- what follows the front of a word
 stripped : (front word digits : List ℕ) → StripsPrefix (FindsTextPrefix front) word digits → word ≡ front ++ digits
 stripped front word digits h = h.1.1 ∙ ap (λ xs. front ++ xs) (sym h.2)
 

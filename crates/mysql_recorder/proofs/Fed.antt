@@ -1,4 +1,4 @@
--- What the program makes of what a reader gives it.
+-- What the program writes for a reader's input.
 use Rattle.std.proofs.Common.{◌≡◌, ◌⊎◌, inl, take, ℕ, Bool, List, [], ◌++◌, Option, Some, None, refl, sym, subst, ◌∙◌, append-nil}
 use Rattle.std.proofs.KnownBytes.{Appends-nil, Appends-trans, Consumes-kept, Consumes-nil, Consumes-trans}
 use Rattle.std.specs.Io.KnownBytes.{Appends, Consumes, IsAtEnd, Keeps}
@@ -30,7 +30,7 @@ end_in all layout limit sums at_end old new x w a b c status same long here firs
     (subst (λ n. InputEnds all (recorded.layout old) sums old new b c status → IsGiven all (recorded.layout old) n sums at_end old x w x a c status) long
     (λ h. end_given h.finished all sums at_end old new x w h.text a b c status first h.says here h.ends))
 
--- A reader gave an input, and what is made of it is written.
+-- A reader returned an input, and its answer is written.
 pub record IsFed (all : List PacketKindTag) (layout : Layout) (limit : ℕ) (from : Type 0) (r : Recording) (before after old new : Option (List ℕ)) : Type 0 where
   pub input : List ℕ
   pub text : List ℕ
@@ -82,7 +82,7 @@ end_answered all layout limit sums from old new chunk n before mid after a b c s
       written = given.written;
     }
 
--- a read fails, or no more is read
+-- a read fails, or the input ends
 pub no_more_read : (all : List PacketKindTag) (layout : Layout) (limit : ℕ) (sums : Bool) (from : Type 0) (r : Recording) (before mid after a b : Option (List ℕ))
     → IsFed all layout limit from r before mid a b → Keeps mid after → IsAnswered all layout limit sums from before after a b 3
 no_more_read all layout limit sums from r before mid after a b fed kept = record {

@@ -50,7 +50,7 @@ framed_shorter size (suc full) number payload after bytes rest h =
 pub framed_less : (number : ℕ) (payload : List ℕ) (after : ℕ) (held input rest : List ℕ) → Framed number payload after (held ++ input) rest → length rest + 4 ≤ length held + length input
 framed_less number payload after held input rest h = omega (arith, framed_shorter most h.0 number payload after (held ++ input) rest h.1, length-append held input)
 
--- where the header is there, the payload has its number
+-- if the header is complete, the payload has its number
 index_front : (held input : List ℕ) → 4 ≤ length held → slice_index (held ++ input) 3 ≡ slice_index held 3
 index_front [] input h = absurd (omega arith)
 index_front (a ∷ []) input h = absurd (omega arith)

@@ -1,4 +1,4 @@
--- One step after another.
+-- Two steps in turn.
 use Rattle.std.proofs.Common.{◌≡◌, ◌⊎◌, inl, inr, ℕ, ◌+◌, ◌<◌, length, take, get_or, true, false, List, [], ◌∷◌, ◌++◌, Some, Result, Ok, Err, IfOk, OnOk, refl, sym, ap, subst, ◌∙◌, append_assoc, append-nil}
 use Rattle.std.proofs.lemmas.List.{take_more}
 use Rattle.mysql_conversation.specs.declared.packet_kind.Side.{Side}
@@ -47,7 +47,7 @@ pub then_on_ok : (r : Result (Unit {0}) RecordingError) (b : List Piece) (old mi
 then_on_ok (Ok u) b old mid new x y z first lost same second = sides_then [] b old mid new x y z first lost same second
 then_on_ok (Err e) b old mid new x y z first lost same second = tt
 
--- the stream of a piece, and the other one
+-- the stream of a piece, and the other stream
 read_step : (side : Side) (bytes : List ℕ) (items here : List Item) (old new : Stream) (before after : Packets) (x y : List ℕ) (was longest : ℕ) → Reads side bytes [] items here old new before after x y
     → NoneComes new.reader.held → new.passed ≡ old.passed → longest ≡ was → InStep old was → InStep new longest
 read_step side bytes items here old new before after x y was longest r none passed same h = record {
@@ -60,7 +60,7 @@ read_step side bytes items here old new before after x y was longest r none pass
 other_step : (old new : Stream) (was longest : ℕ) → new ≡ old → longest ≡ was → InStep old was → InStep new longest
 other_step old new was longest e same h = subst (λ s. InStep s longest) (sym e) (subst (λ n. InStep old n) (sym same) h)
 
--- a piece of the client, and one of the server
+-- a piece of the client, or one of the server
 pub read_client : (old new : Sides) (bytes before after : List ℕ)
     → ((items : List Item) → IsAt old.client old.packets items → (here : List Item) × Reads side.Client bytes [] items here old.client new.client old.packets new.packets before after)
     → (IsNumbered old.client.reader → NoneComes new.client.reader.held)
@@ -121,7 +121,7 @@ pub whole_server : (r : Result Came RecordingError) (old new : Sides) (bytes bef
 whole_server (Err e) old new bytes before after reads none passed client lost longest = tt
 whole_server (Ok came) old new bytes before after reads none passed client lost longest = λ w. read_server old new bytes before after (reads w) (none w) passed client lost longest
 
--- all but the sums is the same
+-- everything except the sums is unchanged
 pub summed_stand : (old new : Sides) (pieces : List Piece) (items : List Item) → IsSummed old new → Stand old pieces items → Stand new pieces items
 summed_stand old new pieces items e h = record {
   come = subst (λ c. ComeIn [] [] pieces items c.reader.held new.server.reader.held) (sym e.client) (subst (λ s. ComeIn [] [] pieces items old.client.reader.held s.reader.held) (sym e.server) h.come);
@@ -131,7 +131,7 @@ summed_stand old new pieces items e h = record {
   nothing_lost = e.has_lost ∙ h.nothing_lost;
 }
 
--- all but the answer that is awaited is the same
+-- everything except the awaited answer is unchanged
 same_stand : (old new : Sides) (pieces : List Piece) (items : List Item) → sides.IsSame old new → Stand old pieces items → Stand new pieces items
 same_stand old new pieces items e h =
     summed_stand old new pieces items
@@ -213,7 +213,7 @@ recorded_then a b old mid new x y z first lost same second text items h =
       ]
     ]
 
--- what waits of a line is one piece
+-- the bytes of an incomplete line are one piece
 pub takes_piece : (old new : Recording) (bytes before after : List ℕ) → bytes ≡ old.line.bytes.items
     → sides.GoesOn (piece old.line.side bytes ∷ []) old.sides new.sides before after → Takes old new before after
 takes_piece old new bytes before after e g pieces items h =
@@ -236,7 +236,7 @@ pub takes_on_ok : (r : Result (Unit {0}) RecordingError) (mid new : Recording) (
 takes_on_ok (Ok u) mid new before after takes place bytes is_taken = takes_goes mid new before after takes place bytes is_taken
 takes_on_ok (Err e) mid new before after takes place bytes is_taken = tt
 
--- ---- the bytes of a text, one after another
+-- ---- the bytes of a text, in order
 
 take_none : (xs : List ℕ) → take 0 xs ≡ []
 take_none [] = refl

@@ -1,4 +1,4 @@
--- What an object begins with.
+-- How an object begins.
 use Rattle.std.proofs.Common.{◌≡◌, ℕ, List, [], ◌∷◌, ◌++◌, false, length, codes, refl, sym, ap, subst, ◌∙◌, append_assoc, OnOk, OnErr, Result, Ok, Err}
 use Rattle.mysql_show.specs.Fields.{Said, said, Number, Word, Digits, have_float}
 use Rattle.mysql_show.specs.FieldObject.{AppendsObject, object_line}
@@ -8,12 +8,12 @@ use Rattle.mysql_recorder.specs.declared.entry.Layout.{Layout}
 use Rattle.mysql_recorder.specs.declared.entry.Layout.TheVariants as layout
 use Rattle.mysql_recorder.specs.declared.entry.Notice.{Notice}
 
--- a clause of the value, where there is one, gives another
+-- a clause about the value, if there is one, implies another
 pub on-ok : {T E : Type 0} {P Q : Type 0} (r : Result T E) → OnOk r P → (P → Q) → OnOk r Q
 on-ok (Ok x) p f = f p
 on-ok (Err e) p f = tt
 
--- what is appended after a front, or where there is none
+-- what is appended after a front, or without one
 pub front-begins : {T E : Type 0} (r : Result T E) (front line old mid new : List ℕ) → front ≡ line → mid ≡ old ++ line → OnOk r (Stays mid new) → OnOk r (Begins front old new)
 front-begins (Ok x) front line old mid new is e h = (h.0, h.1 ∙ ap (λ t. t ++ h.0) e ∙ append_assoc old line h.0 ∙ ap (λ f. old ++ (f ++ h.0)) (sym is))
 front-begins (Err e) front line old mid new is f h = tt

@@ -18,7 +18,7 @@ spells_more b y nothing h = h
 spells_more b y (space c s r) h = space c s (spells_more b y r h)
 spells_more b y (byte c d high low p q r) h = byte c d high low p q (spells_more b y r h)
 
--- a line with more after it
+-- a line with more text after it
 pub says_more : (side : Side) (line bytes text more : List ℕ) → SaysBytes side line bytes → Spells text more → SaysBytes side (line ++ text) (bytes ++ more)
 says_more side line bytes text more (inl h) s =
     inl (h.0, h.1 ++ text, ap (λ xs. xs ++ text) h.2, h.3, spells_more text more h.4 s)
@@ -86,7 +86,7 @@ place_more (Some at) (c ∷ input) (suc i) mid new less h e =
     let next : suc (i + 1) ≡ suc i + 1 = omega arith in
     subst (λ n. place_from (Some at) (take n (c ∷ input)) ≡ Some new) next (place_more (next_place at c) input i mid new (omega (arith, less)) h e)
 
--- a byte stands in no line there
+-- there the byte is in no line
 pub place_stops : (o : Option Place) (input : List ℕ) (i : ℕ) (mid : Place) → i < length input → place_from o (take i input) ≡ Some mid → next_place mid (get_or input i 0) ≡ None → place_from o input ≡ None
 place_stops None input i mid less h e = refl
 place_stops (Some at) [] i mid less h e = absurd (omega (arith, less))

@@ -1,4 +1,4 @@
--- Where something is lost, step by step.
+-- Losses, step by step.
 use Rattle.std.proofs.Common.{◌≡◌, ◌≢◌, ◌⊎◌, inl, inr, ℕ, ◌+◌, ◌<◌, true, false, List, [], ◌∷◌, ◌++◌, Result, Ok, Err, IfOk, OnOk, Some, refl, sym, ap, subst, ◌∙◌, append_assoc, append-nil, length, get_or, take, drop, drop-cons, take-append-drop, suc, add-one}
 use Rattle.std.proofs.lemmas.List.{take_more}
 use Rattle.mysql_conversation.specs.declared.packet_kind.Side.{Side}
@@ -40,7 +40,7 @@ use Rattle.mysql_recorder.proofs.Wholes.{observed_session}
 
 -- ---- one side
 
--- a packet is handed out that doesn't come
+-- an unexpected packet is returned
 pub loses_packet : (all : List PacketKindTag) (side : Side) (bytes input rest : List ℕ) (items here : List Item) (s old new : Stream) (p po : Packets) (a b c : List ℕ) (sequence : ℕ) (payload : List ℕ)
     → Reads side bytes input items here s old p po a b
     → HandsOut (as_sent old.reader input) input payload new.reader rest → sequence ≡ (as_sent old.reader input).number
@@ -106,7 +106,7 @@ pub piece_keeps : (r : Result (Unit {0}) RecordingError) (all : List PacketKindT
     → has_lost new ≡ has_lost old → PieceLoses r all side bytes old new before after
 piece_keeps r all side bytes old new before after e lost pieces items h = absurd (let no : true ≡ false = sym lost ∙ e ∙ h.nothing_lost in cc)
 
--- what came of a piece
+-- the result for a piece
 pub came_loses : (came : Came) (r : Result (Unit {0}) RecordingError) (all : List PacketKindTag) (side : Side) (bytes : List ℕ) (old mid new : Sides) (before m after : List ℕ)
     → (came ≢ came_as.Whole → PieceLosesIn all side bytes old before m) → (came ≡ came_as.Whole → sides.IsSame mid new × (after ≡ m)) → has_lost mid ≡ has_lost old → OnOk r (Stays m after)
     → PieceLoses r all side bytes old new before after
@@ -124,7 +124,7 @@ pub text_keeps : (r : Result (Unit {0}) RecordingError) (all : List PacketKindTa
     → recorded.has_lost new ≡ recorded.has_lost old → TextLoses r all ends old new before after
 text_keeps r all ends old new before after e lost text items h = absurd (let no : true ≡ false = sym lost ∙ e ∙ h.stand.nothing_lost in cc)
 
--- what waits of a line is lost
+-- an incomplete line is lost
 waits_loses : (r : Result (Unit {0}) RecordingError) (all : List PacketKindTag) (ends : Type 0) (old new : Recording) (before after : List ℕ)
     → LineLoses r all old new before after → recorded.has_lost new ≡ true → (text : List ℕ) (items : List Item) → Recorded old text items
     → (mid : List ℕ) × IsLost all (recorded.layout old) (recorded.longest old) ends text items before mid × OnOk r (Stays mid after)
@@ -136,7 +136,7 @@ pub text_loses : (r : Result (Unit {0}) RecordingError) (all : List PacketKindTa
     → LineLoses r all old new before after → TextLoses r all ends old new before after
 text_loses r all ends old new before after loses = λ lost text items h. waits_loses r all ends old new before after loses lost text items h
 
--- a line that says a mark
+-- a line with a mark
 mark_ends : (old : Recording) (text : List ℕ) (items : List Item) → Recorded old text items → old.line.is_untaken ≡ true → IsMark old.line.bytes.items → EndsInMark text items
 mark_ends old text items h untaken mark =
     let to = h.untaken untaken in
@@ -183,7 +183,7 @@ feed_loses r all old mid new c before after passes line same loses lost text ite
 
 -- ---- one step after another
 
--- what is appended then changes nothing else
+-- appending changes nothing else
 pub then_loses : (q r : Result (Unit {0}) RecordingError) (all : List PacketKindTag) (ends : Type 0) (old mid new : Recording) (x y z : List ℕ)
     → TextLoses q all ends old mid x y → recorded.has_lost new ≡ recorded.has_lost mid → ((m : List ℕ) → OnOk q (Stays m y) → OnOk r (Stays m z)) → TextLoses r all ends old new x z
 then_loses q r all ends old mid new x y z loses same stays lost text items h =
@@ -234,7 +234,7 @@ loses_then r all ends a b old mid new x y z first before same long loses feed st
       ))
     ]
 
--- ---- the bytes of an input, one after another
+-- ---- the bytes of an input, in order
 
 pub loop_loses : (all : List PacketKindTag) (xs : List ℕ) (i c : ℕ) (old mid new : Recording) (x y z : List ℕ) → i < length xs → c ≡ get_or xs i 0
     → recorded.GoesOn (take i xs) old mid x y → Loses (Ok tt) all (take i xs) old mid x y → recorded.layout mid ≡ recorded.layout old → recorded.longest mid ≡ recorded.longest old

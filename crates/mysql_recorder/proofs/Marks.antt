@@ -3,12 +3,12 @@ use Rattle.std.proofs.Common.{◌≡◌, ℕ, ◌+◌, ◌*◌, ◌-◌, ◌^◌
 use Rattle.std.proofs.Math.Nat.{pow-le-pow_right}
 use Rattle.mysql_recorder.specs.Marks.{BeginsWithDigits, EndsDigits, IsMarkOf, mark_end, number_at}
 
--- what is shorter is after a digit at least
+-- the rest is shorter by at least one digit
 some_digits : (n : ℕ) (text : List ℕ) → length (drop n text) < length text → 1 ≤ n
 some_digits zero text h = absurd (omega arith)
 some_digits (suc n) text h = omega arith
 
--- such digits say a number below this power of 10
+-- the number of these digits is below this power of 10
 below : (n : ℕ) (text : List ℕ) → BeginsWithDigits n text → number_at n text < 10 ^ n
 below zero text h = omega arith
 below (suc n) text h =
@@ -28,14 +28,14 @@ number_more n number value c text few digits is at low high value_is =
     let step : (number * 10 % 18446744073709551616 + value) % 18446744073709551616 ≡ number_at n text * 10 + (slice_index text n - 48) = omega (arith, small, is, at, low, high, value_is) in
     subst (λ m. (number * 10 % 18446744073709551616 + value) % 18446744073709551616 ≡ number_at m text) next step
 
--- what stands after a number begins with a space
+-- a space follows a number
 at_end : (n : ℕ) (text : List ℕ) → drop n text ≡ mark_end → (slice_index text n ≡ 32) × (n < length text)
 at_end zero [] e = absurd (let no : 0 ≡ 32 = ap length e in omega (arith, no))
 at_end zero (c ∷ text) e = (ap (λ xs. slice_index xs 0) e, omega arith)
 at_end (suc n) [] e = absurd (let no : 0 ≡ 32 = ap length e in omega (arith, no))
 at_end (suc n) (c ∷ text) e = let h = at_end n text e in (h.0, omega (arith, h.1))
 
--- a mark's number ends where its digits do
+-- the number of a mark ends with its digits
 same_end : (a b : ℕ) (text : List ℕ) → a ≤ 19 → BeginsWithDigits a text → (a < 19 → EndsDigits a text) → b ≤ 19 → BeginsWithDigits b text → drop b text ≡ mark_end → a ≡ b
 same_end a b text few digits ends few_b digits_b end =
     let space = at_end b text end in

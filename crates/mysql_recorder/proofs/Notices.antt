@@ -11,7 +11,7 @@ use Rattle.mysql_recorder.specs.Entries.{notice_text}
 use Rattle.mysql_recorder.specs.Steps.{left_of, left_text, skipped_bytes, passed_text}
 use Rattle.mysql_recorder.specs.declared.sides.Sides.{Sides}
 
--- what is said of a stream that is out of step
+-- the notice on a stream out of step
 pub left_is : (s : Sides) (side : Side) (count : ℕ) → passed_of side s ≡ Some count → s.has_lost || nat_lt 0 count ≡ true → left_text side s ≡ passed_text s (codes "no_resync") side count
 left_is s side count is said = ap (λ o. left_of s side o) is ∙ ap (λ b. if b then passed_text s (codes "no_resync") side count else []) said
 

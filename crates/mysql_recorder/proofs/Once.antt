@@ -1,4 +1,4 @@
--- The packets of one side, and that they are one list.
+-- The packets of one side are a unique list.
 use Rattle.std.proofs.Common.{◌≡◌, ℕ, Bool, true, false, List, [], ◌∷◌, ◌++◌, if◌then◌else◌, refl, sym, ap, subst, ◌∙◌, append_assoc, append-nil}
 use Rattle.mysql_conversation.specs.declared.packet_kind.Side.{Side}
 use Rattle.mysql_conversation.specs.declared.packet_kind.Side.TheVariants.{Client, Server}
@@ -21,7 +21,7 @@ pub frames_append : (xs ys : List Item) (bytes mid rest : List ℕ) → AreFrame
 frames_append [] ys bytes mid rest h g = subst (λ b. AreFrames ys b rest) (sym h) g
 frames_append (x ∷ xs) ys bytes mid rest h g = (h.0, h.1, h.2, frames_append xs ys h.1 mid rest h.3 g)
 
--- up to a rest in which none comes, bytes are the frames of one list of payloads
+-- up to a rest without a payload, bytes are the frames of exactly one list of payloads
 pub frames_once : (xs ys : List Item) (bytes r s : List ℕ) → AreFrames xs bytes r → AreFrames ys bytes s → NoneComes r → NoneComes s → (sent xs ≡ sent ys) × (r ≡ s)
 frames_once [] [] bytes r s g h x y = (refl, sym g ∙ h)
 frames_once [] (q ∷ ys) bytes r s g h x y =

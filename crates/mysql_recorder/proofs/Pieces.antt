@@ -1,4 +1,4 @@
--- One packet more of a piece.
+-- One more packet of a piece.
 use Rattle.std.proofs.Common.{◌≡◌, ℕ, List, [], ◌∷◌, ◌++◌, refl, sym, ap, subst, ◌∙◌, append_assoc, append-nil}
 use Rattle.mysql_conversation.specs.declared.packet_kind.Side.{Side}
 use Rattle.mysql_conversation.specs.Pipelined.{Numbered}
@@ -14,7 +14,7 @@ use Rattle.mysql_recorder.specs.declared.packets.Packets.{Packets}
 use Rattle.mysql_recorder.specs.declared.stream.Stream.{Stream}
 use Rattle.mysql_recorder.proofs.Frames.{placed-append, writes_one, from_then, frames_then, handed_out, handed_numbered, held_all, held_numbered, none_comes, sent-limit}
 
--- a packet is handed out and shown
+-- a packet is returned and printed
 pub reads_packet : (side : Side) (bytes input rest : List ℕ) (items here : List Item) (s old new : Stream) (p po pn : Packets) (a b c : List ℕ) (sequence : ℕ) (payload : List ℕ)
     → Reads side bytes input items here s old p po a b
     → HandsOut (as_sent old.reader input) input payload new.reader rest → sequence ≡ (as_sent old.reader input).number
@@ -40,7 +40,7 @@ reads_packet side bytes input rest items here s old new p po pn a b c sequence p
       },
     )
 
--- all is held
+-- everything is held
 pub reads_all : (side : Side) (bytes input rest : List ℕ) (items here : List Item) (s old new : Stream) (p q : Packets) (a b : List ℕ)
     → Reads side bytes input items here s old p q a b → HoldsAll (as_sent old.reader input) input new.reader rest → Reads side bytes [] items here s new p q a b
 reads_all side bytes input rest items here s old new p q a b r h = record {

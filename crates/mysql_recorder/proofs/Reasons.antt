@@ -1,4 +1,4 @@
--- Why a packet doesn't come.
+-- Why a packet is unexpected.
 use Rattle.std.proofs.Common.{◌≡◌, ◌<◌, ◌↔◌, ℕ, List, [], ◌∷◌, ◌++◌, Result, Ok, Err, IfErr, refl}
 use Rattle.mysql_conversation.specs.Agreements.{Agreed}
 use Rattle.mysql_conversation.specs.Piped as pipe

@@ -1,4 +1,4 @@
--- Packets of a connection that don't come.
+-- Unexpected packets of a connection.
 use Rattle.std.proofs.Common.{◌≡◌, ◌≢◌, ℕ, List, [], ◌∷◌, ◌++◌, Result, Ok, Err, IfOk, IfErr, subst, sym}
 use Rattle.mysql_conversation.specs.Piped.{place}
 use Rattle.mysql_conversation.specs.Pipelined.{Numbered}
@@ -47,7 +47,7 @@ module _ (all : List PacketKindTag) (layout : Layout) (old new : Observer) (side
   refused_err (Err error.TooLong) h = λ items f. tt
   refused_err (Err error.Missing) h = λ items f. tt
 
--- what is shown of it stands after what stood before
+-- its text is appended to the earlier text
 pub refused_stays : {E : Type 0} (r : Result Taken E) (all : List PacketKindTag) (layout : Layout) (f : Observer) (side : Side) (sequence : ℕ) (payload : List ℕ) (why : SessionError) (before after : List ℕ)
     → IfOk r (λ taken. (taken ≢ taken_as.Shown) × Refuses all layout f side sequence payload why before after) → IfOk r (λ taken. Stays before after)
 refused_stays (Ok taken) all layout f side sequence payload why before after h =

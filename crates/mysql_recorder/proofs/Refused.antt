@@ -1,4 +1,4 @@
--- A packet that doesn't come.
+-- An unexpected packet.
 use Rattle.std.proofs.Common.{◌≡◌, inl, inr, ◌↔◌, IsTrue, ℕ, Bool, true, false, List, [], ◌∷◌, ◌++◌, length, take, min, codes, Result, Ok, Err, OnOk, refl, sym, ap, subst, ◌∙◌}
 use Rattle.mysql_conversation.specs.Pipelined.{Numbered}
 use Rattle.mysql_conversation.specs.declared.packet_kind_tag.PacketKindTag.{PacketKindTag}
@@ -17,7 +17,7 @@ pub expected-append : (a b : List PacketKindTag) → expected_fields (a ++ b) �
 expected-append [] b = refl
 expected-append (x ∷ a) b = ap (λ fs. expected_fields (x ∷ []) ++ fs) (expected-append a b)
 
--- the names of two lists, one after the other
+-- the names of two lists
 pub expected_both : (items : List Numbered) (all more a b : List PacketKindTag) → AreExpected items all a → AreExpected items more b → AreExpected items (all ++ more) (a ++ b)
 expected_both items [] more a b h g = subst (λ xs. AreExpected items more (xs ++ b)) (sym h) g
 expected_both items (x ∷ all) more a b (inl h) g = inl (h.0 ++ b, ap (λ xs. xs ++ b) h.1, h.2, expected_both items all more h.0 b h.3 g)
@@ -42,7 +42,7 @@ expected_no_float (name ∷ names) = expected_no_float names
 pub refused_no_float : (payload : List ℕ) (why : SessionError) (names : List PacketKindTag) → have_float (refused_fields payload why names) ≡ false
 refused_no_float payload why names = expected_no_float names
 
--- the fields of a packet that doesn't come, one after another
+-- the fields of an unexpected packet
 pub refused_fields_are : (none first second last : List Said) (begins refused : Said) (payload : List ℕ) (n : ℕ) (why : SessionError) (names : List PacketKindTag)
     → none ≡ [] → first ≡ none ++ begins ∷ [] → second ≡ first ++ refused ∷ [] → last ≡ second ++ expected_fields names
     → begins ≡ said (codes "begins") (Bytes (take n payload)) → n ≡ min (length payload) 64 → refused ≡ said (codes "refused") (Word (refusal_text why))

@@ -1,4 +1,4 @@
--- What a recording has shown.
+-- What a recording has printed.
 use Rattle.std.proofs.Common.{◌≡◌, ◌⊎◌, inl, inr, ℕ, true, List, [], ◌∷◌, ◌++◌, sym, subst, ◌∙◌, append-nil}
 use Rattle.mysql_conversation.specs.Session.{IsSessionBeginning}
 use Rattle.mysql_conversation.specs.declared.packet_kind.Side.TheVariants as side

@@ -1,4 +1,4 @@
--- What stands in an output stays there.
+-- The content of an output is kept.
 use Rattle.std.proofs.Common.{ℕ, List, [], ◌++◌, Result, Ok, Err, OnOk, sym, ap, ◌∙◌, append_assoc, append-nil, codes}
 use Rattle.mysql_show.specs.Appended.{Stays}
 use Rattle.mysql_recorder.specs.Entries.{Begins}

@@ -1,4 +1,4 @@
--- A packet that doesn't come, step by step.
+-- An unexpected packet, step by step.
 use Rattle.std.proofs.Common.{◌≡◌, ◌≢◌, ◌⊎◌, inl, inr, ℕ, true, List, ◌++◌, Result, Ok, Err, IfOk, IfErr, OnOk, refl, sym, subst, ◌∙◌, take, drop, take-append-drop}
 use Rattle.mysql_conversation.specs.Agreements.{Agreed}
 use Rattle.mysql_conversation.specs.declared.packet_kind.Side.{Side}
@@ -34,7 +34,7 @@ use Rattle.mysql_recorder.proofs.Goes.{goes_same, is_lost}
 use Rattle.mysql_recorder.proofs.Texts.{shown_of}
 use Rattle.mysql_recorder.proofs.Wholes.{observed_session}
 
--- what is so of each reason
+-- a property of each reason
 pub if_refused : (e : RecordingError) (P Q : SessionError → Type 0) → ((why : SessionError) → P why → Q why) → IfRefused e P → IfRefused e Q
 if_refused (error.Refused why) P Q f h = f why h
 if_refused error.Memory P Q f h = tt
@@ -56,7 +56,7 @@ at_refused (Ok t) a e h =
     h (λ shown. let no : taken_as.Refused a ≡ taken_as.Shown = sym refused ∙ shown in cc)
 at_refused (Err x) a e h = cc
 
--- what came of a piece is whole, or something is lost
+-- the result for a piece is complete, or something is lost
 pub goes_on_came : (came : Came) (r : Result (Unit {0}) RecordingError) (more : List Piece) (old mid new : Sides) (before m after : List ℕ)
     → (came ≡ came_as.Whole → sides.GoesOn more old mid before m) → (came ≡ came_as.Whole → sides.IsSame mid new × (after ≡ m))
     → (came ≢ came_as.Whole → OnOk r (has_lost new ≡ true)) → OnOk r (sides.GoesOn more old new before after)
@@ -67,7 +67,7 @@ goes_on_came came_as.Whole (Ok u) more old mid new before m after goes same lost
 goes_on_came (came_as.Refused a n) (Ok u) more old mid new before m after goes same lost = is_lost more old new before after (lost (λ e. cc))
 goes_on_came (came_as.NoFrames x n) (Ok u) more old mid new before m after goes same lost = is_lost more old new before after (lost (λ e. cc))
 
--- a packet is handed out that doesn't come
+-- an unexpected packet is returned
 pub stops_in : (all : List PacketKindTag) (side : Side) (bytes input rest : List ℕ) (items here : List Item) (s old new : Stream) (p po : Packets) (a b c : List ℕ) (sequence : ℕ) (payload : List ℕ) (why : SessionError)
     → Reads side bytes input items here s old p po a b
     → HandsOut (as_sent old.reader input) input payload new.reader rest → sequence ≡ (as_sent old.reader input).number
@@ -112,7 +112,7 @@ pub server_stops : (r : Result Came RecordingError) (all : List PacketKindTag) (
 server_stops (Ok came) all s bytes before after h = tt
 server_stops (Err e) all s bytes before after h = λ pieces items k. h items (k.server.numbered, k.observed)
 
--- what is refused in no case
+-- what is never refused
 pub piece_never : (r : Result (Unit {0}) RecordingError) (all : List PacketKindTag) (side : Side) (bytes : List ℕ) (s : Sides) (before after : List ℕ)
     → IfErr r (λ e. IfRefused e (λ why. ⊥)) → IfErr r (λ e. PieceStops all side bytes s e before after)
 piece_never (Ok u) all side bytes s before after h = tt
@@ -136,7 +136,7 @@ pub text_stops : (r : Result (Unit {0}) RecordingError) (all : List PacketKindTa
 text_stops (Ok u) all old before after h = tt
 text_stops (Err e) all old before after h = λ text items k. after_text all old text items e before after k h
 
--- the same of the place after a byte, which changes neither the line nor the sides
+-- the same for the place after a byte, which changes neither the line nor the sides
 pub text_stops_at : (r : Result (Unit {0}) RecordingError) (all : List PacketKindTag) (old mid : Recording) (before after : List ℕ) → mid.line ≡ old.line → mid.sides ≡ old.sides
     → IfErr r (λ e. LineStops all mid e before after) → IfErr r (λ e. TextStops all old e before after)
 text_stops_at r all old mid before after line sides h =

@@ -1,4 +1,4 @@
--- The number that a payload was sent with.
+-- The sequence number of a payload.
 use Rattle.std.proofs.Common.{◌≡◌, ℕ, ◌≤◌, ◌<◌, ◌⊎◌, Bool, true, false, List, ◌++◌, length, slice_index, refl, sym, arith}
 use Rattle.mysql_frames.specs.FrameReader.{ReaderState}
 use Rattle.mysql_recorder.specs.Streams.{as_sent, number_sent, header_comes}

@@ -71,7 +71,7 @@ read_byte text said old new c (Some says.End) (lines, line, more, all, text_is, 
     let h = passes line more stands in
     ends text said c new lines line more all text_is said_is h.0 h.1 h.2
 
--- ---- the line apart
+-- ---- apart from the line
 
 -- the byte that ends a line
 pub line_ends : (text : List ℕ) (said : List Heard) (old new : Place) (c : ℕ) → IsRead text old said
@@ -110,7 +110,7 @@ read_to_byte text said more old new c side value (lines, line, all, text_is, sai
 
 -- ---- recordings
 
--- what is shown of what was read
+-- what is printed for what was read
 abbrev pub shown_of : (r : Recording) (text : List ℕ) (items : List Item) → Recorded r text items → IsShown text (heard r.line.side r.line.bytes.items) items
 shown_of r text items h = record {
   at = r.place;
@@ -125,7 +125,7 @@ shown_of r text items h = record {
   server_none = h.stand.server.none;
 }
 
--- a byte that says nothing
+-- a byte without effect
 pub recorded_none : (old new : Recording) (text : List ℕ) (items : List Item) (c : ℕ) → Recorded old text items
     → ((line : List ℕ) (before : List Heard) → Stands old.place line before → Passes None c line before new.place) → StaysOf None old.place new.place
     → new.line ≡ old.line → new.sides ≡ old.sides → Recorded new (text ++ c ∷ []) (items ++ [])

@@ -11,7 +11,7 @@ use Rattle.mysql_recorder.specs.Sides.{HasEnded, InStep, IsAtRest, IsWhole, Stan
 use Rattle.mysql_recorder.specs.declared.sides.Sides.{Sides}
 use Rattle.mysql_recorder.specs.declared.stream.Stream.{Stream}
 
--- what came is the beginning of a session
+-- the packets are the beginning of a session
 pub observed_session : (o : Observer) (items : List Numbered) → Observed o items → IsSessionBeginning items
 observed_session o items h = taken_is_beginning _ items h.0
 
@@ -25,11 +25,11 @@ second_comes {P} {Q} a b p q e = (
   λ h. elim h as (λ _. IsTrue b) [ inl x ↦ let yes : a ≡ true = p.1 x in cc | inr y ↦ q.1 y ],
 )
 
--- a stream that is in step, of which no byte is held of a payload that is cut
+-- a stream in step, without bytes of an incomplete payload
 none_held : (stream : Stream) (longest : ℕ) (b : Bool) → InStep stream longest → (IsTrue b ↔ ((stream.passed ≡ None) × (stream.reader.held ≡ []))) → IsTrue b ↔ (stream.reader.held ≡ [])
 none_held stream longest b h e = (λ t. (e.0 t).1, λ none. e.1 (h.none_passed, none))
 
--- neither side holds a byte, and the packets are a session
+-- neither side holds bytes, and the packets are a session
 pub whole_where : (s : Sides) (pieces : List Piece) (items : List Item) (client server rests : Bool) → Stand s pieces items
     → (IsTrue client ↔ ((s.client.passed ≡ None) × (s.client.reader.held ≡ []))) → (IsTrue server ↔ ((s.server.passed ≡ None) × (s.server.reader.held ≡ [])))
     → ((xs : List Numbered) → Observed s.packets.observer xs → IsTrue rests ↔ IsSession xs)

@@ -21,7 +21,7 @@ all_of ok text a b is h = subst (λ k. IsFront k text a b) is h
 pub none_written : (sums : Bool) (status : ℕ) (a : Option (List ℕ)) → (answer : Answer) × EndsWith sums [] status answer × IsWritten answer a a status
 none_written sums status a = (record { text = []; status = status }, ends_plain sums [] status, inl (Appends-nil a, refl))
 
--- the line of an error, and then the sums
+-- the line of an error, followed by the sums
 pub error_sums : (layout : Layout) (sums ok : Bool) (e : RecordingError) (a b c : Option (List ℕ)) (status : ℕ) → ok ≡ true → (line : List ℕ) × SaysError layout e line × IsFront ok line a b
     → (answer : Answer) × EndsWith sums [] 1 answer × IsWritten answer b c status → IsErrorWritten layout sums e [] a c status
 error_sums layout sums ok e a b c status is said ended =
@@ -44,7 +44,7 @@ error_after : (layout : Layout) (sums : Bool) (e : RecordingError) (t : List ℕ
 error_after layout sums e t a b c status first h =
     (h.0, record { text = t ++ h.1.text; status = h.1.status }, h.2, ends_after sums t h.0 1 h.1 h.3, written_after t h.1 a b c status first h.4)
 
--- what `take` says of an empty output
+-- the clause of `push` for an empty output
 pub takes_of : (r : Result (Unit {0}) RecordingError) (all : List PacketKindTag) (p : List ℕ) (old new : Recording) (before t : List ℕ) → before ≡ []
     → OnOk r (GoesOn p old new before t) → IfErr r (λ e. Stops all p old new e before t) → Loses r all p old new before t
     → (recorded.has_lost old ≡ true → recorded.has_lost new ≡ true) → recorded.layout new ≡ recorded.layout old → recorded.longest new ≡ recorded.longest old

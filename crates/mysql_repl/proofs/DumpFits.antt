@@ -1,4 +1,4 @@
--- A dump by GTID set that is written as less than 2^32 bytes is read again.
+-- A dump by GTID set of less than 2^32 bytes is read back.
 use Rattle.std.proofs.Common.{ℕ, ◌<◌, ◌^◌, ◌++◌, List, [], length, min, take, arith}
 use Rattle.std.proofs.lemmas.List.{length-append, length-take}
 use Rattle.mysql_wire.specs.CountedBytes.{counted_bytes_of, u32_string_bytes}
@@ -8,7 +8,7 @@ use Rattle.mysql_repl.specs.declared.binlog_dump_gtid.ComBinlogDumpGtid.{ComBinl
 use Rattle.mysql_repl.specs.BinlogDumpGtid.{gtid_dump, gtid_dump_head, filename, pos, sids}
 use Rattle.mysql_repl.specs.SidBlock.{content, block_bytes}
 
--- the name of a file is shorter than what is written
+-- the file's name is shorter than the packet
 name-short : (name : List ℕ) → length (u32_string_bytes name) < 2 ^ 32 → length name < 2 ^ 32
 unfolding counted_bytes_of
 name-short name h =

@@ -1,4 +1,4 @@
--- Answers to the text of a GTID set that come before any memory is taken.
+-- Results for the text of a GTID set that are known before anything is allocated.
 use Rattle.std.proofs.Common.{◌≡◌, ℕ, List, [], ◌∷◌, Option, Some, None, option_map, Result, Ok, Err, IfSome, true, refl, sym, ap, ◌∙◌}
 use Rattle.std.specs.Global.{Vec}
 use Rattle.uuid.specs.Text.{parsed}
@@ -10,7 +10,7 @@ use Rattle.mysql_repl.specs.GtidSetEarly.{early_words, early_piece, early_pieces
 use Rattle.mysql_repl.specs.GtidSetText.{trimmed, words, with_read_sids}
 use Rattle.mysql_repl.specs.SidText.{colon, has, before, after}
 
--- the refusals of two readers
+-- the errors of two readers
 abbrev Refuses : {A : Type 0} → Result A InvalidSid → InvalidSid → Type 0
 Refuses r e = r ≡ Err e
 
@@ -22,7 +22,7 @@ not-refused x e h = absurd cc
 
 -- ---- the words after a uuid
 
--- a refusal of the whole is that of what is left
+-- an error of the whole text is that of the rest
 pub record IsLeft (whole left : Option InvalidSid) : Type 0 where
   pub same : IfSome whole (λ e. left ≡ Some e)
 
@@ -38,7 +38,7 @@ refused-now : (A B : Type 0) (whole left : Option InvalidSid) (e : InvalidSid) �
 refused-now A B None left e same h = tt
 refused-now A B (Some x) left e same h = same-refusal {A = A} {B = B} e x (rw same at h)
 
--- the word that is refused is the first
+-- the refused word is the first
 pub word-refused : (A B : Type 0) (whole left : Option InvalidSid) (e : InvalidSid) → IsLeft whole left → IfSome left (λ x. Refuses {A = A} (Err e) x)
     → IfSome whole (λ x. Refuses {A = B} (Err e) x)
 word-refused A B whole left e l h = refused-now A B whole left e l.same h
@@ -51,7 +51,7 @@ of-none : (whole : Option InvalidSid) (P : InvalidSid → Type 0) → whole ≡ 
 of-none None P h = tt
 of-none (Some e) P h = absurd cc
 
--- a word that is taken leaves none
+-- an accepted word leaves none
 pub word-passed : {A : Type 0} (whole left next : Option InvalidSid) (x : A) → IsLeft whole left → IfSome left (λ e. Refuses (Ok x) e) → IsLeft whole next
 word-passed whole left next x l h = record { same = of-none whole (λ e. next ≡ Some e) (passed-now whole left x l.same h) }
 
@@ -64,7 +64,7 @@ words-passed whole r l = of-none whole (λ e. Refuses r e) (end-of whole l.same)
 
 -- ---- the pieces between commas
 
--- where an answer to the whole is known, no sid is read, and it is the answer to what is left
+-- if the result for the whole text is known, no sid is read, and it is the result for the rest
 pub record AnswerIsLeft (whole : Option (Result (List Sid) InvalidSid)) (sids : Vec Sid) (pieces : List (List ℕ)) : Type 0 where
   pub known : IfSome whole (λ read. (sids.items ≡ []) × (early_pieces pieces ≡ Some read))
 
@@ -75,7 +75,7 @@ all-left (Some read) sids none = (none, refl)
 pub pieces-begin : (sids : Vec Sid) (pieces : List (List ℕ)) → sids.items ≡ [] → AnswerIsLeft (early_pieces pieces) sids pieces
 pieces-begin sids pieces none = record { known = all-left (early_pieces pieces) sids none }
 
--- a piece that is not blank is refused, or memory is taken for it
+-- a piece that isn't blank is refused, or allocates
 refusal-of : (e : Option InvalidSid) (read : Result (List Sid) InvalidSid) → option_map Err e ≡ Some read → (x : InvalidSid) × (e ≡ Some x) × (read ≡ Err x)
 refusal-of None read h = absurd cc
 refusal-of (Some x) read h = (x, refl, cc)

@@ -1,4 +1,4 @@
--- Requests, and what they are made of, are equal exactly where they are the same.
+-- Requests and their parts compare equal exactly if they are equal.
 use Rattle.std.proofs.Common.{◌≡◌, ◌&&◌, ℕ, List, true, nat_eq, Decides, IsTrue, refl, ap, subst}
 use Rattle.std.proofs.lemmas.Bool.Decides.{Decides-and}
 use Rattle.std.proofs.lemmas.Slice.Eq.{slice_eq-Decides}
@@ -38,7 +38,7 @@ use Rattle.mysql_repl.specs.TableDump as table_dump
 
 -- ---- fields
 
--- a number that a field's type wraps
+-- a number in a field's wrapper type
 number : (m n : ℕ) → Decides (nat_eq m n && true) (m ≡ n)
 number m n = and-true _ (numbers-same m n)
 

@@ -1,4 +1,4 @@
--- The plain conditions are enough for reading back.
+-- The plain conditions are enough for the round trip.
 use Rattle.std.proofs.Common.{ℕ, List}
 use Rattle.mysql_repl.specs.declared.binlog_dump.ComBinlogDump.{ComBinlogDump}
 use Rattle.mysql_repl.specs.declared.register_slave.ComRegisterSlave.{ComRegisterSlave}

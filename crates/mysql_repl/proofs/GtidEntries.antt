@@ -1,4 +1,4 @@
--- What the text of a GTID set gives one after another.
+-- The entries of a GTID set's text, in order.
 use Rattle.std.proofs.Common.{◌≡◌, ℕ, ◌+◌, List, [], ◌∷◌, ◌++◌, length, map, Option, Some, None, Err, Bool, true, false, nat_lt, if◌then◌else◌, refl, sym, ap, ◌∙◌, arith}
 use Rattle.std.specs.Char.{to_ascii_lowercase}
 use Rattle.std.proofs.lemmas.Bool.{le-ltb, lt-ltb}
@@ -28,7 +28,7 @@ tag-word id (c ∷ cs) more o n some is e =
     let lower = map to_ascii_lowercase (c ∷ cs) in
     ap (λ (b : Bool). tag_entry id (c ∷ cs) (tag_or (tag_fault lower) lower b) n) (follows more ∙ ap (nat_lt 0) (sym is)) ∙ ap (λ (f : Option InvalidTag). tag_entry id (c ∷ cs) (tag_or f lower (nat_lt 0 n)) n) e
 
--- nothing is no tag
+-- the empty text is no tag
 pub tag-empty : (id word : List ℕ) (more : List (List ℕ)) (n : ℕ) → length word ≡ 0 → Err fault.Empty ≡ tag_entry id word (server_tag word more) n
 unfolding server_tag
 tag-empty id [] more n none = refl
@@ -93,7 +93,7 @@ blank : piece_entries [] ≡ []
 unfolding piece_entries
 blank = refl
 
--- a blank piece gives nothing
+-- a blank piece has no entry
 pub blank-step : (all : List (List ℕ)) (word : List ℕ) (more : List (List ℕ)) → all ≡ word ∷ more → length word ≡ 0 → pieces_entries all ≡ pieces_entries more
 blank-step all [] more split none = ap pieces_entries split ∙ ap (λ (l : List Entry). l ++ pieces_entries more) blank
 blank-step all (c ∷ cs) more split none = absurd (omega (arith, none))

@@ -1,4 +1,4 @@
--- The text of a GTID set is read as the sids of what it gives one after another.
+-- The text of a GTID set is read as the sids of its entries in order.
 use Rattle.std.proofs.Common.{◌≡◌, ℕ, ◌+◌, List, [], ◌∷◌, ◌++◌, length, map, Option, Some, None, Result, Ok, Err, Bool, true, false, nat_lt, if◌then◌else◌, refl, sym, ap, subst, ◌∙◌, arith}
 use Rattle.std.proofs.lemmas.Bool.{ltb-false}
 use Rattle.std.proofs.lemmas.List.{map-append}
@@ -22,7 +22,7 @@ lengths sids = map (λ s. length (intervals s)) sids
 
 -- ---- the words after a uuid
 
--- before the first sid come a given number of intervals, and each sid counts its own
+-- the intervals before the first sid, and those of each sid, are counted
 abbrev Counted : List Entry → ℕ → Result Found InvalidSid → Type 0
 Counted list n (Ok found) = (n ≡ length found.0) × (counts list ≡ lengths found.1)
 Counted list n (Err e) = Unit {0}
@@ -111,7 +111,7 @@ piece-read (c ∷ cs) = piece-step (has colon (c ∷ cs)) (parsed (trimmed (befo
 
 -- ---- pieces
 
--- sids after what was found
+-- sids after those that were found
 abbrev followed : Result Found InvalidSid → Result (List Sid) InvalidSid → Result Found InvalidSid
 followed (Err e) q = Err e
 followed (Ok found) (Err e) = Err e

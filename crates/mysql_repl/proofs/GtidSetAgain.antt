@@ -1,4 +1,4 @@
--- The text that is written of sids is read as these sids.
+-- Sids are read back from their text.
 use Rattle.std.proofs.Common.{◌≡◌, inl, ℕ, ◌+◌, ◌==◌, List, [], ◌∷◌, ◌++◌, length, map, nat_eq, Option, Some, None, is_some, Result, Ok, Bool, true, false, codes, if◌then◌else◌, refl, sym, ap, subst, ◌∙◌, arith, append_assoc}
 use Rattle.std.specs.Cmp.Lexicographic.{pointwise}
 use Rattle.std.specs.List.{flat_map}
@@ -67,7 +67,7 @@ parts-plain : (name : Option (List ℕ)) (is : List GnoInterval) → OptionalTag
 parts-plain None is h k = bodies-plain is k
 parts-plain (Some t) is h k = (tag-plain t h, bodies-plain is k)
 
--- ---- what the words are read as
+-- ---- how the words are read
 
 interval-step : (id word : List ℕ) (more : List (List ℕ)) (i : GnoInterval) (found : Found) → is_interval word ≡ true → server_interval word ≡ Ok i → found_in id more ≡ Ok found
     → found_in id (word ∷ more) ≡ Ok (i ∷ found.0, found.1)
@@ -103,7 +103,7 @@ found-tagged : (id name : List ℕ) (is : List GnoInterval) (ws : List (List ℕ
 found-tagged id name is ws sids t h k e =
     tag-step id name name (map body is ++ ws) (is, sids) (tag-first name t) (tag-server name (map body is ++ ws) t (follows is ws h)) (found-intervals id is ws sids (all-proper is h) k e)
 
--- a sid that goes on
+-- a sid that continues
 found-next : (id : List ℕ) (name : Option (List ℕ)) (is : List GnoInterval) (ws : List (List ℕ)) (sids : List Sid) → is_some name ≡ true → OptionalTag name → ProperIntervals is → EndsFit is
     → found_in id ws ≡ Ok ([], sids) → found_in id (words_of name is ++ ws) ≡ Ok ([], record { uuid = id; tag = name; intervals = is } ∷ sids)
 found-next id None is ws sids some t h k e = absurd cc
@@ -120,7 +120,7 @@ found-first id None (i ∷ is) ws sids t h k e = ap (sids_found id) (found-inter
 found-first id (Some name) [] ws sids t h k e = absurd h
 found-first id (Some name) (i ∷ is) ws sids t h k e = ap (sids_found id) (found-tagged id name (i ∷ is) ws sids t h k e)
 
--- ---- words and pieces that are cut again
+-- ---- words and pieces are split again
 
 map-trimmed : (ws : List (List ℕ)) → AllPlain ws → map trimmed ws ≡ ws
 map-trimmed [] h = refl
@@ -201,7 +201,7 @@ piece-reads s ws sids h k e =
 
 -- ---- the sids after one
 
--- the words that go on, and the further pieces
+-- the remaining words, and the further pieces
 abbrev Cut : Type 0
 Cut = List (List ℕ) × List (List ℕ)
 

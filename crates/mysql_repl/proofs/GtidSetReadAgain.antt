@@ -1,4 +1,4 @@
--- A set of transactions that was read is read again from its own text.
+-- A set of transactions is read back from its own text.
 use Rattle.std.proofs.Common.{◌≡◌, ◌⊎◌, inl, inr, ℕ, ◌<◌, ◌^◌, List, [], ◌∷◌, ◌++◌, length, Option, Some, None, Result, Ok, Err, Bool, true, false, nat_lt, if◌then◌else◌, refl, sym, subst, ◌∙◌, arith}
 use Rattle.std.specs.List.{All}
 use Rattle.std.proofs.lemmas.Bool.{ltb-true, ltb-false}
@@ -20,7 +20,7 @@ use Rattle.mysql_repl.proofs.UuidBytes.{uuid-is}
 
 -- ---- an interval
 
--- a proper one, which ends below 2^63
+-- a nonempty one, which ends below 2^63
 abbrev Fits : GnoInterval → Type 0
 Fits i = ProperInterval i × (end i < 2 ^ 63)
 
@@ -51,7 +51,7 @@ AllFit (i ∷ is) = Fits i × AllFit is
 
 -- ---- the sids of a uuid
 
--- what is known of a sid that was read, except for its tag
+-- a sid that was read, except for its tag
 record IsRead (s : Sid) : Type 0 where
   pub size : length (uuid s) ≡ 16
   pub bytes : All (λ b. b < 256) (uuid s)
@@ -96,7 +96,7 @@ tag-follows [] more t h = absurd cc
 tag-follows (c ∷ cs) more t h = tag_or-follows _ _ (interval_follows more) t h
 
 module _ (id : List ℕ) (size : length id ≡ 16) (id_bytes : All (λ b. b < 256) id) where
-  -- the intervals up to the first tag, of which there is one where one comes first; and the sids of the tags
+  -- the intervals up to the first tag, and the sids of the tags
   abbrev AreFound : (words_left : List (List ℕ)) → Found → Type 0
   AreFound words_left found = AllFit found.0 × AllRead found.1 × (interval_follows words_left ≡ true → 0 < length found.0)
 
@@ -162,7 +162,7 @@ pieces-read (piece ∷ pieces) sids h =
     let j = joined-from (read_piece piece) (read_pieces pieces) sids h in
     subst AllRead j.4 (all_read-append j.0 j.1 (piece-read piece j.0 j.2) (pieces-read pieces j.1 j.3))
 
--- ---- and read again
+-- ---- and reading back
 
 all-proper : (is : List GnoInterval) → AllFit is → AllProper is
 all-proper [] h = tt

@@ -1,4 +1,4 @@
--- What the reader of a GTID set's text needs.
+-- Lemmas for the reader of a GTID set's text.
 use Rattle.std.proofs.Common.{◌≡◌, ℕ, ◌+◌, ◌<◌, List, [], ◌∷◌, ◌++◌, length, map, Option, Some, None, Result, Ok, Err, true, false, refl, sym, ap, ◌∙◌, arith, append_assoc}
 use Rattle.std.specs.List.{slice_split, position_or_len}
 use Rattle.std.specs.Str.{IsTrimAsciiStart, IsTrimAsciiEnd}
@@ -62,7 +62,7 @@ pub answered-known : {A : Type 0} (e : InvalidSid) (x : Result A InvalidSid) →
 answered-known fault.Memory x h = tt
 answered-known e x h = h
 
--- ---- words that are taken
+-- ---- accepted words
 
 abbrev Reading : Type 0
 Reading = Result Found InvalidSid

@@ -1,4 +1,4 @@
--- What a reader and a writer of a server's identifier need.
+-- Lemmas for the reader and the writer of a server's identifier.
 use Rattle.std.proofs.Common.{◌≡◌, ℕ, ◌+◌, ◌<◌, List, length, drop, Err, refl, ap, ◌∙◌}
 use Rattle.std.proofs.lemmas.Bool.{lt-ltb}
 use Rattle.std.proofs.lemmas.List.{drop-drop}
@@ -13,6 +13,6 @@ id-short old lt = rw (lt-ltb _ _ lt) refl
 
 pub ruleset ids = (id-short, bytes-there)
 
--- a byte more is written, and lies after the buffer no longer
+-- one more byte is written, and no longer follows the buffer
 pub byte-less : (k : ℕ) (before now next : List ℕ) → next ≡ drop 1 now → now ≡ drop k before → next ≡ drop (k + 1) before
 byte-less k before now next e f = e ∙ ap (drop 1) f ∙ drop-drop 1 k before

@@ -1,4 +1,4 @@
--- Values that are read past, and then one by one.
+-- Values that are skipped, and then read one by one.
 use Rattle.std.proofs.Common.{◌≡◌, ℕ, suc, zero, ◌+◌, ◌-◌, ◌<◌, ◌≤◌, List, [], ◌∷◌, ◌++◌, take, drop, length, Ok, Err, false, refl, sym, ap, subst, ◌∙◌, arith}
 use Rattle.std.proofs.lemmas.List.{length-append, length-drop, take-append-drop}
 use Rattle.std.proofs.Math.Seq.{drop-append_seam}
@@ -11,7 +11,7 @@ use Rattle.mysql_wire.specs.Reading.{Reading, Faults, IsTail, then_read, then_re
 use Rattle.mysql_wire.specs.Seq.{counted}
 use Rattle.mysql_repl.specs.InPlace.{items_read, items_in, passed, AreThere, StandIn}
 
--- ---- values that are read past
+-- ---- skipped values
 
 pushed : {A : Type 0} (x : A) (r : Reading (List A)) → passed (then_read r (λ xs rest. Ok (x ∷ xs, rest))) ≡ passed r
 pushed x (Ok y) = refl
@@ -53,7 +53,7 @@ skip-fails f count i bytes (fault.InvalidInput text) all lt h r = refused-at f c
 pub skip-done : {A : Type 0} (f : Form A) (count i : ℕ) (bytes : List ℕ) (all : Reading (Unit {0})) → count - i ≡ 0 → left_to_pass f (count - i) bytes ≡ all → all ≡ Ok (tt, bytes)
 skip-done f count i bytes all none r = sym r ∙ ap (λ (n : ℕ). left_to_pass f n bytes) none ∙ all-passed f bytes
 
--- ---- where they lie
+-- ---- their places
 
 passed-read : {A : Type 0} (f : Form A) (count : ℕ) (bytes rest : List ℕ) → left_to_pass f count bytes ≡ Ok (tt, rest) → (xs : List A) × ((counted count f).reads bytes ≡ Ok (xs, rest))
 passed-read f count bytes rest e =
@@ -61,7 +61,7 @@ passed-read f count bytes rest e =
     let same : r.1 ≡ rest = done-rest tt tt r.1 rest r.3 in
     (r.0, r.2 ∙ ap (λ (l : List ℕ). Ok (r.0, l)) same)
 
--- a tail is what is left where a given number of bytes are dropped
+-- a tail is what is left after dropping some bytes
 tail-dropped : (tail bytes : List ℕ) (n : ℕ) → IsTail tail bytes → n ≡ length bytes - length tail → (n ≤ length bytes) × (drop n bytes ≡ tail)
 tail-dropped tail bytes n t is =
     let whole : length bytes ≡ length t.front + length tail = ap length t.parts ∙ length-append t.front tail in
@@ -161,12 +161,12 @@ never-fails f n len bytes fault.UnexpectedEof h r = not-there f n len bytes _ h 
 never-fails f n len bytes (fault.InvalidData text) h r = not-there f n len bytes _ h r
 never-fails f n len bytes (fault.InvalidInput text) h r = not-there f n len bytes _ h r
 
--- where there are values the first one is no fault
+-- if there are values, the first one is no fault
 pub none-refused : {A : Type 0} (f : Form A) (count len : ℕ) (bytes : List ℕ) (e : FaultOf) → (count ≡ 0 → ⊥) → AreThere f count len bytes → Faults false e (f.reads bytes) → ⊥
 none-refused f zero len bytes e some h r = absurd (some refl)
 none-refused f (suc n) len bytes e some h r = never-fails f n len bytes e h r
 
--- ---- how many they are
+-- ---- their number
 
 longer : {A : Type 0} (x : A) (after : Reading (List A)) (y : List A × List ℕ) → then_read after (λ xs rest. Ok (x ∷ xs, rest)) ≡ Ok y → (xs : List A) × (after ≡ Ok (xs, y.1)) × (y.0 ≡ x ∷ xs)
 longer x after y e =
@@ -184,7 +184,7 @@ length-counted f (suc n) bytes rest xs e =
 pub many-there : {A : Type 0} (f : Form A) (count len : ℕ) (bytes : List ℕ) → AreThere f count len bytes → length (items_in f count bytes) ≡ count
 many-there f count len bytes h = length-counted f count bytes (drop len bytes) (items_in f count bytes) h.1
 
--- in their place they stand, whatever follows
+-- they are at their place, whatever follows
 pub in-place : {A : Type 0} (f : Form A) (count len : ℕ) (bytes : List ℕ) (items : List A) (place : List ℕ) → AreThere f count len bytes → place ≡ take len bytes → items_in f count bytes ≡ items
     → StandIn f (length items) place items
 in-place f count len bytes items place h is same =
@@ -192,12 +192,12 @@ in-place f count len bytes items place h is same =
     let many : length items ≡ count = ap length (sym same) ∙ many-there f count len bytes h in
     (drop len bytes, ap (λ (n : ℕ). (counted n f).reads (place ++ drop len bytes)) many ∙ ap (counted count f).reads whole ∙ h.1 ∙ ap (λ (l : List _). Ok (l, drop len bytes)) same)
 
--- none stand anywhere
+-- no values are at any place
 pub none-stand : {A : Type 0} (f : Form A) (items : List A) (place : List ℕ) → items ≡ [] → place ≡ [] → StandIn f (length items) place items
 unfolding counted
 none-stand f items place none empty = rw (none, empty) ([], refl)
 
--- where some are left there is one
+-- if some are left there is one
 pub some-left : {A : Type 0} (f : Form A) (count len : ℕ) (bytes : List ℕ) → (count ≡ 0 → ⊥) → AreThere f count len bytes → items_in f count bytes ≡ [] → ⊥
 some-left f count len bytes some h none = some (sym (many-there f count len bytes h) ∙ ap length none)
 

@@ -13,7 +13,7 @@ next-read all parts part read e r = rw (e, r) refl
 
 pub ruleset next_reads = (next-read)
 
--- where all bytes were looked at there is one part more than there are colons
+-- after all bytes there is one more part than there are colons
 pub parts-counted : (text items : List ℕ) (n i : ℕ) → n ≡ count_by (is colon) (take i items) → items ≡ text → length items ≤ i → n + 1 ≡ length (parts_of text)
 unfolding parts_of
 parts-counted text items n i e same all =

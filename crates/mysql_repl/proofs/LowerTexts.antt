@@ -1,4 +1,4 @@
--- A text in lower case: its characters are those of the text, each in lower case.
+-- A text in lower case has each of its characters in lower case.
 use Rattle.std.proofs.Common.{◌≡◌, inl, inr, ℕ, suc, ◌<◌, ◌≤◌, List, [], ◌∷◌, length, map, get_or, nat_lt, not, Bool, true, None, option_map, slice_get, encode_utf8, encode_utf8_all, IsUtf8, refl, sym, ap, ◌∙◌, arith}
 use Rattle.std.specs.Char.{to_ascii_lowercase}
 use Rattle.std.specs.List.{find}

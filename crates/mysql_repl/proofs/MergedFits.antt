@@ -1,11 +1,11 @@
--- Numbers that fit stay so in intervals of the same numbers, so merged ones are as servers write them.
+-- Merging intervals keeps their numbers in range, so the result is canonical.
 use Rattle.std.proofs.Common.{◌≡◌, ℕ, ◌+◌, ◌-◌, ◌<◌, ◌≤◌, ◌^◌, List, [], ◌∷◌, Bool, true, false, ◌&&◌, ◌||◌, nat_lt, nat_le, refl, sym, ◌∙◌, arith}
 use Rattle.std.proofs.lemmas.Bool.{and_parts, ltb-true, leb-true, lt-ltb, le-leb, or_left, or_right}
 use Rattle.mysql_repl.specs.declared.gno_interval.GnoInterval.{GnoInterval}
 use Rattle.mysql_repl.specs.GnoInterval.{start, end}
 use Rattle.mysql_repl.specs.MergedIntervals.{has_number, any_has, has_any, are_apart_after, are_apart, NumbersFit}
 
--- a number of intervals that fit is from 1 to 2^63 - 2
+-- a number in fitting intervals is from 1 to 2^63 - 2
 number-by : (n : ℕ) (b : Bool) (i : GnoInterval) (is : List GnoInterval) → has_number n i ≡ b → NumbersFit (i ∷ is)
     → (any_has n is ≡ true → (0 < n) × (n + 1 < 2 ^ 63)) → (b || any_has n is) ≡ true → (0 < n) × (n + 1 < 2 ^ 63)
 number-by n true i is e fit more h =
@@ -19,7 +19,7 @@ number-fits : (n : ℕ) (is : List GnoInterval) → NumbersFit is → any_has n 
 number-fits n [] fit h = absurd cc
 number-fits n (i ∷ is) fit h = number-by n (has_number n i) i is refl fit (λ g. number-fits n is (fit.2) g) h
 
--- so intervals of these numbers alone, each with a number, fit
+-- so nonempty intervals of only these numbers fit
 first-has : (i : GnoInterval) → start i < end i → has_number (start i) i ≡ true
 first-has i h = rw (le-leb (start i) (start i) (omega arith), lt-ltb (start i) (end i) h) refl
 

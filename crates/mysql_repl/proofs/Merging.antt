@@ -1,4 +1,4 @@
--- Intervals that are put in order: what they have, and that they are apart.
+-- Sorted and merged intervals: their numbers, and the gaps between them.
 use Rattle.std.proofs.Common.{◌≡◌, ℕ, zero, suc, ◌+◌, ◌<◌, ◌≤◌, ◌^◌, List, [], ◌∷◌, length, get_or, filter, sum_by, Bool, true, false, ◌&&◌, ◌||◌, nat_lt, nat_le, if◌then◌else◌, Result, Ok, Err, IfOk, refl, sym, ap, ◌∙◌, arith}
 use Rattle.std.specs.List.Sorted.{IsNonDecreasingBy, IsPermutation}
 use Rattle.std.proofs.lemmas.Bool.{lt-ltb, lt-leb, ltb-true, ltb-false, leb-false, and_parts}
@@ -10,7 +10,7 @@ use Rattle.mysql_repl.specs.GnoInterval.{start, end}
 use Rattle.mysql_repl.specs.MergedIntervals.{has_number, any_has, has_any, are_apart_after, are_apart, NumbersFit, hull, merged_from, merged}
 use Rattle.mysql_repl.specs.ServerSids.{are_after}
 
--- ---- those that have no number
+-- ---- empty intervals
 
 empty-lacks : (n : ℕ) (i : GnoInterval) → has_any i ≡ false → has_number n i ≡ false
 empty-lacks n i h = grind (arith, nat_tests)
@@ -24,7 +24,7 @@ pub some-same : (n : ℕ) (is : List GnoInterval) → any_has n (filter has_any 
 some-same n [] = refl
 some-same n (i ∷ is) = by-any n (has_any i) i is (filter has_any is) refl (some-same n is)
 
--- where none is left, none has a number
+-- if none is left, all are empty
 kept-some : (b : Bool) (i : GnoInterval) (rest : List GnoInterval) → b ≡ true → (if b then i ∷ rest else rest) ≡ [] → ⊥
 kept-some true i rest h e = cc
 kept-some false i rest h e = cc
@@ -141,7 +141,7 @@ merged-same : (n : ℕ) (is : List GnoInterval) → InOrder is → any_has n (me
 merged-same n [] h = refl
 merged-same n (i ∷ is) h = merge-same n i is h
 
--- ---- apart
+-- ---- gaps
 
 record Shape (p : GnoInterval) (list : List GnoInterval) : Type 0 where
   pub first : GnoInterval
@@ -185,7 +185,7 @@ pub over-ok : {T E : Type 0} (r : Result T E) (P Q : T → Type 0) → ((x : T) 
 over-ok (Ok x) P Q f h = f x h
 over-ok (Err e) P Q f h = tt
 
--- ---- as servers write them
+-- ---- canonical form
 
 apart-after : (last : ℕ) (is : List GnoInterval) → are_apart_after last is ≡ true → NumbersFit is → are_after last is ≡ true
 apart-after last [] h k = refl

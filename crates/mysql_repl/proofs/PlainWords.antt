@@ -1,4 +1,4 @@
--- Words of lowercase letters, digits, underscores and hyphens: nothing separates or trims them.
+-- Words of lowercase letters, digits, underscores and hyphens contain no separator and no blank.
 use Rattle.std.proofs.Common.{◌≡◌, ℕ, zero, suc, ◌-◌, ◌<◌, ◌≤◌, ◌==◌, List, [], ◌∷◌, ◌++◌, length, get_or, map, Bool, true, false, ◌&&◌, ◌||◌, nat_le, refl, ap, ◌∙◌, if◌then◌else◌, arith}
 use Rattle.std.specs.Char.{is_ascii_whitespace, to_ascii_lowercase}
 use Rattle.std.specs.List.{flat_map, list_all, slice_split, prefix_len, suffix_len}
@@ -60,7 +60,7 @@ pub no_white-append : (xs ys : List ℕ) → NoWhite xs → NoWhite ys → NoWhi
 no_white-append [] ys h k = k
 no_white-append (c ∷ xs) ys h k = (h.0, no_white-append xs ys h.1 k)
 
--- ---- what is plain
+-- ---- plain words
 
 digit-plain : (d : ℕ) → 48 ≤ d → d ≤ 57 → is_plain d ≡ true
 digit-plain d low high = grind (arith, nat_tests)
@@ -119,14 +119,14 @@ pub trimmed-same : (xs : List ℕ) → NoWhite xs → trimmed xs ≡ xs
 unfolding trimmed
 trimmed-same xs h = ap trimmed_end (start-stays xs h) ∙ end-stays xs h
 
--- a newline before it is taken off
+-- a preceding newline is trimmed
 pub trimmed-newline : (xs : List ℕ) → NoWhite xs → trimmed (10 ∷ xs) ≡ xs
 unfolding trimmed
 trimmed-newline xs h =
     let start : trimmed_start (10 ∷ xs) ≡ xs = rw (no-prefix xs h) refl in
     ap trimmed_end start ∙ end-stays xs h
 
--- ---- words with a separator before each but the first
+-- ---- words with separators between them
 
 abbrev pub each_after : ℕ → List (List ℕ) → List ℕ
 each_after c ws = flat_map (λ w. c ∷ w) ws

@@ -1,4 +1,4 @@
--- Loops that see each number of some intervals, and each of some sids.
+-- Loops over each number of intervals, and of sids.
 use Rattle.std.proofs.Common.{◌≡◌, ◌⊎◌, inl, inr, ℕ, suc, ◌+◌, ◌<◌, ◌^◌, List, [], ◌∷◌, length, get_or, sym, subst, arith}
 use Rattle.mysql_repl.specs.declared.gno_interval.GnoInterval.{GnoInterval}
 use Rattle.mysql_repl.specs.declared.sid.Sid.{Sid}
@@ -8,7 +8,7 @@ use Rattle.mysql_repl.specs.Sid.{AreIntervals, AreSids, IsSid}
 abbrev pub IsInRange : GnoInterval → Type 0
 IsInRange i = (start i < 2 ^ 64) × (end i < 2 ^ 64)
 
--- what holds of each value before a place, and of the value there
+-- a property of each value before a place and of the value there
 pub one-more : {A : Type 0} (P : A → Type 0) (list : List A) (n : ℕ) (x : A) → n < length list → ((d : A) → get_or list n d ≡ x) → P x
     → ((k : ℕ) (d : A) → k < n → P (get_or list k d)) → (k : ℕ) (d : A) → k < n + 1 → P (get_or list k d)
 one-more P list n x below is here so_far k d lt =

@@ -1,4 +1,4 @@
--- What is written of the command that a request makes.
+-- The bytes of the command that a request makes.
 use Rattle.std.proofs.Common.{◌≡◌, Bool, true, false, refl, append_assoc}
 use Rattle.std.proofs.lemmas.List.{append-nil}
 use Rattle.mysql_wire.specs.Either.{either_bytes}

@@ -1,4 +1,4 @@
--- Texts that are cut at a separator.
+-- Texts split at a separator.
 use Rattle.std.proofs.Common.{◌≡◌, ◌≢◌, ℕ, suc, ◌+◌, ◌<◌, List, [], ◌∷◌, ◌++◌, length, take, drop, get_or, true, false, refl, sym, ap, ◌∙◌, arith, append_assoc}
 use Rattle.std.specs.List.{position_or_len}
 use Rattle.std.proofs.lemmas.Bool.{lt-ltb, le-ltb, ltb-true, eq-eqb, ne_eqb, eqb-true, eqb-false}
@@ -48,9 +48,9 @@ after-cut c xs ys h =
     ∙ ap (λ (t : List ℕ). drop (length xs + 1) t) (sym split)
     ∙ drop_at (xs ++ c ∷ []) ys (length xs + 1) long
 
--- ---- the parts of a text that is cut
+-- ---- the parts of a split text
 
--- where the first separator stands
+-- the place of the first separator
 found : (c : ℕ) (text : List ℕ) → has c text ≡ true → get_or text (position_or_len (is c) text) 0 ≡ c
 found c text h = eqb-true _ _ (passes_at_first (is c) text 0 (ltb-true _ _ h))
 
@@ -68,7 +68,7 @@ utf8-after c text low h utf8 =
     let place = position_or_len (is c) text in
     IsUtf8-drop text (place + 1) utf8 (IsCharBoundary-after_ascii text place utf8 (ltb-true _ _ h) (omega (arith, low, found c text h)))
 
--- ---- no colon, as the grammar says it
+-- ---- no colon, as in the grammar
 
 pub no_colon-lacks : (text : List ℕ) → NoColon text → Lacks 58 text
 no_colon-lacks [] h = tt

@@ -1,4 +1,4 @@
--- The plain conditions on sids are enough for reading back.
+-- The plain conditions on sids are enough for the round trip.
 use Rattle.std.proofs.Common.{◌≡◌, ◌<◌, ◌^◌, ℕ, List, [], ◌∷◌, length, Option, Some, None, is_some, Bool, true, false, nat_lt, if◌then◌else◌, refl}
 use Rattle.std.specs.List.{list_any}
 use Rattle.std.proofs.lemmas.Bool.{or_parts}
@@ -50,7 +50,7 @@ pub gtid_dump-fits : (strict : Bool) (p : ComBinlogDumpGtid) (rest : List ℕ) �
 unfolding gtid_dump gtid_dump_head
 gtid_dump-fits strict p rest h = ((tt, (h.flags, (h.server_id, tt))), (h.filename, (h.pos, (block-fits p.sid_block h.sids h.block, tt))))
 
--- ---- what the strict reader accepts, the other reads as the same
+-- ---- the other reader agrees with the strict one
 
 known-step : (unknown : Bool) (x head : ℕ) → (if unknown then None else Some x) ≡ Some head → Some x ≡ Some head
 known-step true x head e = absurd cc

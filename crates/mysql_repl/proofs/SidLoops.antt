@@ -30,9 +30,9 @@ pub none-before : (total : Result (List GnoInterval) InvalidSid) → with_front 
 none-before (Ok is) = refl
 none-before (Err e) = refl
 
--- ---- a first interval that is refused is refused before memory is taken
+-- ---- a refused first interval is refused before anything is allocated
 
--- none is read yet, or the first one is not refused
+-- none was read yet, or the first one isn't refused
 abbrev pub IsEarly : (left all : List (Result GnoInterval InvalidSid)) → Type 0
 IsEarly left all = (left ≡ all) ⊎ (first_refusal all ≡ None)
 

@@ -28,7 +28,7 @@ digits-lack : (c : ℕ) → ((d : ℕ) → 48 ≤ d → d ≤ 57 → d ≡ c →
 digits-lack c out [] h = tt
 digits-lack c out (d ∷ ds) h = let r = digit_from_value d h.0 in (ne_eqb d c (out d r.0 r.1), digits-lack c out ds h.1)
 
--- a separator that is neither a digit nor a plus stands in no number
+-- a separator other than a digit and a plus sign is in no number
 number-lacks : (c : ℕ) → ((d : ℕ) → 48 ≤ d → d ≤ 57 → d ≡ c → ⊥) → (43 ≡ c → ⊥) → (text : List ℕ) (n : ℕ) → SpellsNumber text n → Lacks c text
 number-lacks c out plus text n (inl d) = digits-lack c out text d.0.1
 number-lacks c out plus text n (inr p) = rw p.1 (ne_eqb 43 c plus, digits-lack c out p.0 p.2.0.1)
@@ -133,7 +133,7 @@ other c h = ne_eqb c 58 (λ e. let wrong : is_later 58 ≡ true = rw e at h in a
 pub no-digit : (c : ℕ) → is_first c ≡ true → is_ascii_digit c ≡ false
 no-digit c h = grind (arith, nat_tests)
 
--- after a uuid: what does not begin with a digit and has a colon begins with a tag
+-- after a uuid, a text that has a colon and doesn't begin with a digit begins with a tag
 chosen : (id : List ℕ) (digit cut : Bool) (x y : Result SidParts InvalidSid) → digit ≡ false → cut ≡ true → (if digit then x else if cut then y else Err fault.NoIntervals) ≡ y
 chosen id true cut x y d e = absurd cc
 chosen id false true x y d e = refl
@@ -203,7 +203,7 @@ sid-spelled text s h =
     let b = after-spelled s.uuid s.tag s.intervals h.more h.tag h.intervals h.some h.digit in
     ap sid_of (with-uuid text h.id s.uuid b.0 (no_colon-lacks h.id h.no_colon) h.uuid (h.parts ∙ ap (λ (t : List ℕ). h.id ++ t) b.1)) ∙ b.2
 
--- a text spells one sid at the most
+-- a text spells at most one sid
 pub spelled-one : (text : List ℕ) (s t : Sid) → SpellsSid text s → SpellsSid text t → s ≡ t
 spelled-one text s t h k =
     let same : ◌≡◌ {A = Result Sid InvalidSid} (Ok s) (Ok t) = sym (sid-spelled text s h) ∙ sid-spelled text t k in

@@ -1,4 +1,4 @@
--- What a text is read as, it spells; so the sid's own text is read again.
+-- A text spells the sid that is read from it, so a sid's own text is read back.
 use Rattle.std.proofs.Common.{◌≡◌, ◌⊎◌, inl, inr, ℕ, ◌+◌, ◌<◌, ◌^◌, ◌==◌, List, [], ◌∷◌, ◌++◌, length, codes, Option, Some, None, Result, Ok, Err, IfOk, Bool, true, false, ◌&&◌, nat_lt, nat_le, if◌then◌else◌, refl, ap, sym, subst, ◌∙◌, arith}
 use Rattle.std.specs.Char.{is_ascii_digit}
 use Rattle.std.specs.List.{slice_split, join_with_byte}
@@ -167,7 +167,7 @@ intervals-from text list h =
 
 -- ---- the whole text
 
--- what stands after a uuid and its colon spells the rest of the sid
+-- the text after a uuid and its colon spells the rest of the sid
 record Rest (id text : List ℕ) (s : Sid) : Type 0 where
   pub more : List ℕ
   pub uuid : s.uuid ≡ id
@@ -246,7 +246,7 @@ cut-from : (cut : Bool) (x : Result SidParts InvalidSid) (s : Sid) → sid_of (i
 cut-from true x s h = (refl, h)
 cut-from false x s h = absurd cc
 
--- what a text is read as, it spells if the tag is one; and the tag is one if the text is UTF-8
+-- a text spells the sid that is read from it if the tag is valid; and the tag is valid if the text is UTF-8
 abbrev Read : List ℕ → Sid → Type 0
 Read text s = (OptionalTag s.tag → SpellsSid text s) × (IsUtf8 text → OptionalTag s.tag)
 
@@ -272,11 +272,11 @@ sid-from text s h =
       λ utf8. rest.tag (utf8-after colon text (omega arith) cut.0 utf8),
     )
 
--- a text is read as what it spells alone
+-- a text is read only as the sid that it spells
 pub read-spelled : (text : List ℕ) (s : Sid) → IsUtf8 text → read_sid text ≡ Ok s → SpellsSid text s
 read-spelled text s utf8 h = let r = sid-from text s h in r.0 (r.1 utf8)
 
--- ---- what a reader answers
+-- ---- the result of a reader
 
 pub answer-spelled : (text : List ℕ) (r : Result Sid InvalidSid) → IsUtf8 text → Answered r (read_sid text) → IfOk r (SpellsSid text)
 answer-spelled text (Ok s) utf8 h = read-spelled text s utf8 h
@@ -287,7 +287,7 @@ answer-read text r s h spelled = subst (λ (read : Result Sid InvalidSid). Answe
 
 pub ruleset answers = (answer-spelled, answer-read)
 
--- ---- what was read is read again
+-- ---- a sid that was read is read back
 
 all-proper : (list : List GnoInterval) (text : List ℕ) → SpellsEach list text → AllProper list
 all-proper [] text h = tt

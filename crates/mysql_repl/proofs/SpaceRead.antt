@@ -1,4 +1,4 @@
--- Where a value of a list was read, or is refused for memory, the bytes have space for one.
+-- If a value of a list was read, or refused for memory, the bytes have space for one.
 use Rattle.std.proofs.Common.{◌≡◌, ℕ, zero, suc, ◌+◌, ◌*◌, ◌/◌, ◌-◌, ◌^◌, ◌<◌, ◌≤◌, List, length, min, inl, inr, Option, Ok, Err, Bool, true, false, refl, ap, ◌∙◌, arith}
 use Rattle.std.proofs.lemmas.List.{length-append}
 use Rattle.mysql_wire.specs.declared.fault.FaultOf.{FaultOf}
@@ -22,14 +22,14 @@ any-above (suc n) lt = refl
 pub not-none : (n : ℕ) → (n ≡ 0 → ⊥) → is_any n ≡ true
 not-none n some = any-above n (omega (arith, some))
 
--- a fault is answered as it is, and memory where it may be
+-- a fault is returned unchanged, and Memory if it is allowed
 pub answered-as : {A B : Type 0} (b takes : Bool) (e : FaultOf) (one : Reading A) (read : Reading B) → (b ≡ true → takes ≡ true) → Faults b e one → Faults true e read → Faults takes e read
 answered-as b takes fault.Memory one read may h k = may h
 answered-as b takes fault.UnexpectedEof one read may h k = k
 answered-as b takes (fault.InvalidData text) one read may h k = k
 answered-as b takes (fault.InvalidInput text) one read may h k = k
 
--- ---- how many bytes are taken
+-- ---- the number of bytes read
 
 not-longer : (tail whole : List ℕ) → IsTail tail whole → length tail ≤ length whole
 not-longer tail whole t = let e : length whole ≡ length t.front + length tail = ap length t.parts ∙ length-append t.front tail in omega (arith, e)
@@ -65,7 +65,7 @@ intervals-take list from rest s =
     let each = counted s.0 (interval.form tt) in
     omega (arith, count-takes s.0 from s.1 s.2, not-longer rest s.1 (each.front list s.1 rest (each.only list s.1 rest s.3)))
 
--- ---- a sid takes its bytes at least
+-- ---- a sid takes at least its own bytes
 
 untagged-takes : (s : Sid) (from rest : List ℕ) → (sid.form tt).reads from ≡ Ok (s, rest) → 24 + length rest ≤ length from
 unfolding sid
@@ -87,7 +87,7 @@ pub sid-takes : (tagged : Bool) (s : Sid) (from rest : List ℕ) → ((sid_as ta
 sid-takes true s from rest e = tagged-takes s from rest e
 sid-takes false s from rest e = untagged-takes s from rest e
 
--- ---- and where one may be refused for memory, this many are there
+-- ---- if one may be refused for memory, its bytes are present
 
 ok-of : (r : Reading ℕ) → counts_any r ≡ true → (x : ℕ × List ℕ) × (r ≡ Ok x)
 ok-of (Ok x) h = (x, refl)
@@ -97,7 +97,7 @@ some-above : (n : ℕ) → is_any n ≡ true → 0 < n
 some-above zero h = absurd cc
 some-above (suc n) h = omega arith
 
--- p: the count, what is left, how the count is spelled, and the space
+-- p: the count, the rest, the spelling of the count, and the space
 interval_space-takes : (n : ℕ) (from rest : List ℕ) → interval_space.Spells n from rest → is_any n ≡ true → 24 ≤ length from
 interval_space-takes n from rest p some =
     omega (arith, count-takes p.0 from p.1 p.2, some-above n some, p.3.0)

@@ -1,4 +1,4 @@
--- Packets of a stream: the plain conditions are enough for reading back.
+-- Packets of a stream: the plain conditions are enough for the round trip.
 use Rattle.std.proofs.Common.{◌≡◌, ℕ, ◌<◌, ◌^◌, List, [], ◌++◌, Option, Some, None, Bool, is_some, refl, subst}
 use Rattle.std.proofs.lemmas.List.{append-nil}
 use Rattle.mysql_wire.specs.CodecFits.{option_fits}

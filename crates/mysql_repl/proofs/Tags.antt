@@ -1,4 +1,4 @@
--- A text has no fault exactly where it is a tag.
+-- A text has no fault exactly if it is a tag.
 use Rattle.std.proofs.Common.{◌≡◌, inl, inr, ℕ, ◌<◌, ◌≤◌, List, [], ◌∷◌, length, slice_get, Option, Some, None, Ok, Err, Bool, true, false, not, cond, ◌&&◌, if◌then◌else◌, nat_lt, nat_le, refl, sym, subst, ◌∙◌, arith}
 use Rattle.std.specs.List.{find, list_all}
 use Rattle.std.specs.Str.{chars, IsAscii, IsUtf8}
@@ -93,7 +93,7 @@ no_fault-tag text utf8 h =
     let same : chars text ≡ text = sym (encodes-IsAscii (chars text) p.0) ∙ encodes-chars text utf8 in
     subst IsTag same (p.1 (rw same refl))
 
--- ---- what the bytes of a tag are read as
+-- ---- how the bytes of a tag are read
 
 pub bytes-not_utf8 : (c : ℕ) (cs : List ℕ) → (IsUtf8 (c ∷ cs) → ⊥) → tag_of (c ∷ cs) ≡ None
 unfolding tag_of
@@ -114,7 +114,7 @@ bytes-fault c cs fault h =
 pub bytes-tag : (c : ℕ) (cs : List ℕ) → IsUtf8 (c ∷ cs) → tag_fault (c ∷ cs) ≡ None → tag_of (c ∷ cs) ≡ Some (Some (c ∷ cs))
 bytes-tag c cs utf8 h = tag_of-tag (c ∷ cs) (no_fault-tag (c ∷ cs) utf8 h)
 
--- ---- what a reader of a tag answers
+-- ---- the result of a tag's reader
 
 pub reads-none : (bytes rest : List ℕ) → length bytes ≡ 0 → looked_up (tag_of bytes) rest ≡ Ok (None, rest)
 unfolding tag_of

@@ -1,4 +1,4 @@
--- BINLOG_THROUGH_GTID is set exactly for sids, and no other flag is touched.
+-- BINLOG_THROUGH_GTID is set exactly for sids, and other flags are unchanged.
 use Rattle.std.proofs.Common.{◌≡◌, ◌≢◌, ◌↔◌, ◌==◌, ℕ, ◌<◌, List, [], ◌∷◌, length, not, Bool, true, refl, sym, subst, arith}
 use Rattle.std.specs.Int.{bit_at}
 use Rattle.std.proofs.lemmas.Bool.{ne_eqb}

@@ -1,4 +1,4 @@
--- A uuid that a text writes is sixteen bytes.
+-- The uuid of a text has sixteen bytes.
 use Rattle.std.proofs.Common.{◌≡◌, ℕ, ◌+◌, ◌*◌, ◌<◌, ◌==◌, List, length, get_or, Option, Some, None, Bool, true, false, ◌&&◌, slice_index, take, drop, if◌then◌else◌, refl, subst, arith}
 use Rattle.std.specs.List.{All, list_all}
 use Rattle.std.specs.Option.{IfSome}

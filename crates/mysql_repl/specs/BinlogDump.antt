@@ -7,6 +7,7 @@ use Rattle.mysql_wire.specs.declared.little_endian.LeU16.{LeU16}
 use Rattle.mysql_wire.specs.declared.little_endian.LeU32.{LeU32}
 use Rattle.mysql_wire.specs.Codec.{Codec, Fields}
 use Rattle.mysql_wire.specs.Codecs.{◌>>=◌, give, field, block, packet, const_u8, flags, string_eof, u32}
+use Rattle.mysql_wire.specs.CommandCodes.{COM_BINLOG_DUMP}
 use Rattle.mysql_wire.specs.Flags.{BinlogDumpFlags}
 use Rattle.mysql_wire.specs.Int.{raw_int}
 use Rattle.mysql_repl.specs.declared.binlog_dump.ComBinlogDump.{ComBinlogDump}
@@ -15,9 +16,9 @@ use Rattle.mysql_repl.specs.declared.binlog_dump.InvalidComBinlogDumpHeader.{Inv
 -- ---- the layout
 
 -- 12, the position, the flags and the replica's server id, in eleven bytes
-abbrev pub binlog_dump_head : Fields (Unit {0}) ComBinlogDump (ConstU8 InvalidComBinlogDumpHeader 0x12 × RawInt LeU32 ℕ × Const BinlogDumpFlags LeU16 × RawInt LeU32 ℕ)
+abbrev pub binlog_dump_head : Fields (Unit {0}) ComBinlogDump (ConstU8 InvalidComBinlogDumpHeader COM_BINLOG_DUMP × RawInt LeU32 ℕ × Const BinlogDumpFlags LeU16 × RawInt LeU32 ℕ)
 binlog_dump_head = do
-  header ← field (λ p. p.header) (const_u8 0x12)
+  header ← field (λ p. p.header) (const_u8 COM_BINLOG_DUMP)
   pos ← field (λ p. p.pos) u32
   flags ← field (λ p. p.flags) (flags 2)
   server_id ← field (λ p. p.server_id) u32

@@ -8,6 +8,7 @@ use Rattle.mysql_wire.specs.declared.little_endian.LeU16.{LeU16}
 use Rattle.mysql_wire.specs.declared.little_endian.LeU32.{LeU32}
 use Rattle.mysql_wire.specs.Codec.{Codec, Fields}
 use Rattle.mysql_wire.specs.Codecs.{◌>>=◌, give, field, block, packet, const_u8, flags, string_u32, u32, u64}
+use Rattle.mysql_wire.specs.CommandCodes.{COM_BINLOG_DUMP_GTID}
 use Rattle.mysql_wire.specs.FlagMasks.{BINLOG_THROUGH_GTID}
 use Rattle.mysql_wire.specs.Flags.{BinlogDumpFlags, switched, has}
 use Rattle.mysql_wire.specs.Int.{raw_int}
@@ -81,15 +82,15 @@ KeepsOthers bits p = (i : ℕ) → i < 16 → i ≢ 2 → bit_at (flag_bits p) i
 -- ---- the layout
 
 -- 1e, the flags and the replica's server id
-abbrev pub gtid_dump_front : Fields Bool ComBinlogDumpGtid (ConstU8 InvalidComBinlogDumpGtidHeader 0x1e × Const BinlogDumpFlags LeU16 × RawInt LeU32 ℕ)
+abbrev pub gtid_dump_front : Fields Bool ComBinlogDumpGtid (ConstU8 InvalidComBinlogDumpGtidHeader COM_BINLOG_DUMP_GTID × Const BinlogDumpFlags LeU16 × RawInt LeU32 ℕ)
 gtid_dump_front = do
-  header ← field (λ p. p.header) (const_u8 0x1e)
+  header ← field (λ p. p.header) (const_u8 COM_BINLOG_DUMP_GTID)
   word ← field (λ p. p.flags) (flags 2)
   number ← field (λ p. p.server_id) u32
   give (header, word, number)
 
 -- in seven bytes
-unfoldable pub gtid_dump_head : Fields Bool ComBinlogDumpGtid (ConstU8 InvalidComBinlogDumpGtidHeader 0x1e × Const BinlogDumpFlags LeU16 × RawInt LeU32 ℕ)
+unfoldable pub gtid_dump_head : Fields Bool ComBinlogDumpGtid (ConstU8 InvalidComBinlogDumpGtidHeader COM_BINLOG_DUMP_GTID × Const BinlogDumpFlags LeU16 × RawInt LeU32 ℕ)
 gtid_dump_head = block 7 gtid_dump_front (λ p. refl)
 
 -- seven bytes; the file name; the position; the sids

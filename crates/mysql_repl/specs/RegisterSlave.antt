@@ -5,6 +5,7 @@ use Rattle.mysql_wire.specs.declared.little_endian.LeU16.{LeU16}
 use Rattle.mysql_wire.specs.declared.little_endian.LeU32.{LeU32}
 use Rattle.mysql_wire.specs.Codec.{Codec, Fields}
 use Rattle.mysql_wire.specs.Codecs.{◌>>=◌, give, field, block, packet, const_u8, string_u8, u16, u32}
+use Rattle.mysql_wire.specs.CommandCodes.{COM_REGISTER_SLAVE}
 use Rattle.mysql_wire.specs.Int.{raw_int}
 use Rattle.mysql_wire.specs.declared.constant.ConstU8.{ConstU8}
 use Rattle.mysql_repl.specs.declared.register_slave.ComRegisterSlave.{ComRegisterSlave}
@@ -25,14 +26,14 @@ unfoldable pub register_slave_end : Fields (Unit {0}) ComRegisterSlave (RawInt L
 register_slave_end = block 10 register_slave_numbers (λ p. refl)
 
 -- 15 and the replica's server id
-abbrev pub register_slave_front : Fields (Unit {0}) ComRegisterSlave (ConstU8 InvalidComRegisterSlaveHeader 0x15 × RawInt LeU32 ℕ)
+abbrev pub register_slave_front : Fields (Unit {0}) ComRegisterSlave (ConstU8 InvalidComRegisterSlaveHeader COM_REGISTER_SLAVE × RawInt LeU32 ℕ)
 register_slave_front = do
-  header ← field (λ p. p.header) (const_u8 0x15)
+  header ← field (λ p. p.header) (const_u8 COM_REGISTER_SLAVE)
   server_id ← field (λ p. p.server_id) u32
   give (header, server_id)
 
 -- in five bytes
-unfoldable pub register_slave_head : Fields (Unit {0}) ComRegisterSlave (ConstU8 InvalidComRegisterSlaveHeader 0x15 × RawInt LeU32 ℕ)
+unfoldable pub register_slave_head : Fields (Unit {0}) ComRegisterSlave (ConstU8 InvalidComRegisterSlaveHeader COM_REGISTER_SLAVE × RawInt LeU32 ℕ)
 register_slave_head = block 5 register_slave_front (λ p. refl)
 
 -- five bytes; host, user and password; ten bytes

@@ -2,12 +2,13 @@
 use Rattle.std.specs.Prelude.{◌≡◌, ℕ, ◌<◌, ◌^◌, List, length, None, refl}
 use Rattle.mysql_wire.specs.Codec.{Codec, Fields}
 use Rattle.mysql_wire.specs.Codecs.{◌>>=◌, give, field, packet, const_u8, string_u8}
+use Rattle.mysql_wire.specs.CommandCodes.{COM_TABLE_DUMP}
 use Rattle.mysql_repl.specs.declared.table_dump.ComTableDump.{ComTableDump}
 
 -- 13, the database and the table
 abbrev pub table_dump_fields : Fields (Unit {0}) ComTableDump ComTableDump
 table_dump_fields = do
-  header ← field (λ p. p.header) (const_u8 0x13)
+  header ← field (λ p. p.header) (const_u8 COM_TABLE_DUMP)
   database ← field (λ p. p.database) string_u8
   table ← field (λ p. p.table) string_u8
   give (record { header = header; database = database; table = table })

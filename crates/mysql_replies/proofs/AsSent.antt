@@ -27,7 +27,7 @@ no-longer tail bytes t = rw (t.parts, length-append) (omega arith)
 pub string_shorter : (bytes content rest : List ℕ) → lenenc_string.reads bytes ≡ Ok (content, rest) → length rest ≤ length bytes
 string_shorter bytes content rest e = no-longer rest bytes (lenenc_string.front content bytes rest e)
 
--- a code of one byte and a string take a byte at least
+-- a code of one byte and a string take at least a byte
 pub coded_shorter : {K A : Type 0} (code : Form K) (make : K → List ℕ → A) → ((k : K) (bytes rest : List ℕ) → code.reads bytes ≡ Ok (k, rest) → length bytes ≡ 1 + length rest)
     → (bytes rest : List ℕ) (a : A) → then_read (code.reads bytes) (λ t mid. then_read (lenenc_string.reads mid) (λ c left. Ok (make t c, left))) ≡ Ok (a, rest) → length rest < length bytes
 coded_shorter code make exact bytes rest a e =
@@ -39,7 +39,7 @@ coded_shorter code make exact bytes rest a e =
 type_form : Form (Const SessionStateType ℕ)
 type_form = (coded session_state_type_code session_state_type_of session_state_type-again).form (tt {0})
 
--- an entry takes a byte at least
+-- an entry takes at least a byte
 pub entry_shorter : (bytes rest : List ℕ) (i : SessionStateInfo) → (session_state_info.form tt).reads bytes ≡ Ok (i, rest) → length rest < length bytes
 unfolding session_state_info type_form coded_value number so_many_bytes
 entry_shorter bytes rest i e = coded_shorter type_form (λ t c. record { data_type = t; content = c }) type_form.sized.exact bytes rest i e
@@ -67,7 +67,7 @@ pub ruleset entries_shorter = (string_shorter, entry_shorter)
 
 pub ruleset next_changes = (read-next, fault-next)
 
--- ---- a change that is read in the written layout
+-- ---- a change in the written layout
 
 kept : (one : Bool) (bytes : List ℕ) (read : Reading SessionStateChange) (change : SessionStateChange) → read ≡ Ok (change, []) → sent_unless_read one bytes read ≡ Ok (change, [])
 kept one bytes read change e = subst (λ r. sent_unless_read one bytes r ≡ Ok (change, [])) (sym e) refl
@@ -81,7 +81,7 @@ as_sent i change other e =
     not-gtids (is_gtids (data_type i)) (gtids_of ((sent_gtids.form tt).reads (data_bytes i))) _ other
     ∙ kept (is_state_change (data_type i) && (length (data_bytes i) == 1)) (data_bytes i) (front_of ((session_state_change (data_type i)).reads (data_bytes i))) change e
 
--- ---- what is read of a front is spelled there
+-- ---- a value read from a front is spelled there
 
 pub front-spelled : (kind : SessionStateType) (i : SessionStateInfo) (r : Result SessionStateChange FaultOf) (old new : List ℕ) → data_type i ≡ kind → data_bytes i ≡ old
     → IfOk r (λ change. (session_state_change kind).Spells change old new)

@@ -1,4 +1,4 @@
--- Columns are equal exactly where they are the same.
+-- Columns compare equal exactly if they are equal.
 use Rattle.std.proofs.Common.{◌≡◌, ◌↔◌, Decides, IsTrue, true, refl, rules, subst}
 use Rattle.std.proofs.lemmas.Bool.Decides.{Decides-and}
 use Rattle.mysql_wire.specs.contracts.codes.column_type.ColumnType.{the_type}

@@ -1,4 +1,4 @@
--- Packets are equal exactly where they are the same.
+-- Packets compare equal exactly if they are equal.
 use Rattle.std.proofs.Common.{◌≡◌, ◌↔◌, Decides, IsTrue, true, refl, ap, subst, rules}
 use Rattle.std.proofs.lemmas.Bool.Decides.{Decides-and}
 use Rattle.mysql_wire.specs.contracts.codes.session_state_type.SessionStateType.{the_type}

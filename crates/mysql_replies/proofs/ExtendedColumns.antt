@@ -24,13 +24,13 @@ use Rattle.mysql_replies.specs.declared.extended_column.ExtendedColumn.{Extended
 use Rattle.mysql_replies.proofs.EqualColumns.{columns-same}
 use Rattle.mysql_session.proofs.Same.{and-true, numbers-same, bytes-same, options-same}
 
--- a column that was read has a text, so it takes memory
+-- a column that was read has a text, so it allocates
 pub read-takes : (read : Reading ExtendedColumn) (c : ExtendedColumn) (rest : List ℕ) → read ≡ Ok (c, rest) → IsTrue (has_text c) → IsTrue (reads_text read)
 read-takes read c rest e h = subst (λ r. IsTrue (reads_text r)) (sym e) h
 
 pub ruleset texts = (read-takes)
 
--- ---- what is written is read again
+-- ---- the round trip
 
 metadata-fits : (capabilities : MariadbCapabilities) (sends : Bool) (metadata : Option (List ℕ)) (rest : List ℕ) → MetadataFits sends metadata → option_fits string_lenenc sends capabilities metadata rest
 metadata-fits capabilities sends None rest fits = fits
@@ -60,7 +60,7 @@ column_attribute-plain a rest code text = column_attribute.again tt a rest (code
 
 pub ruleset extended_columns = (extended_column-plain, column_attribute-plain)
 
--- ---- without the flag it is a column
+-- ---- without the flag it is a plain column
 
 -- what is read after the names, and after the metadata
 abbrev fields_read : ConstBytes Catalog 4 → ColumnMeta → Option (List ℕ) → Reading ColumnFields → Reading ExtendedColumn
@@ -120,7 +120,7 @@ column-bytes c = refl
 
 pub ruleset without_the_flag = (without-flag, column-bytes)
 
--- ---- equal ones are the same
+-- ---- equality
 
 attribute-each : (a b : ColumnAttribute) → Decides (derived_attribute.ghosts.eq a b) ((a.code.0 ≡ b.code.0) × (a.text ≡ b.text))
 attribute-each a b = Decides-and _ _ (and-true _ (numbers-same a.code.0 b.code.0)) (bytes-same a.text b.text)

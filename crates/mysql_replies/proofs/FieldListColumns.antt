@@ -31,7 +31,7 @@ string-is_none : (text rest : List ℕ) → starts_null (lenenc_string_bytes tex
 unfolding lenenc_string_bytes
 string-is_none text rest = ap starts_null (append_assoc (lenenc_bytes (length text)) text rest) ∙ number-is_none (length text) (text ++ rest)
 
--- ---- what is written is read again
+-- ---- the round trip
 
 nullable-fits : (capabilities : MariadbCapabilities) (text : Option (List ℕ)) (rest : List ℕ) → DefaultFits text → nullable_string.fits capabilities text rest
 nullable-fits capabilities None rest h = (refl, refl)

@@ -1,4 +1,4 @@
--- Errors in place of the greeting.
+-- Errors instead of the greeting.
 use Rattle.std.proofs.Common.{◌≡◌, ◌↔◌, ◌<◌, ◌^◌, ℕ, List, [], ◌++◌, length, Option, Some, None, is_some, Bool, false, ◌+◌, ◌∙◌, IsTrue, refl, sym, ap, subst, arith}
 use Rattle.std.proofs.lemmas.List.{append-nil, length-append}
 use Rattle.std.proofs.lemmas.Bool.{lt-ltb}
@@ -18,7 +18,7 @@ unfolding sql_state
 state-fits c None rest h = h
 state-fits c (Some state) rest h = (h.0, (tt, (h.1, tt)))
 
--- the written error begins with a state just where it has one
+-- the written error begins with a state exactly if it has one
 begins : (code : ℕ) (state : Option SqlState) (message : List ℕ) → IsPlainOf state message → begins_with_state (server_error.bytes (error_of code state message) ++ []) ≡ is_some state
 unfolding server_error sql_state
 begins code None message h =

@@ -1,4 +1,4 @@
--- Names that were put after one another lie where their ends say.
+-- Concatenated names are at the places given by their ends.
 use Rattle.std.proofs.Common.{◌≡◌, ℕ, zero, suc, ◌<◌, true, ◌+◌, ◌-◌, List, [], ◌++◌, length, take, refl, arith, append_assoc, length-append}
 use Rattle.std.proofs.lemmas.List.{append-nil}
 use Rattle.std.proofs.Math.Seq.{drop-append_seam, take-append_seam}
@@ -7,7 +7,7 @@ use Rattle.mysql_wire.proofs.Packets.{packets}
 use Rattle.mysql_wire.specs.Seq.{is_any}
 use Rattle.mysql_replies.specs.ColumnNames.{meta_of, names_at}
 
--- what stands after some bytes, up to where it ends
+-- what follows some bytes, up to its end
 between : (p x y w : List ℕ) (a b : ℕ) → w ≡ p ++ (x ++ y) → a ≡ length p → b ≡ a + length x → slice_range w a b ≡ x
 between p x y w a b is starts ends =
     let n : b - a ≡ length x = omega arith in
@@ -29,7 +29,7 @@ names_after s t o n m a b c d ea eb ec ed =
     let e5 : slice_range w d (length w) ≡ m = between (((s ++ t) ++ o) ++ n) m [] w d (length w) w4 at_m (omega (arith, length-append (((s ++ t) ++ o) ++ n) m)) in
     rw (e1, e2, e3, e4, e5) refl
 
--- a count that is not 0 is of some
+-- a count other than 0 counts something
 pub some-any : (n : ℕ) → 0 < n → is_any n ≡ true
 some-any zero lt = absurd (omega (arith, lt))
 some-any (suc n) lt = refl

@@ -1,4 +1,4 @@
--- An OK packet that is sent is read again, as its kind.
+-- An OK packet is read back, as its kind.
 use Rattle.std.proofs.Common.{◌≡◌, ◌<◌, ◌^◌, ℕ, zero, suc, List, [], ◌∷◌, Option, Some, None, refl, sym, subst, ap, ◌∙◌, arith}
 use Rattle.std.proofs.lemmas.Bool.{eq-eqb}
 use Rattle.std.proofs.lemmas.List.{append-nil}
@@ -19,7 +19,7 @@ use Rattle.mysql_replies.specs.OkPacket.{ok_header, ok_packet, deserialized, unl
 use Rattle.mysql_replies.specs.OkPacketSent.{id_or_zero, deserializer_of, flag_word_of, sent_body, common_bytes, common_bytes_with, terminator_bytes, terminator_bytes_with, eof_bytes, eof_bytes_with, IdFits, OkPacketFits, TerminatorFits, OldEofFits}
 use Rattle.mysql_replies.specs.OkTailSent.{ContentFits}
 
--- an insert id, an info and a state are read as they were
+-- an insert id, an info and a state are read back
 id-same : (id : Option ℕ) → IdFits id → unless_zero (id_or_zero id) ≡ id
 id-same None h = refl
 id-same (Some zero) h = absurd h
@@ -83,7 +83,7 @@ terminator-again T c p h =
     (packet-again T 0xfe header-fe (terminator_body c) (f.value (p, c)) (f.bytes (p, c)) body) in
     subst (λ (q : OkPacket). (ok_packet {T = T} 0xfe (terminator_body c)).Spells (deserializer_of q) (terminator_bytes c p) []) (no_numbers p h.affected_rows h.last_insert_id) read
 
--- the warnings and the status of an old end
+-- the warnings and the status of an old EOF packet
 sent_numbers : Fields CapabilityFlags OkPacket (RawInt LeU16 ℕ × Const StatusFlags LeU16)
 sent_numbers = do
   warnings ← field (λ p. raw_int p.warnings) u16

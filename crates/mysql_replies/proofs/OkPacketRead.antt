@@ -1,4 +1,4 @@
--- An OK packet that was read is sent as the same: what reading gives is of the shape that is sent.
+-- An OK packet that was read is sent with the same bytes: reading yields only what a sender writes.
 use Rattle.std.proofs.Common.{◌≡◌, ℕ, zero, suc, List, [], ◌∷◌, Bool, true, false, ◌&&◌, sym, subst, ap, ◌∙◌}
 use Rattle.mysql_wire.specs.CodecFits.{is_there}
 use Rattle.mysql_wire.specs.Flags.{CapabilityFlags, StatusFlags}
@@ -23,7 +23,7 @@ none-sent t u e h = subst (λ (v : OkTail). StateIsSent false (unless_empty v.se
 no-state : (state : List ℕ) → state ≡ [] → StateIsSent false (unless_empty state)
 no-state state e = subst (λ (l : List ℕ). StateIsSent false (unless_empty l)) (sym e) tt
 
--- a state is read only where it is sent
+-- a state is read only if it is sent
 tail-by : (tr ch th nz : Bool) (t : OkTail) (bytes rest : List ℕ)
     → (either (tr && th) (do
       info ← lenenc_string
@@ -46,7 +46,7 @@ tail-shape : (c : CapabilityFlags) (status : StatusFlags) (t : OkTail) (bytes re
 unfolding ok_tail
 tail-shape c status t bytes rest s = tail-by (tracks c) (state_changed status) (is_there bytes) (begins_with_no_zero bytes) t bytes rest s
 
--- no content is there that is empty, and no insert id that is 0
+-- an empty content and an insert id of 0 are absent
 content-fits : (bytes : List ℕ) → ContentIsShort (unless_empty bytes) → ContentFits (unless_empty bytes)
 content-fits [] h = tt
 content-fits (b ∷ bytes) h = h
@@ -104,7 +104,7 @@ terminator-fits c p w b =
       tail = fits.tail;
     }
 
--- an old end has neither numbers nor texts
+-- an old EOF packet has neither numbers nor texts
 old_eof-fits : (c : CapabilityFlags) (p : OkPacket) → HasOkWidths p → HasBody (old_eof_body c) p → OldEofFits p
 unfolding HasBody
 old_eof-fits c p w b =

@@ -1,2 +1,2 @@
--- Tests of equality that hold exactly where the values are the same, passed on to the crates above.
+-- Tests of equality that hold exactly if the values are equal, re-exported for the crates above.
 pub use Rattle.mysql_session.proofs.Same.{and-true, numbers-same, bytes-same}

@@ -1,4 +1,4 @@
--- A change that is sent is decoded again.
+-- A sent change is decoded again.
 use Rattle.std.specs.Prelude.{IfSome}
 use Rattle.std.proofs.Common.{◌≡◌, ◌<◌, ◌^◌, ◌∷◌, [], length, Ok, true, false, refl, ap}
 use Rattle.std.proofs.lemmas.List.{append-nil}

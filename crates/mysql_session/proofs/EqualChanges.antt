@@ -1,4 +1,4 @@
--- Changes of a session, and their parts, are equal exactly where they are the same.
+-- Session changes and their parts compare equal exactly if they are equal.
 use Rattle.std.proofs.Common.{◌≡◌, ◌↔◌, ◌&&◌, List, nat_eq, Decides, IsTrue, true, refl, ap, subst}
 use Rattle.std.proofs.lemmas.Bool.Decides.{Decides-and}
 use borrow.Author.Tests.{clash}
@@ -32,7 +32,7 @@ text-same a b =
     let bytes = and-true _ (bytes-same a.0 b.0) in
     (λ e. let s = bytes.0 e in λ i. text_of (s i), λ e. bytes.1 (ap text_bytes e))
 
--- the test is true of a change and itself
+-- the test is true for a change and itself
 change-equals-itself : (a : SessionStateChange) → IsTrue (derived.ghosts.eq a a)
 change-equals-itself (change.IsTracked a) = (booleans_Decides a a).1 refl
 change-equals-itself (change.Schema a) = (text-same a a).1 refl
@@ -42,7 +42,7 @@ change-equals-itself (change.TransactionCharacteristics a) = (text-same a a).1 r
 change-equals-itself (change.TransactionState a) = (text-same a a).1 refl
 change-equals-itself (change.Unsupported a) = (text-same a a).1 refl
 
--- and false of two changes that differ
+-- and false for two changes that differ
 equal-changes : (a b : SessionStateChange) → IsTrue (derived.ghosts.eq a b) → a ≡ b
 equal-changes (change.IsTracked a) (change.IsTracked b) e = ap change.IsTracked ((booleans_Decides a b).0 e)
 equal-changes (change.Schema a) (change.Schema b) e = ap change.Schema ((text-same a b).0 e)

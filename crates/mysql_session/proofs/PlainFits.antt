@@ -1,4 +1,4 @@
--- What fits, in plain words, is read again.
+-- The plain conditions are enough for the round trip.
 use Rattle.std.proofs.Common.{◌<◌, ◌^◌, ℕ, List, [], ◌++◌, length, All, refl}
 use Rattle.std.proofs.lemmas.List.{append-nil}
 use Rattle.mysql_wire.specs.declared.lenenc.LenEnc.{LenEnc}

@@ -1,4 +1,4 @@
--- Variables fit where each does.
+-- Variables fit if each does.
 use Rattle.std.proofs.Common.{List, [], ◌∷◌, All, refl}
 use Rattle.std.proofs.lemmas.List.Elements.{All-head, All-tail}
 use Rattle.mysql_session.specs.declared.system_variable.SystemVariable.{SystemVariable}

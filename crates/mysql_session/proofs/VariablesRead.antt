@@ -1,4 +1,4 @@
--- Variables are read one after another, and are those that all of the bytes spell.
+-- Variables are read in order, and are those that the whole content spells.
 use Rattle.std.proofs.Common.{◌≡◌, ◌≢◌, ℕ, ◌<◌, List, [], ◌∷◌, ◌++◌, length, Option, None, Result, Ok, Err, false, refl, sym, ◌∙◌}
 use Rattle.mysql_wire.specs.declared.fault.FaultOf.{FaultOf}
 use Rattle.mysql_wire.specs.declared.fault.FaultOf.TheVariants as fault
@@ -46,7 +46,7 @@ pub ruleset next_variables = (answered-next, answered-others, none-left)
 
 -- ---- a loop that reads all of them
 
--- what is read of the rest, after what was read before, is what is read of the bytes
+-- the pairs read before, and then those of the rest, are those of all bytes
 abbrev pub SoFar : List ℕ → List ℕ → Type 0
 SoFar rest bytes = (front : List SystemVariable) × (with_front front (all.reads rest) ≡ all.reads bytes)
 

@@ -92,7 +92,7 @@ pub object-none : (head fields : List Said) → have_float head ≡ false → ha
 unfolding object_of
 object-none head fields h g = lists-none fields _ g (members-none fields _ g (members-none head no_members h refl))
 
--- the arrays, one after another
+-- the arrays in order
 pub lists-in-turn : (fields : List Said) (none one two three four five six seven : Members)
     → one ≡ with_list (codes "attribute") fields none → two ≡ with_list (codes "attribute_value") fields one → three ≡ with_list (codes "parameter") fields two
     → four ≡ with_list (codes "value") fields three → five ≡ with_list (codes "variable") fields four → six ≡ with_list (codes "variable_value") fields five

@@ -44,7 +44,7 @@ lines_plain (f ∷ fields) text n h =
 pub plain_lines : (fields : List Said) (old new : List ℕ) → AppendsLines fields old new → have_float fields ≡ false → new ≡ old ++ lines_of fields
 plain_lines fields old new h n = h.2 ∙ ap (λ (t : List ℕ). old ++ t) (lines_plain fields h.0 n h.1)
 
--- ---- one after another
+-- ---- in order
 
 abbrev pub Follows : List Said → List Said → (initial out : List ℕ) → Type 0
 Follows fields left initial out = (rest : List ℕ) → AreLines left rest → (text : List ℕ) × AreLines fields text × (out ++ rest ≡ initial ++ text)
@@ -65,7 +65,7 @@ all_lines fields i initial out le follows =
     let g = follows [] (subst (λ l. AreLines l []) (sym (drop_all i fields le)) refl) in
     (g.0, g.1, sym (append-nil out) ∙ g.2)
 
--- ---- what stood before stays
+-- ---- earlier text is kept
 
 pub stays_same : (old new : List ℕ) → new ≡ old → Stays old new
 stays_same old new e = ([], e ∙ sym (append-nil old))

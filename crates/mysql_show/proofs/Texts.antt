@@ -1,4 +1,4 @@
--- Whether bytes are a text, and what JSON has for them.
+-- Whether bytes are UTF-8, and their form in JSON.
 use Rattle.std.proofs.Common.{◌≡◌, ℕ, List, Bool, true, false, refl, String, Global, string_bytes, rules}
 use Rattle.std.proofs.lemmas.Str.{is_utf8-from_IsUtf8, IsUtf8-from_is_utf8}
 use Rattle.std.specs.Str.{IsUtf8, is_utf8}

@@ -1,4 +1,4 @@
--- A table stays within its bounds.
+-- A table stays within its limits.
 use Rattle.std.proofs.Common.{◌≡◌, ℕ, zero, suc, ◌+◌, ◌-◌, ◌<◌, ◌≤◌, Bool, true, false, nat_lt, ◌&&◌, not, List, [], ◌∷◌, ◌++◌, Option, Some, None, length, refl, sym, ap, subst, ◌==◌, Result, Ok, Err, OnOk, OnErr, if◌then◌else◌, arith}
 use Rattle.std.proofs.lemmas.List.{length-append, length-map, length-replicate}
 use Rattle.std.proofs.lemmas.Bool.{leb-true, ltb-true, and_parts}
@@ -23,7 +23,7 @@ use Rattle.mysql_statements.specs.declared.layout.Layout.TheVariants.{Bulk, Sing
 use Rattle.mysql_statements.specs.declared.task.Task.{Task}
 use Rattle.mysql_statements.specs.declared.task.Task.TheVariants.{Other, Prepare, Definitions, Execution}
 
--- ---- how many types a statement has
+-- ---- the number of a statement's types
 
 length_at : (k : ℕ) (f : BoundParam → BoundParam) (ps : List BoundParam) → length (at k f ps) ≡ length ps
 length_at k f [] = refl
@@ -65,7 +65,7 @@ execution_types layout p s =
     let h = length_bound s.params r in
     omega (arith, h, length-map (bound_by s.params r).params without_data)
 
--- ---- how many all have
+-- ---- the number of all types
 
 held_change : (id : ℕ) (f : Kept → Kept) (xs : List Kept) (d : ℕ) → ((s : Kept) → types (f s) ≤ types s + d) → held (change id f xs) ≤ held xs + d
 held_change id f [] d h = omega arith
@@ -143,7 +143,7 @@ within_definition (Definitions id (suc params) left) memory c t e h = record {
 }
 within_definition (Execution id left) memory c t e h = within_column memory id left c (Execution id) t (λ n. refl) (ap expected e) h
 
--- with other statements, that are no more and have no more types, and nothing expected
+-- with other statements, at most as many and with at most as many types, and nothing expected
 same_bounds : (t : Table) (ss : List Kept) (last : Option ℕ) (task : Task) → length ss ≤ length t.statements → held ss ≤ held t.statements → expected task ≡ 0
     → IsWithin t → IsWithin (record { limits = t.limits; statements = ss; last = last; task = task })
 same_bounds t ss last task a b e h = record {
@@ -272,7 +272,7 @@ within_after memory a (kind.ColumnCount count follow) p t h = within_counted t.t
 within_after memory a kind.Error p t h = within_failed t.task t h
 within_after memory a _ p t h = h
 
--- whether memory was there or not
+-- whether or not an allocation succeeded
 pub within_taken : {E : Type 0} (r : Result (Unit {0}) E) (a : Agreed) (k : PacketKind) (p : List ℕ) (old new : Table)
     → OnOk r (new ≡ after true a k p old) → OnErr r (new ≡ after false a k p old) → IsWithin old → IsWithin new
 within_taken (Ok x) a k p old new ok err h = subst IsWithin (sym ok) (within_after true a k p old h)

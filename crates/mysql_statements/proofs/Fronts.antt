@@ -1,4 +1,4 @@
--- What an execution binds is what its parameters are read under.
+-- The types that an execution sets are those under which its parameters are read.
 use Rattle.std.proofs.Common.{◌≡◌, ◌∙◌, ℕ, ◌+◌, ◌||◌, Bool, true, false, List, [], ◌∷◌, length, map, refl, sym, ap, Ok}
 use Rattle.mysql_wire.specs.Each.{each}
 use Rattle.mysql_wire.specs.Flags.{CapabilityFlags}
@@ -25,7 +25,7 @@ module _ (c : CapabilityFlags) (s : Kept) (p body rest : List ℕ) (h : ComStmtE
       → with_execution (Single c) p s ≡ record s { params = map without_data (given_types f.sends_types s.params f.types); is_bound = f.sends_types || s.is_bound }
   execution_binds f r = ap (λ x. with_bound (bound_by s.params x) s) (front_read f rest r)
 
--- the type of a parameter that is in force, and of one that was read
+-- the type in force of a parameter, and the type of one that was read
 abbrev in_use : BoundType → ParamType
 in_use b = b.named_type.param_type
 
@@ -46,7 +46,7 @@ types_read nulls place (b ∷ bs) bytes rest xs e =
     let first : in_use b ≡ type_read one.0 = ap type_read (done-value _ one.0 made.1 one.1 made.3) in
     ap (λ t. t ∷ map in_use bs) first ∙ ap (λ l. type_read one.0 ∷ l) (types_read nulls (place + 1) bs one.1 more.1 more.0 more.2) ∙ ap (λ l. map type_read l) (done-value (one.0 ∷ more.0) xs more.1 rest more.3)
 
--- they are those that are kept
+-- these are the types that are kept
 types_kept : (s : Bool) (ps : List BoundParam) (ts : List NamedType) → map kept (map without_data (given_types s ps ts)) ≡ map in_use (in_force s ps ts)
 types_kept true [] ts = refl
 types_kept true (p ∷ ps) [] = refl

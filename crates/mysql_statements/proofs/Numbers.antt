@@ -1,4 +1,4 @@
--- Where statements stand.
+-- The places of statements.
 use Rattle.std.proofs.Common.{◌≡◌, ◌≢◌, ℕ, zero, suc, ◌+◌, ◌<◌, ◌≤◌, Bool, true, false, List, [], ◌∷◌, Option, Some, None, length, get_or, set, drop, refl, sym, ap, ◌∙◌, ◌==◌, option_map, if◌then◌else◌, eq-eqb, not, arith}
 use Rattle.std.proofs.lemmas.Bool.{ne_eqb}
 use Rattle.std.specs.List.{remove}
@@ -7,9 +7,9 @@ use Rattle.mysql_statements.specs.Kept.{Kept}
 use Rattle.mysql_statements.specs.Statement.{types}
 use Rattle.mysql_statements.specs.Table.{place_of, find, change, without, held}
 
--- ---- one after another
+-- ---- in order
 
--- a place this many further
+-- a place this much further
 abbrev pub further : ℕ → Option ℕ → Option ℕ
 further i None = None
 further i (Some k) = Some (k + i)
@@ -47,7 +47,7 @@ over id xs i le h = h ∙ ap (λ l. further i (place_of id l)) (drop_all i xs le
 
 pub ruleset steps = (from_start, missed, hit, over)
 
--- ---- how many types are kept
+-- ---- the number of types kept
 
 pub held_more : (xs : List Kept) (i : ℕ) (s : Kept) → i < length xs → s ≡ get_or xs i s → held (drop i xs) ≡ types s + held (drop (i + 1) xs)
 held_more xs i s lt r = ap held (drop_more xs i s lt ∙ ap (λ x. x ∷ drop (i + 1) xs) (sym r))
@@ -57,7 +57,7 @@ held_over xs i le = ap held (drop_all i xs le)
 
 pub ruleset counts = (held_more, held_over)
 
--- ---- a statement that is there
+-- ---- a known statement
 
 change_when : (f : Kept → Kept) (b : Bool) (o : Option ℕ) (s : Kept) (ss changed : List Kept) (i : ℕ) (x : Kept)
     → ((j : ℕ) → o ≡ Some j → x ≡ get_or ss j x → changed ≡ set ss j (f x))
@@ -73,7 +73,7 @@ pub change_at : (id : ℕ) (f : Kept → Kept) (xs : List Kept) (i : ℕ) (x : K
 change_at id f [] i x h r = absurd cc
 change_at id f (s ∷ ss) i x h r = change_when f (s.id == id) (place_of id ss) s ss (change id f ss) i x (λ j e q. change_at id f ss j x e q) h r
 
--- the same of what was read there, and is written
+-- the same for a statement that is read and written back
 pub changed_at : (id : ℕ) (f : Kept → Kept) (xs : List Kept) (i : ℕ) (x new : Kept) (o : Option ℕ)
     → o ≡ place_of id xs → o ≡ Some i → x ≡ get_or xs i x → new ≡ f (get_or xs i x) → set xs i new ≡ change id f xs
 changed_at id f xs i x new o v e r n = ap (set xs i) (n ∙ ap f (sym r)) ∙ sym (change_at id f xs i x (sym v ∙ e) r)
@@ -92,7 +92,7 @@ pub find_at : (id : ℕ) (xs : List Kept) (i : ℕ) (x : Kept) → place_of id x
 find_at id [] i x h r = absurd cc
 find_at id (s ∷ ss) i x h r = find_when (s.id == id) (place_of id ss) s ss (find id ss) i x (λ j e q. find_at id ss j x e q) h r
 
--- ---- a statement that is not there
+-- ---- an unknown statement
 
 none_when : (b : Bool) (o : Option ℕ) → (if b then Some 0 else option_map suc o) ≡ None → (b ≡ false) × (o ≡ None)
 none_when true o h = absurd cc
@@ -117,7 +117,7 @@ find_nowhere id [] h = refl
 find_nowhere id (s ∷ ss) h =
     let e = none_when (s.id == id) (place_of id ss) h in find_unless (s.id == id) s (find id ss) e.0 (find_nowhere id ss e.1)
 
--- ---- a statement that is taken out
+-- ---- a removed statement
 
 place_zero : (b : Bool) (o : Option ℕ) → (if b then Some 0 else option_map suc o) ≡ Some 0 → b ≡ true
 place_zero true o h = refl

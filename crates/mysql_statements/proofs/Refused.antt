@@ -1,4 +1,4 @@
--- A refusal by a reader that takes no memory is that of the form.
+-- A reader that doesn't allocate returns the fault of the form.
 use Rattle.std.proofs.Common.{◌≡◌, ℕ, None, false, refl}
 use Rattle.mysql_wire.specs.Reading.{Reading, Faults}
 use Rattle.mysql_wire.specs.declared.fault.FaultOf.{FaultOf}

@@ -1,4 +1,4 @@
--- The definitions of a result one after another.
+-- The definitions of a result in order.
 use Rattle.std.proofs.Common.{◌≡◌, ◌∙◌, ℕ, suc, ◌≤◌, ◌&&◌, true, List, [], ◌∷◌, ◌++◌, Some, length, refl, sym, ap, inl, inr, if◌then◌else◌, append_assoc}
 use Rattle.std.proofs.lemmas.Bool.{le-leb}
 use Rattle.std.proofs.lemmas.List.{append-nil}

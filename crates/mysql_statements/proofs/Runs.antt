@@ -1,4 +1,4 @@
--- Definitions one after another.
+-- Definitions in order.
 use Rattle.std.proofs.Common.{◌≡◌, ◌∙◌, ℕ, suc, ◌+◌, ◌-◌, Bool, true, false, ◌&&◌, not, List, [], ◌∷◌, ◌++◌, Option, Some, None, length, map, replicate, refl, sym, ap, subst, inl, inr, ◌⊎◌, ◌==◌, if◌then◌else◌, append_assoc, eq-eqb, arith}
 use Rattle.std.proofs.lemmas.List.{length-append, length-replicate, append-nil}
 use Rattle.mysql_prepared.specs.declared.execute_view.BoundParam.{BoundParam}
@@ -40,7 +40,7 @@ next_or : (id : ℕ) (f : Kept → Kept) (ss : List Kept) (x : Kept) (b : Bool) 
 next_or id f ss x b g (inl h) = inl (g h)
 next_or id f ss x b g (inr h) = inr h
 
--- a change that leaves the number
+-- a change that keeps the number
 pub find_changed : (id : ℕ) (f : Kept → Kept) → ((s : Kept) → (f s).id ≡ s.id) → (xs : List Kept) (x : Kept) → find id xs ≡ Some x → find id (change id f xs) ≡ Some (f x)
 find_changed id f k [] x h = absurd cc
 find_changed id f k (s ∷ ss) x h =
@@ -63,7 +63,7 @@ found_last : (id : ℕ) (xs : List Kept) (x : Kept) → x.id ≡ id → find id 
 found_last id [] x e h = ap (λ b. if b then Some x else None) (eq-eqb x.id id e)
 found_last id (s ∷ ss) x e h = last_when (s.id == id) s x (find id ss) (find id (ss ++ x ∷ [])) h (λ g. found_last id ss x e g)
 
--- ---- a definition, and what is none
+-- ---- a definition, and a packet that is none
 
 after_definition : (a : Agreed) (k : PacketKind) (p : List ℕ) (c : RowColumn) (t : Table) → k ≡ kind.Column → column_at a p ≡ Some c → after true a k p t ≡ defined_at t.task true c t
 after_definition a k p c t e h = ap (λ x. after true a x p t) e ∙ ap (λ o. defined true o t) h

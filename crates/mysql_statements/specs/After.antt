@@ -1,5 +1,6 @@
 -- The table after a packet.
 use Rattle.std.specs.Prelude.{ℕ, ◌==◌, ◌||◌, List, Bool, Option, Some, None, if◌then◌else◌}
+use Rattle.mysql_wire.specs.CommandCodes.{COM_CHANGE_USER, COM_STMT_PREPARE, COM_STMT_EXECUTE, COM_STMT_SEND_LONG_DATA, COM_STMT_CLOSE, COM_STMT_RESET, COM_STMT_FETCH, COM_RESET_CONNECTION, COM_STMT_BULK_EXECUTE}
 use Rattle.mysql_conversation.specs.Agreements.{Agreed}
 use Rattle.mysql_conversation.specs.declared.packet_kind.PacketKind.{PacketKind}
 use Rattle.mysql_conversation.specs.declared.packet_kind.PacketKind.TheVariants as kind
@@ -15,22 +16,22 @@ for_data (Some x) t = sent_ahead x.0 x.1 t
 abbrev pub asked_one : Agreed → ℕ → List ℕ → Option ℕ → Table → Table
 asked_one a code p None t = otherwise t
 asked_one a code p (Some id) t =
-    if code == 0x19 then closed id t  -- COM_STMT_CLOSE
-    else (if code == 0x1a then reset id t  -- COM_STMT_RESET
-    else (if code == 0x1c then fetched id t  -- COM_STMT_FETCH
-    else (if code == 0xfa then executed Bulk p id t  -- COM_STMT_BULK_EXECUTE
+    if code == COM_STMT_CLOSE then closed id t
+    else (if code == COM_STMT_RESET then reset id t
+    else (if code == COM_STMT_FETCH then fetched id t
+    else (if code == COM_STMT_BULK_EXECUTE then executed Bulk p id t
     else executed (Single a.mysql) p id t)))  -- COM_STMT_EXECUTE
 
 abbrev pub is_of_one : ℕ → Bool
-is_of_one code = code == 0x17 || code == 0xfa || code == 0x1c || code == 0x19 || code == 0x1a
+is_of_one code = code == COM_STMT_EXECUTE || code == COM_STMT_BULK_EXECUTE || code == COM_STMT_FETCH || code == COM_STMT_CLOSE || code == COM_STMT_RESET
 
 -- a command, by its first byte
 abbrev pub asked : Agreed → ℕ → List ℕ → Table → Table
 asked a code p t =
-    if code == 0x16 then preparing t  -- COM_STMT_PREPARE
-    else (if code == 0x11 then cleared t  -- COM_CHANGE_USER
-    else (if code == 0x1f then cleared t  -- COM_RESET_CONNECTION
-    else (if code == 0x18 then for_data (data_at p) t  -- COM_STMT_SEND_LONG_DATA
+    if code == COM_STMT_PREPARE then preparing t
+    else (if code == COM_CHANGE_USER then cleared t
+    else (if code == COM_RESET_CONNECTION then cleared t
+    else (if code == COM_STMT_SEND_LONG_DATA then for_data (data_at p) t
     else (if is_of_one code then asked_one a code p (number_at p) t
     else otherwise t))))
 

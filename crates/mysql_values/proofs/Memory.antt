@@ -1,4 +1,4 @@
--- Only a string of at least one byte is kept on memory of its own.
+-- Only a string of at least one byte is allocated.
 use Rattle.std.proofs.Common.{◌≡◌, ℕ, ℤ, List, Bool, true, false, Ok, Err, IsTrue, refl}
 use Rattle.std.specs.Int.{w8, w16, w32}
 use Rattle.mysql_wire.specs.Reading.{Reading, then_read}

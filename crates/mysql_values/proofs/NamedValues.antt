@@ -19,7 +19,7 @@ regroup : (front : List Content) (name : Vec ℕ) (v : Value) (others : Result (
 regroup front name v (Ok others) = ap Ok (sym (append_assoc front (content_of v ∷ []) others))
 regroup front name v (Err refusal) = refl
 
--- what is left, with the name at the index before the others
+-- the rest, with the name at the index first
 left_at : (values : NamedValues) (names : List (Vec ℕ)) (i : ℕ) (name : Vec ℕ) → i < length names → name ≡ get_or names i name
     → values_of_names values (drop i names) ≡ then_values name (value_of values name) (values_of_names values (drop (i + 1) names))
 unfolding values_of_names

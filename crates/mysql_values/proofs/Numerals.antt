@@ -1,4 +1,4 @@
--- Bytes that write a number are ASCII, and so a text.
+-- The digits of a number are ASCII, so they are UTF-8.
 use Rattle.std.proofs.Common.{◌≡◌, ◌≢◌, ◌==◌, ◌⊎◌, ℕ, ℤ, List, [], ◌∷◌, arith, true, false, IsUtf8, inl, inr}
 use Rattle.std.specs.Str.{IsAscii}
 use Rattle.std.specs.Str.Parse.{IsNumeral, without_leading_plus, without_leading_sign}

@@ -1,4 +1,4 @@
--- What a type spells of a parameter is read again under it.
+-- A parameter under a type is read back under it.
 use Rattle.std.proofs.Common.{◌≡◌, ℕ, ◌==◌, ◌++◌, List, [], ◌∷◌, Bool, true, false, Some, refl, sym, subst, if◌then◌else◌}
 use Rattle.std.proofs.lemmas.Option.{cond_some, same_Some}
 use Rattle.mysql_wire.specs.declared.codes.column_type.ColumnType.{ColumnType}
@@ -45,7 +45,7 @@ lengths_start true true false w x y rest = refl
 lengths_start true false c w x y rest = refl
 lengths_start false b c w x y rest = refl
 
--- no date of a row has the length of one with an offset
+-- no date in a row has the length of a date with an offset
 date_starts : (t : DateTime) (rest : List ℕ) → starts_with_offset (date_time_bytes t ++ rest) ≡ false
 unfolding date_time_bytes
 date_starts t rest =
@@ -60,7 +60,7 @@ unfolding date_time_param date_with_offset
 offset-again date fits rest =
     (date, refl, date_with_offset.again tt date rest (tt, (fits.year, (fits.month, (fits.day, (fits.hour, (fits.minute, (fits.second, (fits.micros, (fits.offset, tt))))))))))
 
--- ---- values as rows have them
+-- ---- values in rows
 
 abbrev PlainReads : ValueKind → (is_unsigned : Bool) → Content → List ℕ → Type 0
 PlainReads k u NULL bytes = bytes ≡ []

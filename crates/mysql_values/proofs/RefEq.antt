@@ -1,4 +1,4 @@
--- Borrowed values are equal where they hold the same, and convert where the values do.
+-- Borrowed values compare equal if their contents are equal, and convert like the values.
 use Rattle.std.proofs.Common.{◌≡◌, ◌∙◌, ◌↔◌, IsTrue, ℕ, ℤ, true, rules, ap, sym, subst}
 use Rattle.std.specs.Global.{Vec, Global}
 use Rattle.std.specs.Prelude.{String}

@@ -1,4 +1,4 @@
--- What is read where the bytes are there, and where some are missing.
+-- Reading with all bytes present, and with some missing.
 use Rattle.std.proofs.Common.{◌≡◌, ℕ, ◌+◌, ◌*◌, ◌<◌, ◌≤◌, List, [], ◌∷◌, length, take, drop, slice_index, Ok, Err, refl, sym, ◌∙◌, arith, inl, inr}
 use Rattle.std.specs.Int.{byte_worth, sum_through}
 use Rattle.std.proofs.lemmas.Bool.{cases_lt, le-ltb, lt-ltb}
@@ -13,7 +13,7 @@ use Rattle.mysql_values.specs.Temporal.{day, clock, date_only, date_and_clock, d
 one-byte : (b : ℕ) → le_value (b ∷ []) ≡ b
 one-byte b = omega arith
 
--- a day whose four bytes are there
+-- a day with its four bytes present
 pub day-there : (old : List ℕ) (year : ℕ) → 4 ≤ length old → year ≡ sum_through (λ i. byte_worth i (slice_index (take 4 old) i)) 1 → day.reads old ≡ Ok (record { year = year; month = slice_index (take 4 old) 2; day = slice_index (take 4 old) 3 }, drop 4 old)
 unfolding day bytes number raw
 day-there (a ∷ b ∷ c ∷ d ∷ rest) year there e =
@@ -23,7 +23,7 @@ day-there (a ∷ b ∷ c ∷ d ∷ rest) year there e =
     rw (le-ltb _ _ there) cc
 day-there _ year there e = absurd (omega arith)
 
--- the time on a clock whose three bytes are there
+-- a time of day with its three bytes present
 pub clock-there : (old : List ℕ) → 3 ≤ length old → clock.reads old ≡ Ok (record { hour = slice_index (take 3 old) 0; minute = slice_index (take 3 old) 1; second = slice_index (take 3 old) 2 }, drop 3 old)
 unfolding clock bytes number raw
 clock-there (a ∷ b ∷ c ∷ rest) there =
@@ -35,7 +35,7 @@ clock-there _ there = absurd (omega arith)
 
 pub ruleset there = (day-there, clock-there, integer-there, byte-there, length-drop)
 
--- ---- fewer bytes than a length says
+-- ---- fewer bytes than a length requires
 
 few_bytes : (old : List ℕ) → length old < 1 → byte.reads old ≡ Err kind.UnexpectedEof
 unfolding raw number bytes

@@ -1,4 +1,4 @@
--- What a type spells of a value is read again under it.
+-- A value under a type is read back under it.
 use Rattle.std.proofs.Common.{◌≡◌, ℕ, suc, ◌*◌, ◌-◌, ◌<◌, ◌^◌, List, [], Bool, true, false, not, ◌&&◌, ◌||◌, Option, Some, None, refl, sym, ap, ◌∙◌, subst, arith}
 use Rattle.std.proofs.lemmas.Bool.{ltb-true}
 use Rattle.std.proofs.lemmas.Int.{to_z-of_z}
@@ -30,7 +30,7 @@ two_halves w32 = refl
 two_halves w64 = refl
 two_halves w128 = refl
 
--- the bits that a number has are those that it is read from
+-- the bits of a number are those that it is read from
 bits_read : (w : Width) (width : ℕ) → 2 * 2 ^ hbits w ≡ 256 ^ width → (u : Bool) (z : ℤ) (n : ℕ) → number_bits (2 ^ hbits w) u z ≡ Some n → (integer_of w u n ≡ z) × (n < 256 ^ width)
 bits_read w width whole true (pos m) n e =
     let b : (nat_lt m (2 * 2 ^ hbits w) ≡ true) × (m ≡ n) = cond_some _ m n e in
@@ -50,7 +50,7 @@ mapped : {A B : Type 0} (f : A → B) (o : Option A) (y : B) → option_map f o 
 mapped f None y e = absurd cc
 mapped f (Some x) y e = (x, refl, same_Some (f x) y e)
 
--- a number under the form that has it
+-- a number under its form
 narrow-again : (w : Width) (width : ℕ) → 2 * 2 ^ hbits w ≡ 256 ^ width → (u : Bool) (z : ℤ) (bytes : List ℕ)
     → option_map (le_bytes width) (number_bits (2 ^ hbits w) u z) ≡ Some bytes → IsSpelling (short_integer w width u) (Int z) bytes
 narrow-again w width whole u z bytes e =
@@ -97,7 +97,7 @@ uint-again type u kind.LongLong n bytes is fits e =
     subst (IsSpelling (bin_value type u) (number_read kind.LongLong u (pos n))) w.1 (longlong_uint type u n is w.0 fits)
 uint-again type u _ n bytes is fits e = absurd cc
 
--- ---- values that are no integers
+-- ---- values other than integers
 
 module _ (value : Content) (none : (half : ℕ) (u : Bool) → content_bits half u value ≡ None) (wide : (k : ValueKind) (u : Bool) → spells_wide k u value ≡ matches_type k value) where
   no_bytes : (width half : ℕ) (u : Bool) (bytes : List ℕ) → option_map (le_bytes width) (content_bits half u value) ≡ Some bytes → ⊥
@@ -109,7 +109,7 @@ module _ (value : Content) (none : (half : ℕ) (u : Bool) → content_bits half
   kind_suits kind.Long u bytes e = absurd (no_bytes 4 (2 ^ 31) u bytes e)
   kind_suits k u bytes e = let w = wide_is k u value bytes e in (sym (wide k u) ∙ w.0, w.1)
 
-  -- a type that has the value's kind reads it
+  -- a type of the value's kind reads it
   other-again : (t : ParamType) → (matches_type (kind_of t.column_type) value ≡ true → IsSpelling (bin_value t.column_type (is_unsigned_type t)) value (bin value))
       → (bytes : List ℕ) → some_spelled (kind_of t.column_type) (is_unsigned_type t) value ≡ Some bytes → IsSpelling (bin_value t.column_type (is_unsigned_type t)) value bytes
   other-again t again bytes e =

@@ -1,4 +1,4 @@
--- What is written of a value is read again under its column's type.
+-- A value is read back under its column's type.
 use Rattle.std.proofs.Common.{◌≡◌, ℕ, ◌<◌, ◌^◌, ◌==◌, List, [], ◌∷◌, ◌++◌, Bool, true, false, ◌⊎◌, refl, sym, ap, arith, inl, inr, append_assoc, eq-eqb, ◌&&◌}
 use Rattle.std.proofs.lemmas.Bool.Decides.{eqb_tells}
 use Rattle.std.specs.Int.{w64, cast_unsigned}
@@ -100,7 +100,7 @@ not_both false b h = refl
 not_both true b (inl e) = absurd cc
 not_both true b (inr e) = e
 
--- a span whose days and clock are not both zero, without microseconds
+-- a span with days or a time of day, without microseconds
 span-again : (t : TimeSpan) → TimeFits t → t.micros ≡ 0 → (rest : List ℕ) → (t.days == 0 && is_midnight t.clock) ≡ false → time_span.Spells t (time_span_bytes t ++ rest) rest
 unfolding time_span time_span_bytes
 span-again t fits micros rest some =
@@ -149,7 +149,7 @@ agrees-by_type type u (Double bits) h = λ rest. value-again type u (Double bits
 agrees-by_type type u (Date date) h = λ rest. value-again type u (Date date) rest h
 agrees-by_type type u (Time time) h = λ rest. value-again type u (Time time) rest h
 
--- ---- values that suit the kind of a type
+-- ---- values that match the kind of a type
 
 string-matches_type : (k : ValueKind) (bytes : List ℕ) → matches_type k (Bytes bytes) ≡ true → k ≡ kind.String
 string-matches_type kind.String bytes h = refl
@@ -178,7 +178,7 @@ integer-matches_type _ x h = absurd cc
 unsigned-matches_type : (k : ValueKind) (n : ℕ) → matches_type k (UInt n) ≡ true → ⊥
 unsigned-matches_type _ n h = absurd cc
 
--- such a value agrees with the type
+-- such a value matches the type
 pub agrees-by_kind : (type : ColumnType) (u : Bool) (content : Content) → matches_type (kind_of type) content ≡ true → IsInRange content → Agrees type u content
 agrees-by_kind type u NULL h fits = tt
 agrees-by_kind type u (Bytes bytes) h fits = agrees-by_type type u (Bytes bytes) (string-matches_type (kind_of type) bytes h, fits)
@@ -193,7 +193,7 @@ pub longlong-kind : (k : ValueKind) → is_longlong k ≡ true → k ≡ kind.Lo
 longlong-kind kind.LongLong h = refl
 longlong-kind _ h = absurd cc
 
--- ---- the type that a value is sent as
+-- ---- the type under which a value is sent
 
 reads_back : (content : Content) → IsInRange content → ReadsBack (sent_type content) (is_uint content) content
 reads_back NULL h = refl

@@ -1,4 +1,4 @@
--- Values are equal where they hold the same.
+-- Values compare equal if their contents are equal.
 use Rattle.std.proofs.Common.{◌≡◌, rules}
 use Rattle.mysql_values.specs.declared.value.Value.{Value}
 use Rattle.mysql_values.specs.contracts.value.ValuePartialEq.TheImpl as derived

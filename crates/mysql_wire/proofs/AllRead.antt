@@ -1,4 +1,4 @@
--- Values that all of the bytes spell, one after another: where they are read, the first one is, and so are the others.
+-- Values that all of the bytes spell: if they are read, the first one is read, and so are the others.
 use Rattle.std.proofs.Common.{◌≡◌, ◌≢◌, ℕ, List, [], ◌∷◌, length, Ok, Err, Bool, true, false, if◌then◌else◌, nat_lt, refl, sym, ap, ◌∙◌}
 use Rattle.mysql_wire.specs.declared.fault.FaultOf.{FaultOf}
 use Rattle.mysql_wire.specs.declared.fault.FaultOf.TheVariants as fault
@@ -9,9 +9,9 @@ use Rattle.mysql_wire.specs.Many.{many, value_and_more}
 use Rattle.mysql_wire.specs.Many.Laws.{many-next}
 use Rattle.mysql_wire.specs.Reading.{Reading, Faults, then_read, done-value, done-rest}
 
--- of one form, and of what a reading of all of them gives
+-- of one form, and of the result of reading all of them
 module _ {A : Type 0} (one : Form A) (items : Reading (List A) → List A) (gives : (x : List A × List ℕ) → items (Ok x) ≡ x.0) where
-  -- what is read where bytes are left
+  -- what is read if bytes are left
   pub opened : (bytes : List ℕ) → bytes ≢ [] → (many one).reads bytes ≡ then_read (one.reads bytes) (value_and_more (length bytes) (many one).reads)
   unfolding many
   opened [] ne = absurd (ne refl)
@@ -20,7 +20,7 @@ module _ {A : Type 0} (one : Form A) (items : Reading (List A) → List A) (give
   abbrev pub Whole : Reading (List A) → Type 0
   Whole read = read ≡ Ok (items read, [])
 
-  -- after one come others to the end
+  -- after one value follow others to the end
   abbrev pub Goes : A → Reading (List A) → Reading (List A) → Type 0
   Goes v total after = Whole after × (items total ≡ v ∷ items after)
 

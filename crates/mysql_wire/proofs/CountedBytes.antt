@@ -1,4 +1,4 @@
--- What is written of a content has a count that fits.
+-- The count of a written content fits.
 use Rattle.std.proofs.Common.{ℕ, ◌≤◌, List, length, take, arith}
 use Rattle.std.proofs.lemmas.List.{length-take}
 

@@ -34,7 +34,7 @@ module _ {A C : Type 0} (f : ℕ → C → Form A) (front : List A) (cs : List C
       let one : with_front front ((each f i (drop i cs)).reads bytes) ≡ Ok (front, bytes) = rw (drop_all i cs le) (ap (λ (xs : List A). Ok (xs, bytes)) (append-nil front)) in
       sym so_far ∙ one
 
--- a value that is made of what is read
+-- a value made from what is read
 pub mapped-fails : {A B : Type 0} (make : A → B) (b : Bool) (e : FaultOf) (r : Reading A) → Faults b e r → Faults b e (then_read r (λ x rest. Ok (make x, rest)))
 mapped-fails make b fault.Memory r h = h
 mapped-fails make b fault.UnexpectedEof r h = rw h refl

@@ -1,4 +1,4 @@
--- What a mask of one bit asks of a flag word, and what switching it changes.
+-- Testing and changing one bit of a flag word.
 use Rattle.std.proofs.Common.{◌≡◌, ◌≢◌, ◌==◌, ℕ, zero, suc, ◌-◌, ◌*◌, ◌/◌, ◌^◌, ◌<◌, Bool, true, false, refl, arith}
 use Rattle.std.specs.Int.{bit_at}
 use Rattle.std.specs.Int.RustNames.{bit_or}
@@ -14,7 +14,7 @@ bit-mask zero m small pos = grind (arith, nat_tests)
 bit-mask (suc zero) m small pos = grind (arith, nat_tests)
 bit-mask (suc (suc b)) m small pos = absurd (omega (arith, small))
 
--- a flag word has the mask of one bit where that bit is 1
+-- a flag word contains a mask of one bit if that bit is 1
 pub has-bit : (flags k : ℕ) → has flags (2 ^ k) ≡ (bit_at flags k == 1)
 has-bit flags k = rw (and_pow flags k) (bit-mask (bit_at flags k) (2 ^ k) (bit_at-lt flags k) (pow_pos k))
 
@@ -42,12 +42,12 @@ other-off : (size k i flags : ℕ) → k < size → i < size → i ≢ k → bit
 other-off size k i flags below inside other =
     rw (bit_at_and flags (2 ^ size - 1 - 2 ^ k) i, bit-complement size (2 ^ k) i (pow_below k size below) inside, bit_at-pow_other k i other) (omega (arith, bit_at-lt flags i))
 
--- a bit that is switched is set or cleared
+-- the bit is set or cleared
 pub has-switched : (size k : ℕ) (on : Bool) (flags : ℕ) → k < size → has (switched size on (2 ^ k) flags) (2 ^ k) ≡ on
 has-switched size k true flags below = rw (has-bit (bit_or flags (2 ^ k)) k, same-on k flags) refl
 has-switched size k false flags below = rw (has-bit (without size flags (2 ^ k)) k, same-off size k flags below) refl
 
--- and every other bit is as before
+-- and every other bit is unchanged
 pub bit-switched : (size k i : ℕ) (on : Bool) (flags : ℕ) → k < size → i < size → i ≢ k → bit_at (switched size on (2 ^ k) flags) i ≡ bit_at flags i
 bit-switched size k i true flags below inside other = other-on k i flags other
 bit-switched size k i false flags below inside other = other-off size k i flags below inside other

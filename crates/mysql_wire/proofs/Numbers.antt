@@ -1,4 +1,4 @@
--- What a reader of a number needs.
+-- Lemmas for the reader of a number.
 use Rattle.std.proofs.Common.{◌≡◌, ℕ, suc, ◌≤◌, List, length, take, drop, slice_index, Ok, refl, sym, ◌∙◌, arith}
 use Rattle.std.specs.Int.{byte_worth, sum_through}
 use Rattle.std.proofs.lemmas.Bool.{le-ltb}
@@ -11,7 +11,7 @@ number-there : (width : ℕ) (old : List ℕ) (n : ℕ) → width ≤ length old
 unfolding number bytes
 number-there width old n there e = rw (le-ltb _ _ there, e) refl
 
--- a number of k + 1 bytes that are there
+-- a number of k + 1 bytes that are present
 pub number_read : (k : ℕ) (old : List ℕ) (n : ℕ) → suc k ≤ length old → n ≡ sum_through (λ i. byte_worth i (slice_index (take (suc k) old) i)) k → (number (suc k)).reads old ≡ Ok (n, drop (suc k) old)
 number_read k old n there e = number-there (suc k) old n there (sym (sum-value (take (suc k) old) k (omega (arith, length-take (suc k) old))) ∙ sym e)
 

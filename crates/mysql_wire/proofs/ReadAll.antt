@@ -14,7 +14,7 @@ use Rattle.mysql_wire.proofs.Counted.{with_front, regroup, asks-more}
 pub tail-shorter : (tail bytes : List ℕ) → IsTail tail bytes → length tail ≢ length bytes → length tail < length bytes
 tail-shorter tail bytes t ne = let e : length bytes ≡ length t.front + length tail = ap length t.parts ∙ length-append t.front tail in omega (arith, e, ne)
 
--- what is read where bytes are left
+-- what is read if bytes are left
 opened : {A : Type 0} (f : Form A) (bytes : List ℕ) → bytes ≢ [] → (many f).reads bytes ≡ then_read (f.reads bytes) (value_and_more (length bytes) (many f).reads)
 unfolding many
 opened f [] ne = absurd (ne refl)
@@ -47,7 +47,7 @@ module _ {A : Type 0} (f : Form A) (front : List A) (bytes : List ℕ) (total : 
       let one : with_front front ((many f).reads bytes) ≡ Err e = rw (opened f bytes ne, h) refl in
       sym so_far ∙ one
 
-  -- the fault of a value, where the list may take memory if the value may
+  -- the fault of a value, if the list may allocate whenever the value may
   pub one-fails-as : (b asks : Bool) (e : FaultOf) → bytes ≢ [] → (IsTrue b → IsTrue asks) → Faults b e (f.reads bytes) → Faults asks e total
   one-fails-as b asks fault.Memory ne may h = may h
   one-fails-as b asks fault.UnexpectedEof ne may h = fails-with _ ne h
@@ -57,7 +57,7 @@ module _ {A : Type 0} (f : Form A) (front : List A) (bytes : List ℕ) (total : 
   pub one-fails : (b : Bool) (e : FaultOf) → bytes ≢ [] → Faults b e (f.reads bytes) → Faults true e total
   one-fails b e ne h = one-fails-as b true e ne (λ _. refl) h
 
--- a value that is read, and takes a byte, asks for memory, and so does one that may take some
+-- a value that is read and takes a byte allocates, and so does one that may allocate
 pub many-asks-read : {A : Type 0} (takes : List ℕ → Bool) (f : Form A) (x : A) (bytes after : List ℕ) → length after < length bytes → f.reads bytes ≡ Ok (x, after) → IsTrue (many_asks takes f bytes)
 many-asks-read takes f x [] after lt h = absurd (omega (arith, lt))
 many-asks-read takes f x (b ∷ bs) after lt h = rw (h, lt-ltb _ _ lt) refl

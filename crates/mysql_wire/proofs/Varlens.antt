@@ -1,4 +1,4 @@
--- Numbers of varying length: what their reader and their writer need.
+-- Lemmas for the reader and the writer of numbers of varying length.
 use Rattle.std.proofs.Common.{◌≡◌, ◌≢◌, ℕ, zero, suc, ◌+◌, ◌-◌, ◌*◌, ◌/◌, ◌%◌, ◌^◌, ◌<◌, ◌≤◌, List, [], ◌∷◌, ◌++◌, length, take, drop, Ok, Err, Bool, true, false, ◌==◌, ◌⊎◌, replicate, refl, sym, ap, ◌∙◌, arith, inl, inr}
 use Rattle.std.specs.Int.{w8, w64, bit_at, trailing_ones, from_le_bytes, to_le_bytes, bytes_low_first, byte_at}
 use Rattle.std.proofs.lemmas.Bool.{lt-ltb, le-ltb, eq-eqb, ne_eqb, eqb-true}
@@ -35,7 +35,7 @@ pub ruleset sizes = (size_is_length)
 
 -- ---- reading
 
--- the place of the lowest zero
+-- the place of the lowest zero bit
 ones-bits : (most k n : ℕ) → k < most → bit_at n k ≡ 0 → ((i : ℕ) → i < k → bit_at n i ≡ 1) → low_ones most n ≡ k
 ones-bits zero k n lt at below = absurd (omega (arith, lt))
 ones-bits (suc most) zero n lt at below = rw (eq-eqb (n % 2) 0 (sym (bit_at_lowest n) ∙ at)) refl
@@ -66,7 +66,7 @@ raw-faults b (fault.InvalidData text) (Err d) h = cc
 raw-faults b (fault.InvalidInput text) (Ok x) h = absurd cc
 raw-faults b (fault.InvalidInput text) (Err d) h = cc
 
--- what stands after ff
+-- what follows ff
 pub long_read : (bytes more rest : List ℕ) (v : RawInt LeU64 ℕ) → bytes ≡ 255 ∷ more → le_u64.reads more ≡ Ok (v, rest) → varlen.reads bytes ≡ Ok (v.0, rest)
 unfolding varlen raw
 long_read bytes more rest v e h = rw e (raw-number _ v rest h)
@@ -75,7 +75,7 @@ pub long_fails : (bytes more : List ℕ) (b : Bool) (d : FaultOf) → bytes ≡ 
 unfolding varlen raw
 long_fails bytes more b d e h = rw e (raw-faults b d _ h)
 
--- what stands from another byte on
+-- what follows another byte
 opened : (bytes more : List ℕ) (first : ℕ) → bytes ≡ first ∷ more → first < 256 → first ≢ 255 → varlen.reads bytes ≡ above_ones (trailing_ones w8 first) bytes
 unfolding varlen
 opened bytes more first e lt ne =
@@ -117,7 +117,7 @@ value-padded front k n len le value =
 
 -- ---- writing
 
--- the number above a zero and ones, where a given number of bytes hold it
+-- the number above a zero bit and ones, if it fits some bytes
 pub word_fits : (n size : ℕ) → 0 < size → size ≤ 8 → n < 2 ^ (7 * size)
     → (n * 2 ^ size % 2 ^ 64 + (1 * 2 ^ (size - 1) % 2 ^ 64 - 1) ≡ n * 2 ^ size + (2 ^ (size - 1) - 1)) × (n * 2 ^ size + (2 ^ (size - 1) - 1) < 2 ^ 64) × (1 ≤ 1 * 2 ^ (size - 1) % 2 ^ 64)
 word_fits n zero some most lt = absurd (omega (arith, some))

@@ -6,7 +6,7 @@ use Rattle.mysql_wire.specs.declared.fault.FaultKind.TheVariants as kind
 use Rattle.mysql_wire.specs.Null.{HasNoZero, null_Spells, null_reads, null_string, before_zero}
 use Rattle.mysql_wire.specs.Null.Laws.{null-only}
 
--- the search of the rest, where the first byte is no zero
+-- the search in the rest, if the first byte is no zero
 rest-no-zero : (b : ℕ) (bytes : List ℕ) → IsFirstByte (is_byte 0) (suc b ∷ bytes) None → IsFirstByte (is_byte 0) bytes None
 rest-no-zero b bytes h k low high at = h (suc k) (omega arith) (omega arith) at
 
@@ -32,7 +32,7 @@ zero-at (zero ∷ bytes) (suc k) h = absurd (h.0.before 0 (omega arith) (omega a
 zero-at (suc b ∷ bytes) zero h = absurd (omega (arith, eqb-true (suc b) 0 h.1))
 zero-at (suc b ∷ bytes) (suc k) h = let s = zero-at bytes k (rest-zero b bytes k h) in (s.0, ap (λ (t : List ℕ). suc b ∷ t) s.1)
 
--- a content without a zero stands before none
+-- without a zero, the content is all of the bytes
 pub before_zero-none : (bytes : List ℕ) → HasNoZero bytes → before_zero bytes ≡ bytes
 unfolding before_zero
 before_zero-none [] h = refl
@@ -58,21 +58,21 @@ pub null_string-missing : (bytes : List ℕ) → HasNoZero bytes → null_string
 unfolding null_string
 null_string-missing = no-zero-reads
 
--- what a search for a zero says of the bytes before it
+-- the bytes before the zero that a search found
 pub before_zero-found : (bytes : List ℕ) (k : ℕ) → IsFirstByte (is_byte 0) bytes (Some k) → before_zero bytes ≡ take k bytes
 before_zero-found bytes k h = before_zero-some (take k bytes) bytes (drop 1 (drop k bytes)) (zero-at bytes k h)
 
 pub before_zero-all : (bytes : List ℕ) → IsFirstByte (is_byte 0) bytes None → before_zero bytes ≡ bytes
 before_zero-all bytes h = before_zero-none bytes (no-zero bytes h)
 
--- the parts before and after a place tell of the whole
+-- the parts before and after a place determine the whole
 pub no-zero-parts : (k : ℕ) (bytes : List ℕ) → HasNoZero (take k bytes) → HasNoZero (drop k bytes) → HasNoZero bytes
 no-zero-parts zero bytes front after = after
 no-zero-parts (suc k) [] front after = tt
 no-zero-parts (suc k) (zero ∷ bytes) front after = absurd front
 no-zero-parts (suc k) (suc b ∷ bytes) front after = no-zero-parts k bytes front after
 
--- one byte more
+-- one more byte
 pub no-zero-next : (k : ℕ) (bytes : List ℕ) → HasNoZero (take k bytes) → nat_eq (slice_index_or bytes k 0) 0 ≡ false → HasNoZero (take (suc k) bytes)
 no-zero-next k [] front at = tt
 no-zero-next zero (zero ∷ bytes) front at = absurd (eqb-false 0 0 at refl)

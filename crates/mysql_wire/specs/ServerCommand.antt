@@ -4,51 +4,52 @@ use Rattle.mysql_wire.specs.declared.codes.server_command.ServerCommand.{ServerC
 use Rattle.mysql_wire.specs.declared.codes.server_command.ServerCommand.TheVariants as variant
 use Rattle.mysql_wire.specs.declared.constant_value.Const.{Const}
 use Rattle.mysql_wire.specs.Codes.{with_code, code-again}
+use Rattle.mysql_wire.specs.CommandCodes.{COM_SLEEP, COM_QUIT, COM_INIT_DB, COM_QUERY, COM_FIELD_LIST, COM_CREATE_DB, COM_DROP_DB, COM_REFRESH, COM_SHUTDOWN, COM_STATISTICS, COM_PROCESS_INFO, COM_CONNECT, COM_PROCESS_KILL, COM_DEBUG, COM_PING, COM_TIME, COM_DELAYED_INSERT, COM_CHANGE_USER, COM_BINLOG_DUMP, COM_TABLE_DUMP, COM_CONNECT_OUT, COM_REGISTER_SLAVE, COM_STMT_PREPARE, COM_STMT_EXECUTE, COM_STMT_SEND_LONG_DATA, COM_STMT_CLOSE, COM_STMT_RESET, COM_SET_OPTION, COM_STMT_FETCH, COM_DAEMON, COM_BINLOG_DUMP_GTID, COM_RESET_CONNECTION, COM_CLONE, COM_SUBSCRIBE_GROUP_REPLICATION_STREAM, COM_STMT_BULK_EXECUTE, COM_SLAVE_WORKER, COM_SLAVE_IO, COM_SLAVE_SQL, COM_MULTI}
 use Rattle.mysql_wire.specs.ConstantValue.{coded}
 use Rattle.mysql_wire.specs.Form.{Form, number}
 use Rattle.mysql_wire.specs.Spelling.{IsSpelling}
 use Rattle.mysql_wire.specs.Writing.{le_bytes}
 
 unfoldable pub server_command_code : ServerCommand → ℕ
-server_command_code variant.COM_SLEEP = 0
-server_command_code variant.COM_QUIT = 1
-server_command_code variant.COM_INIT_DB = 2
-server_command_code variant.COM_QUERY = 3
-server_command_code variant.COM_FIELD_LIST = 4
-server_command_code variant.COM_CREATE_DB = 5
-server_command_code variant.COM_DROP_DB = 6
-server_command_code variant.COM_REFRESH = 7
-server_command_code variant.COM_SHUTDOWN = 8
-server_command_code variant.COM_STATISTICS = 9
-server_command_code variant.COM_PROCESS_INFO = 10
-server_command_code variant.COM_CONNECT = 11
-server_command_code variant.COM_PROCESS_KILL = 12
-server_command_code variant.COM_DEBUG = 13
-server_command_code variant.COM_PING = 14
-server_command_code variant.COM_TIME = 15
-server_command_code variant.COM_DELAYED_INSERT = 16
-server_command_code variant.COM_CHANGE_USER = 17
-server_command_code variant.COM_BINLOG_DUMP = 18
-server_command_code variant.COM_TABLE_DUMP = 19
-server_command_code variant.COM_CONNECT_OUT = 20
-server_command_code variant.COM_REGISTER_SLAVE = 21
-server_command_code variant.COM_STMT_PREPARE = 22
-server_command_code variant.COM_STMT_EXECUTE = 23
-server_command_code variant.COM_STMT_SEND_LONG_DATA = 24
-server_command_code variant.COM_STMT_CLOSE = 25
-server_command_code variant.COM_STMT_RESET = 26
-server_command_code variant.COM_SET_OPTION = 27
-server_command_code variant.COM_STMT_FETCH = 28
-server_command_code variant.COM_DAEMON = 29
-server_command_code variant.COM_BINLOG_DUMP_GTID = 30
-server_command_code variant.COM_RESET_CONNECTION = 31
-server_command_code variant.COM_CLONE = 32
-server_command_code variant.COM_SUBSCRIBE_GROUP_REPLICATION_STREAM = 33
-server_command_code variant.COM_STMT_BULK_EXECUTE = 250
-server_command_code variant.COM_SLAVE_WORKER = 251
-server_command_code variant.COM_SLAVE_IO = 252
-server_command_code variant.COM_SLAVE_SQL = 253
-server_command_code variant.COM_MULTI = 254
+server_command_code variant.COM_SLEEP = COM_SLEEP
+server_command_code variant.COM_QUIT = COM_QUIT
+server_command_code variant.COM_INIT_DB = COM_INIT_DB
+server_command_code variant.COM_QUERY = COM_QUERY
+server_command_code variant.COM_FIELD_LIST = COM_FIELD_LIST
+server_command_code variant.COM_CREATE_DB = COM_CREATE_DB
+server_command_code variant.COM_DROP_DB = COM_DROP_DB
+server_command_code variant.COM_REFRESH = COM_REFRESH
+server_command_code variant.COM_SHUTDOWN = COM_SHUTDOWN
+server_command_code variant.COM_STATISTICS = COM_STATISTICS
+server_command_code variant.COM_PROCESS_INFO = COM_PROCESS_INFO
+server_command_code variant.COM_CONNECT = COM_CONNECT
+server_command_code variant.COM_PROCESS_KILL = COM_PROCESS_KILL
+server_command_code variant.COM_DEBUG = COM_DEBUG
+server_command_code variant.COM_PING = COM_PING
+server_command_code variant.COM_TIME = COM_TIME
+server_command_code variant.COM_DELAYED_INSERT = COM_DELAYED_INSERT
+server_command_code variant.COM_CHANGE_USER = COM_CHANGE_USER
+server_command_code variant.COM_BINLOG_DUMP = COM_BINLOG_DUMP
+server_command_code variant.COM_TABLE_DUMP = COM_TABLE_DUMP
+server_command_code variant.COM_CONNECT_OUT = COM_CONNECT_OUT
+server_command_code variant.COM_REGISTER_SLAVE = COM_REGISTER_SLAVE
+server_command_code variant.COM_STMT_PREPARE = COM_STMT_PREPARE
+server_command_code variant.COM_STMT_EXECUTE = COM_STMT_EXECUTE
+server_command_code variant.COM_STMT_SEND_LONG_DATA = COM_STMT_SEND_LONG_DATA
+server_command_code variant.COM_STMT_CLOSE = COM_STMT_CLOSE
+server_command_code variant.COM_STMT_RESET = COM_STMT_RESET
+server_command_code variant.COM_SET_OPTION = COM_SET_OPTION
+server_command_code variant.COM_STMT_FETCH = COM_STMT_FETCH
+server_command_code variant.COM_DAEMON = COM_DAEMON
+server_command_code variant.COM_BINLOG_DUMP_GTID = COM_BINLOG_DUMP_GTID
+server_command_code variant.COM_RESET_CONNECTION = COM_RESET_CONNECTION
+server_command_code variant.COM_CLONE = COM_CLONE
+server_command_code variant.COM_SUBSCRIBE_GROUP_REPLICATION_STREAM = COM_SUBSCRIBE_GROUP_REPLICATION_STREAM
+server_command_code variant.COM_STMT_BULK_EXECUTE = COM_STMT_BULK_EXECUTE
+server_command_code variant.COM_SLAVE_WORKER = COM_SLAVE_WORKER
+server_command_code variant.COM_SLAVE_IO = COM_SLAVE_IO
+server_command_code variant.COM_SLAVE_SQL = COM_SLAVE_SQL
+server_command_code variant.COM_MULTI = COM_MULTI
 
 abbrev pub server_commands : List ServerCommand
 server_commands =

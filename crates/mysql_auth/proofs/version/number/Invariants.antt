@@ -3,7 +3,7 @@ use Rattle.std.specs.Str.Parse.{digits_value}
 use Rattle.mysql_auth.specs.Version.{digit_count}
 use Rattle.mysql_auth.proofs.version.number.Given as goal
 
--- the digits so far, which write the number
+-- the digits so far, and the number that they denote
 pub record SoFar (text : List ℕ) (most number count : ℕ) : Type 0 where
   pub few : count ≤ most
   pub within : count ≤ length text

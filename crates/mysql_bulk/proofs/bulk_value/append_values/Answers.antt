@@ -9,7 +9,7 @@ use Rattle.mysql_bulk.specs.BulkValue.{cell_bytes, cell_of, cells_bytes}
 use Rattle.mysql_bulk.proofs.BulkValues.{bytes_from}
 use Rattle.mysql_bulk.proofs.bulk_value.append_values.Goals as goal
 
--- what an index past the end would give
+-- the value at an index past the end
 abbrev no_type : ParamType
 no_type = record { column_type = column.MYSQL_TYPE_DECIMAL; flags = record { 0 = 0; 1 = record {} } }
 

@@ -3,7 +3,7 @@ use Rattle.std.specs.Prelude.{vec_capacity}
 use Rattle.mysql_frames.specs.Frames.{most, FramedIn}
 use Rattle.mysql_frames.proofs.writer.write_long.Given as goal
 
--- what was written, before the frames of what is left, is the payload's frames
+-- the bytes written, followed by the frames of the rest, are the payload's frames
 abbrev pub Goes : ℕ → List ℕ → ℕ → List ℕ → List ℕ → Type 0
 Goes number payload now left done =
     (i after : ℕ) (bytes rest : List ℕ) → FramedIn most i now left after bytes rest → (j : ℕ) × FramedIn most j number payload after (done ++ bytes) rest

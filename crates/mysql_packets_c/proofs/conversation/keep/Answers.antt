@@ -5,7 +5,7 @@ use Rattle.mysql_conversation.specs.declared.packet_kind.InitialPhase.TheVariant
 use Rattle.mysql_packets_c.specs.Conversation.{number_of, opening_of}
 use Rattle.mysql_packets_c.proofs.conversation.keep.Goals as goal
 
--- the opening is that of its number
+-- the initial phase is the one with its number
 opening-again : (o : InitialPhase) → opening_of (number_of o) ≡ Some o
 opening-again Login = refl
 opening-again Commands = refl

@@ -4,7 +4,7 @@ use Rattle.mysql_recorder.specs.Recorded.{Recorded, longest}
 use Rattle.mysql_recorder.proofs.Fed.{IsFed}
 use Rattle.mysql_recorder.proofs.program.show.Given as goal
 
--- the reader gave an input, and what is made of it is written
+-- the reader returned an input, and its answer is written
 abbrev pub invariant-loop : goal.invariant-loop
 invariant-loop g l =
     IsFed ALL l.shown_in (longest l.fn.recording) (Recorded l.fn.recording [] []) l.recording

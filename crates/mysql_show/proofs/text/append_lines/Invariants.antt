@@ -3,7 +3,7 @@ use Rattle.mysql_show.specs.Appended.{Stays}
 use Rattle.mysql_show.specs.FieldText.{AreLines}
 use Rattle.mysql_show.proofs.text.append_lines.Given as goal
 
--- what is written, and then any lines to come
+-- the lines so far, followed by the remaining ones
 abbrev pub invariant-loop-field : goal.invariant-loop-field
 invariant-loop-field l = record {
   lines : (rest : List ℕ) → AreLines (drop l.field-index l.fields) rest → (text : List ℕ) × AreLines l.fields text × (string_bytes l.out ++ rest ≡ string_bytes l.initial.out ++ text);

@@ -17,7 +17,7 @@ use Rattle.mysql_conversation.proofs.conversation_state.ConversationState.row.Go
 rows_at : (s : ConversationState) (r : Request) → s.place ≡ 7 → request_at s.request ≡ Some r → state_at s ≡ Some (state.Rows r)
 rows_at s r e q = rw (e, q) refl
 
--- where rows come, one more was taken
+-- if rows are coming, one more was accepted
 row_more : (a : Agreed) (s : ConversationState) (p : List ℕ) (m : State) (k : PacketKind) → state_at s ≡ Some m → take_step a m Server p ≡ Some (k, m)
     → (items : List Packet) → TakenAt a s items → TakenAt a s (items ++ packet Server p k ∷ [])
 row_more a s p m k e h items t =

@@ -5,7 +5,7 @@ use Rattle.mysql_frames.specs.Frames.{most, FramedIn}
 use Rattle.mysql_frames.specs.Unfinished.{held}
 use Rattle.mysql_frames.proofs.unfinished.Unfinished.read_on.Goals as goal
 
--- what is held and left is what was held and there
+-- the bytes held and left are those held and given before
 moved : (P : ℕ → List ℕ → Type 0) (f g : ℕ) (a b x y more : List ℕ) → f ≡ g → a ++ b ≡ x ++ y → P g (x ++ y ++ more) → P f (a ++ (b ++ more))
 moved P f g a b x y more e s h = subst (λ n. P n (a ++ (b ++ more))) (sym e) (subst (λ bytes. P g bytes) (ap (λ t. t ++ more) (sym s) ∙ append_assoc a b more) h)
 

@@ -3,6 +3,6 @@ use Rattle.std.specs.List.{flat_map}
 use Rattle.mysql_program.specs.Gtid.{sid_line}
 use Rattle.mysql_program.proofs.commands.gtid.append_sids.Given as goal
 
--- what is written, and then the lines of the sids to come
+-- what is written, followed by the lines of the remaining sids
 abbrev pub invariant-loop-sid : goal.invariant-loop-sid
 invariant-loop-sid l = string_bytes l.out ++ flat_map sid_line (drop l.sid-index l.sids) ≡ string_bytes l.initial.out ++ flat_map sid_line l.sids
