@@ -3,7 +3,7 @@
 that it is for. Each call is made in memory.c, and each that hands out a place in a packet is made in hostile_twice.c.
 
 The offset of each field and the size of each struct, as Rattle lays a `repr(C)` struct out, are asserted by the C compiler over the
-header. Numbers are those of crates/mysql_wire, and of <mysql.h> where Debian's libmariadb-dev is installed. The last line is 'N passed, N
+header. Numbers are those of the tables in tables/, and of <mysql.h> where Debian's libmariadb-dev is installed. The last line is 'N passed, N
 failed'."""
 import re
 import shutil
@@ -13,19 +13,15 @@ import tempfile
 from pathlib import Path
 
 TOP = Path(__file__).resolve().parent.parent.parent
-sys.path.insert(0, str(TOP / "tests/probe"))
+sys.path[:0] = [str(TOP / "tests/probe"), str(TOP / "tools")]
+import tables
 from lines import summary
 
-CRATE, WIRE = TOP / "crates/mysql_packets_c/src", TOP / "crates/mysql_wire/specs"
-KIND_NAMES = TOP / "crates/mysql_conversation/specs/PacketKindTag.antt"
+CRATE = TOP / "crates/mysql_packets_c/src"
 HEADER = TOP / "include/mysql_packets.h"
 STRUCT = re.compile(r"((?:^///[^\n]*\n)+)#\[repr\(C\)\]\n(?:#\[[^\n]*\n)*pub struct (\w+)(?:<'a>)? \{(.*?)^\}", re.M | re.S)
 FIELD = re.compile(r"^    pub (\w+): ([^\n]+),$", re.M)
 EXPORT = re.compile(r'pub extern "C" fn (myp_\w+)(?:<[^>]*>)?\((.*?)\) -> u32', re.S)
-# names of the header that the library's table has otherwise
-RENAMED = {"MYP_CLIENT_PROGRESS": "CLIENT_PROGRESS_OBSOLETE", "MYP_CLIENT_MULTI_FACTOR_AUTHENTICATION": "MULTI_FACTOR_AUTHENTICATION",
-           "MYP_DUMP_NON_BLOCK": "BINLOG_DUMP_NON_BLOCK", "MYP_DUMP_THROUGH_POSITION": "BINLOG_THROUGH_POSITION",
-           "MYP_DUMP_THROUGH_GTID": "BINLOG_THROUGH_GTID"}
 # the flags, commands and kinds, each of which the library has
 IS_IN_THE_TABLE = re.compile(r"MYP_(CLIENT|MARIADB_CLIENT|SERVER|COM|DUMP|SESSION_TRACK|PACKET|COLUMN_FLAG|ERROR)_")
 SIZES = {"u8": 1, "u16": 2, "u32": 4, "u64": 8, "usize": 8}
@@ -91,12 +87,6 @@ def refused(lines, *flags):
     return [it for it in ran.stderr.splitlines() if "error" in it]
 
 
-def header_name(flag):
-    """The header's name of a flag of the library."""
-    column = re.fullmatch(r"(?!CLIENT_)(\w+)_FLAG", flag)
-    return f"MYP_COLUMN_FLAG_{column[1]}" if column else f"MYP_{flag}"
-
-
 def misnamed(header):
     """The constants that don't begin with the name of their enum, less a last word for what its values are."""
     found = []
@@ -117,20 +107,7 @@ def unmarked(header):
 
 def numbers_of_the_library():
     """The numbers that the library has, by the names of the header."""
-    found = {}
-    masks = re.findall(r"^([A-Z]\w+) = (\w+)$", (WIRE / "FlagMasks.antt").read_text(), re.M)
-    found.update({header_name(name): int(value.replace("_", ""), 0) for name, value in masks})
-    found.update({ours: found[f"MYP_{theirs}"] for ours, theirs in RENAMED.items()})
-    commands = re.findall(r"^server_command_code variant\.(COM_\w+) = (\d+)$", (WIRE / "ServerCommand.antt").read_text(), re.M)
-    found.update({f"MYP_{name}": int(value) for name, value in commands})
-    types = re.findall(r"^column_type_code variant\.MYSQL_(TYPE_\w+) = (\d+)$", (WIRE / "ColumnType.antt").read_text(), re.M)
-    found.update({f"MYP_{name}": int(value) for name, value in types})
-    states = re.findall(r"^session_state_type_code variant\.(\w+) = (\d+)$", (WIRE / "SessionStateType.antt").read_text(), re.M)
-    found.update({f"MYP_{name}": int(value) for name, value in states})
-    indicators = re.findall(r"^mariadb_bulk_indicator_code variant\.BULK_(INDICATOR_\w+) = (\d+)$", (WIRE / "MariadbBulkIndicator.antt").read_text(), re.M)
-    found.update({f"MYP_{name}": int(value) for name, value in indicators})
-    packets = re.findall(r"^index name\.(\w+) = (\d+)$", KIND_NAMES.read_text(), re.M)
-    found.update({f"MYP_PACKET_{re.sub('(?<!^)(?=[A-Z])', '_', name).upper()}": int(value) for name, value in packets})
+    found = {row.c: row.number for name in tables.ENUMS.values() for row in tables.table(name)}
     codes = re.findall(r"^pub\(crate\) const (\w+): u32 = (\d+);$", (CRATE / "code.rt").read_text(), re.M)
     found.update({f"MYP_{name}" if name in ("OK", "END") else f"MYP_ERROR_{name}": int(value) for name, value in codes})
     return found

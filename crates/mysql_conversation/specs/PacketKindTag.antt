@@ -1,4 +1,4 @@
--- The names of packet kinds.
+-- The names of packet kinds: written by tools/tables.py from tables/packet_kinds.txt.
 use Rattle.std.specs.Prelude.{ℕ, List, codes, Bool, false, ◌==◌, ◌||◌, [], ◌∷◌}
 use Rattle.mysql_conversation.specs.declared.packet_kind.RowFormat.TheVariants.{Text, Binary}
 use Rattle.mysql_conversation.specs.declared.packet_kind.PacketKind.{PacketKind}

@@ -1,4 +1,4 @@
-//! Kinds of packets without data.
+//! Kinds of packets without data: written by tools/tables.py from tables/packet_kinds.txt.
 
 ghost use Rattle.std.specs.Prelude.{◌≡◌};
 ghost use Rattle.mysql_conversation.specs.PacketKindTag as spec;
@@ -14,35 +14,63 @@ use crate::packet_kind::{PacketKind, RowFormat};
 /// ```
 #[derive(Clone, Copy, Debug, PartialEq, Eq)]
 pub enum PacketKindTag {
+    /// The server's greeting, the initial handshake.
     Handshake,
+    /// A request for TLS.
     SslRequest,
+    /// The client's response to the greeting.
     Login,
+    /// Of the server, while a client logs in or changes its user: a switch of the plugin.
     AuthSwitch,
+    /// A switch to the old plugin, the byte `fe` alone.
     OldAuthSwitch,
+    /// Further authentication data, after the byte `01`.
     AuthMoreData,
+    /// A request for the next factor, after the byte `02`.
     AuthNextFactor,
+    /// Data of an authentication plugin of the server.
     AuthPluginData,
+    /// The client's answer to any of these.
     AuthData,
+    /// A command, with its first byte.
     Command,
+    /// An OK packet.
     Ok,
+    /// An error. It ends what a command asked for.
     Error,
+    /// An error that answers no command: the server ends the connection.
     UnsolicitedError,
+    /// A report of progress.
     ProgressReport,
+    /// The server asks for a local file.
     LocalInfile,
+    /// A part of the file.
     InfileContent,
+    /// The file's end: an empty packet.
     InfileEnd,
+    /// The number of columns, and whether their definitions follow.
     ColumnCount,
+    /// The definition of a column or a parameter.
     Column,
+    /// The definition of a column in the answer to `COM_FIELD_LIST`, with its default value.
     FieldListColumn,
+    /// An EOF packet: the end of definitions and of rows, and of a stream of events under any capabilities.
     Eof,
+    /// The end of rows as an OK packet, under `CLIENT_DEPRECATE_EOF`.
     OkTerminator,
+    /// A row of the text protocol.
     TextRow,
+    /// A row of the binary protocol.
     BinaryRow,
+    /// A prepared statement: the counts of its columns and of its parameters, and whether their definitions follow.
     PrepareOk,
+    /// The text in the answer to `COM_STATISTICS`.
     Statistics,
+    /// An event of a stream.
     BinlogEvent,
+    /// A replica's acknowledgement of an event.
     SemiSyncAck,
-    /// After `COM_CLONE`, a packet of the clone plugin's own protocol.
+    /// After `COM_CLONE`, a packet of the clone plugin's own protocol, of either side.
     Clone,
 }
 

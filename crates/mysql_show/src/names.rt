@@ -1,4 +1,4 @@
-//! The names of commands.
+//! The names of commands: written by tools/tables.py from tables/commands.txt.
 
 ghost use Rattle.std.specs.Prelude.{◌≡◌};
 ghost use Rattle.mysql_show.specs.CommandName.{name_of};

@@ -1,4 +1,4 @@
--- The types of columns and values.
+-- The types of columns and values: written by tools/tables.py from tables/column_types.txt.
 use Rattle.std.specs.Prelude.{◌≡◌, ℕ, List, [], ◌∷◌, Option, Some, refl}
 use Rattle.mysql_wire.specs.declared.codes.column_type.ColumnType.{ColumnType}
 use Rattle.mysql_wire.specs.declared.codes.column_type.ColumnType.TheVariants as variant

@@ -1,4 +1,4 @@
--- The first bytes of commands, each named like its variant in src/codes/server_command.rt.
+-- The first bytes of commands: written by tools/tables.py from tables/commands.txt.
 use Rattle.std.specs.Prelude.{ℕ}
 
 abbrev pub COM_SLEEP : ℕ

@@ -1,4 +1,4 @@
--- The masks of the flags, each named like its constant in src/flags.
+-- The masks of the flags, each named like its constant in src/flags: written by tools/tables.py from the tables of the flags in tables/.
 use Rattle.std.specs.Prelude.{ℕ}
 
 -- ---- BinlogDumpFlags

@@ -1,4 +1,4 @@
--- How a value in a bulk request is sent.
+-- How a value in a bulk request is sent: written by tools/tables.py from tables/mariadb_bulk_indicators.txt.
 use Rattle.std.specs.Prelude.{◌≡◌, ℕ, List, [], ◌∷◌, Option, Some, refl}
 use Rattle.mysql_wire.specs.declared.codes.mariadb_bulk_indicator.MariadbBulkIndicator.{MariadbBulkIndicator}
 use Rattle.mysql_wire.specs.declared.codes.mariadb_bulk_indicator.MariadbBulkIndicator.TheVariants as variant

@@ -1,4 +1,4 @@
--- The commands.
+-- The commands: written by tools/tables.py from tables/commands.txt.
 use Rattle.std.specs.Prelude.{◌≡◌, ℕ, List, [], ◌∷◌, Option, Some, refl}
 use Rattle.mysql_wire.specs.declared.codes.server_command.ServerCommand.{ServerCommand}
 use Rattle.mysql_wire.specs.declared.codes.server_command.ServerCommand.TheVariants as variant

@@ -1,4 +1,4 @@
--- Which part of a session's state has changed.
+-- Which part of a session's state has changed: written by tools/tables.py from tables/session_state_types.txt.
 use Rattle.std.specs.Prelude.{◌≡◌, ℕ, List, [], ◌∷◌, Option, Some, refl}
 use Rattle.mysql_wire.specs.declared.codes.session_state_type.SessionStateType.{SessionStateType}
 use Rattle.mysql_wire.specs.declared.codes.session_state_type.SessionStateType.TheVariants as variant

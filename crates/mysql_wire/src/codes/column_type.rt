@@ -1,4 +1,4 @@
-//! The types of columns and values.
+//! The types of columns and values: written by tools/tables.py from tables/column_types.txt.
 
 ghost use Rattle.std.specs.Prelude.{◌≡◌};
 ghost use Rattle.mysql_wire.specs.Codes.{known_or};
@@ -22,7 +22,7 @@ pub enum ColumnType {
     MYSQL_TYPE_FLOAT = 4,
     /// A float of eight bytes.
     MYSQL_TYPE_DOUBLE = 5,
-    /// No value.
+    /// NULL.
     MYSQL_TYPE_NULL = 6,
     /// A date and a time.
     MYSQL_TYPE_TIMESTAMP = 7,
@@ -38,31 +38,31 @@ pub enum ColumnType {
     MYSQL_TYPE_DATETIME = 12,
     /// A year, as an integer of two bytes.
     MYSQL_TYPE_YEAR = 13,
-    /// Reserved: accepted, and no more is known of it.
+    /// Used inside servers.
     MYSQL_TYPE_CODE_14 = 14,
     /// A string.
     MYSQL_TYPE_VARCHAR = 15,
     /// Bits.
     MYSQL_TYPE_BIT = 16,
-    /// Reserved: accepted, and no more is known of it.
+    /// Used inside servers.
     MYSQL_TYPE_CODE_17 = 17,
-    /// Reserved: accepted, and no more is known of it.
+    /// Used inside servers.
     MYSQL_TYPE_CODE_18 = 18,
-    /// Reserved: accepted, and no more is known of it.
+    /// Used inside servers.
     MYSQL_TYPE_CODE_19 = 19,
-    /// Reserved: accepted, and no more is known of it.
+    /// Used inside servers.
     MYSQL_TYPE_CODE_20 = 20,
     /// A vector of numbers.
     MYSQL_TYPE_VECTOR = 242,
-    /// Reserved: accepted, and no more is known of it.
+    /// Used inside servers.
     MYSQL_TYPE_CODE_243 = 243,
     /// A JSON document.
     MYSQL_TYPE_JSON = 245,
     /// A decimal number, as text.
     MYSQL_TYPE_NEWDECIMAL = 246,
-    /// One of some strings.
+    /// One string of a set.
     MYSQL_TYPE_ENUM = 247,
-    /// Some of some strings.
+    /// Several strings of a set.
     MYSQL_TYPE_SET = 248,
     /// Up to 2^8 - 1 bytes.
     MYSQL_TYPE_TINY_BLOB = 249,
@@ -76,7 +76,7 @@ pub enum ColumnType {
     MYSQL_TYPE_VAR_STRING = 253,
     /// A string.
     MYSQL_TYPE_STRING = 254,
-    /// A shape.
+    /// A geometry.
     MYSQL_TYPE_GEOMETRY = 255,
 }
 

@@ -1,4 +1,4 @@
-//! How a value of a bulk request is given.
+//! How a value of a bulk request is given: written by tools/tables.py from tables/mariadb_bulk_indicators.txt.
 
 ghost use Rattle.std.specs.Prelude.{◌≡◌};
 ghost use Rattle.mysql_wire.specs.Codes.{known_or};

@@ -1,4 +1,4 @@
-//! The commands.
+//! The commands: written by tools/tables.py from tables/commands.txt.
 
 ghost use Rattle.std.specs.Prelude.{◌≡◌};
 ghost use Rattle.mysql_wire.specs.Codes.{known_or};
@@ -14,83 +14,83 @@ use thiserror::Error;
 /// ```
 #[derive(Clone, Copy, Debug, PartialEq, Eq, Hash)]
 pub enum ServerCommand {
-    /// Nothing: servers use it inside.
+    /// Used inside servers; an empty packet counts as this command.
     COM_SLEEP = 0,
-    /// The client ends the connection.
+    /// Ends the connection.
     COM_QUIT = 1,
-    /// The default schema is set.
+    /// Sets the default schema.
     COM_INIT_DB = 2,
-    /// A query, as text.
+    /// Runs a query, given as text.
     COM_QUERY = 3,
-    /// The columns of a table.
+    /// Lists the columns of a table.
     COM_FIELD_LIST = 4,
     /// Creates a schema.
     COM_CREATE_DB = 5,
-    /// A schema is dropped.
+    /// Drops a schema.
     COM_DROP_DB = 6,
-    /// Caches are emptied, logs are begun anew.
+    /// Empties caches and begins logs anew.
     COM_REFRESH = 7,
-    /// The server ends.
+    /// Shuts the server down.
     COM_SHUTDOWN = 8,
-    /// A line about the server.
+    /// Returns a line of text about the server.
     COM_STATISTICS = 9,
-    /// The sessions of the server.
+    /// Lists the server's sessions.
     COM_PROCESS_INFO = 10,
-    /// Nothing: servers use it inside.
+    /// Used inside servers.
     COM_CONNECT = 11,
-    /// A session is ended.
+    /// Ends a session.
     COM_PROCESS_KILL = 12,
-    /// The server writes into its log what it does.
+    /// Makes the server write its state into its log.
     COM_DEBUG = 13,
-    /// Whether the server is there.
+    /// Asks whether the server responds.
     COM_PING = 14,
-    /// Nothing: servers use it inside.
+    /// Used inside servers.
     COM_TIME = 15,
-    /// Nothing: servers use it inside.
+    /// Used inside servers.
     COM_DELAYED_INSERT = 16,
-    /// Another user in the same connection.
+    /// Changes the user of the connection.
     COM_CHANGE_USER = 17,
-    /// The binary log from a position.
+    /// Requests the binary log from a position.
     COM_BINLOG_DUMP = 18,
-    /// The content of a table.
+    /// Requests the content of a table.
     COM_TABLE_DUMP = 19,
-    /// Nothing: servers use it inside.
+    /// Used inside servers.
     COM_CONNECT_OUT = 20,
-    /// A replica says who it is.
+    /// Registers a replica.
     COM_REGISTER_SLAVE = 21,
-    /// A statement is prepared.
+    /// Prepares a statement.
     COM_STMT_PREPARE = 22,
-    /// A prepared statement is executed.
+    /// Executes a prepared statement.
     COM_STMT_EXECUTE = 23,
-    /// A parameter's data, ahead of the execution.
+    /// Sends a parameter's data ahead of the execution.
     COM_STMT_SEND_LONG_DATA = 24,
-    /// A prepared statement is dropped.
+    /// Drops a prepared statement.
     COM_STMT_CLOSE = 25,
-    /// Data that was sent ahead is dropped, and the cursor is closed.
+    /// Drops data that was sent ahead, and closes the cursor.
     COM_STMT_RESET = 26,
-    /// Whether a query may hold several statements.
+    /// Sets whether a query may hold several statements.
     COM_SET_OPTION = 27,
-    /// Rows of a cursor.
+    /// Fetches rows of a cursor.
     COM_STMT_FETCH = 28,
-    /// Nothing: servers use it inside.
+    /// Used inside servers.
     COM_DAEMON = 29,
-    /// The binary log without the transactions that the replica has (MySQL).
+    /// Requests the binary log without the transactions that the replica has (MySQL).
     COM_BINLOG_DUMP_GTID = 30,
-    /// The session is as after its login.
+    /// Resets the session to its state after the login.
     COM_RESET_CONNECTION = 31,
-    /// The server's data is copied (MySQL).
+    /// Copies the server's data (MySQL).
     COM_CLONE = 32,
-    /// The stream of group replication (MySQL).
+    /// Requests the stream of group replication (MySQL).
     COM_SUBSCRIBE_GROUP_REPLICATION_STREAM = 33,
-    /// A prepared statement is executed for many rows (MariaDB).
+    /// Executes a prepared statement for many rows (MariaDB).
     COM_STMT_BULK_EXECUTE = 250,
-    /// Nothing: MariaDB servers use it inside.
+    /// Used inside MariaDB servers.
     COM_SLAVE_WORKER = 251,
-    /// Nothing: MariaDB servers use it inside.
+    /// Used inside MariaDB servers.
     COM_SLAVE_IO = 252,
-    /// Nothing: MariaDB servers use it inside.
+    /// Used inside MariaDB servers.
     COM_SLAVE_SQL = 253,
-    /// Several commands at once (MariaDB). No server takes it today.
+    /// Sends several commands at once (MariaDB). No server accepts it today.
     COM_MULTI = 254,
 }
 

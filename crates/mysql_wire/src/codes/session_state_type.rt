@@ -1,4 +1,4 @@
-//! The kinds of session state changes.
+//! The kinds of session state changes: written by tools/tables.py from tables/session_state_types.txt.
 
 ghost use Rattle.std.specs.Prelude.{◌≡◌};
 ghost use Rattle.mysql_wire.specs.Codes.{known_or};

@@ -1,4 +1,4 @@
-//! How a binary log is sent.
+//! How a binary log is sent: written by tools/tables.py from tables/binlog_dump_flags.txt.
 
 ghost use Rattle.std.specs.Prelude.{[], ◌∷◌, codes};
 ghost use Rattle.mysql_wire.specs.FlagMasks.{BINLOG_DUMP_NON_BLOCK, BINLOG_THROUGH_POSITION, BINLOG_THROUGH_GTID};

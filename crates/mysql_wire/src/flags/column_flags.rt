@@ -1,4 +1,4 @@
-//! The attributes of a column.
+//! The attributes of a column: written by tools/tables.py from tables/column_flags.txt.
 
 ghost use Rattle.std.specs.Prelude.{[], ◌∷◌, codes};
 ghost use Rattle.mysql_wire.specs.FlagMasks.{NOT_NULL_FLAG, PRI_KEY_FLAG, UNIQUE_KEY_FLAG, MULTIPLE_KEY_FLAG, BLOB_FLAG, UNSIGNED_FLAG, ZEROFILL_FLAG, BINARY_FLAG, ENUM_FLAG, AUTO_INCREMENT_FLAG, TIMESTAMP_FLAG, SET_FLAG, NO_DEFAULT_VALUE_FLAG, ON_UPDATE_NOW_FLAG, PART_KEY_FLAG, NUM_FLAG};

@@ -1,4 +1,4 @@
-//! Which cursor a statement opens.
+//! Which cursor a statement opens: written by tools/tables.py from tables/cursor_type.txt.
 
 ghost use Rattle.std.specs.Prelude.{[], ◌∷◌, codes};
 ghost use Rattle.mysql_wire.specs.FlagMasks.{CURSOR_TYPE_NO_CURSOR, CURSOR_TYPE_READ_ONLY, CURSOR_TYPE_FOR_UPDATE, CURSOR_TYPE_SCROLLABLE, PARAMETER_COUNT_AVAILABLE};

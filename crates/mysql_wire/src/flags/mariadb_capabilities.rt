@@ -1,4 +1,4 @@
-//! The extended capabilities of a MariaDB client and server.
+//! The extended capabilities of a MariaDB client and server: written by tools/tables.py from tables/mariadb_capabilities.txt.
 
 ghost use Rattle.std.specs.Prelude.{[], ◌∷◌, codes};
 ghost use Rattle.mysql_wire.specs.FlagMasks.{MARIADB_CLIENT_PROGRESS, MARIADB_CLIENT_COM_MULTI, MARIADB_CLIENT_STMT_BULK_OPERATIONS, MARIADB_CLIENT_EXTENDED_METADATA, MARIADB_CLIENT_CACHE_METADATA, MARIADB_CLIENT_BULK_UNIT_RESULTS};

@@ -1,4 +1,4 @@
-//! The flags of a bulk execution.
+//! The flags of a bulk execution: written by tools/tables.py from tables/stmt_bulk_execute_flags.txt.
 
 ghost use Rattle.std.specs.Prelude.{[], ◌∷◌, codes};
 ghost use Rattle.mysql_wire.specs.FlagMasks.{SEND_UNIT_RESULTS, SEND_TYPES_TO_SERVER};

@@ -1,4 +1,4 @@
-//! The flags of one parameter of a statement.
+//! The flags of one parameter of a statement: written by tools/tables.py from tables/stmt_execute_param_flags.txt.
 
 ghost use Rattle.std.specs.Prelude.{[], ◌∷◌, codes};
 ghost use Rattle.mysql_wire.specs.FlagMasks.{UNSIGNED};

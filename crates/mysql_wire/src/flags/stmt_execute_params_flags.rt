@@ -1,4 +1,4 @@
-//! How the parameters of a statement are sent.
+//! How the parameters of a statement are sent: written by tools/tables.py from tables/stmt_execute_params_flags.txt.
 
 ghost use Rattle.std.specs.Prelude.{[], ◌∷◌, codes};
 ghost use Rattle.mysql_wire.specs.FlagMasks.{NEW_PARAMS_BOUND};
