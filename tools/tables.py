@@ -207,6 +207,13 @@ def command_codes():
     return f"-- The first bytes of commands: {written_by('commands')}.\nuse Rattle.std.specs.Prelude.{{ℕ}}\n{codes}"
 
 
+def command_bytes():
+    """src/codes/command_code.rt: the first bytes of commands, as constants."""
+    constants = "".join(f"\n/// {row.meaning}\npub const {row.name}: u8 = 0x{row.number:02x};\n" for row in table("commands"))
+    return f"""//! The first bytes of commands, for patterns and types: {written_by("commands")}.
+{constants}"""
+
+
 def command_names():
     """mysql_show: the names of commands."""
     rows, cases = table("commands"), ""
@@ -459,6 +466,7 @@ def files():
         yield WIRE / f"src/codes/{it.stem}.rt", code_source(it)
         yield WIRE / f"specs/{it.enum}.antt", code_spec(it)
     yield WIRE / "specs/CommandCodes.antt", command_codes()
+    yield WIRE / "src/codes/command_code.rt", command_bytes()
     yield from zip((SHOW / "src/names.rt", SHOW / "specs/CommandName.antt"), command_names())
     for it in FLAGS:
         yield WIRE / f"src/flags/{it.table}.rt", flags_source(it)
@@ -468,7 +476,7 @@ def files():
 
 
 def main(*words):
-    late = [(path, text) for path, text in files() if path.read_text() != text]
+    late = [(path, text) for path, text in files() if not path.exists() or path.read_text() != text]
     for path, text in late:
         if words == ("--check",):
             print(f"{path.relative_to(TOP)} is out of date: run tools/tables.py")

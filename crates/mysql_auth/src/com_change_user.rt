@@ -15,6 +15,7 @@ use crate::com_change_user_more_data::ComChangeUserMoreData;
 use crate::com_change_user_ref::ComChangeUserRef;
 use crate::faults::InvalidComChangeUserHeader;
 use crate::for_session::ForSession;
+use mysql_wire::command_code::COM_CHANGE_USER;
 use mysql_wire::{
     AnyWidth, CapabilityFlags, ConstU8, FaultOf, MyDeserialize, NullBytes, ParseBuf, Parts,
     RawBytes, Sink, U8Bytes, parts,
@@ -23,7 +24,7 @@ use std::alloc::{AllocError, Global};
 use std::borrow::CowSlice;
 
 /// The first byte of a change of user: `11`.
-pub type ComChangeUserHeader = ConstU8<InvalidComChangeUserHeader, 0x11>;
+pub type ComChangeUserHeader = ConstU8<InvalidComChangeUserHeader, COM_CHANGE_USER>;
 
 /// `COM_CHANGE_USER`: changes the user of a session and resets its state.
 ///

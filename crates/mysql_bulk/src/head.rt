@@ -9,6 +9,7 @@ ghost use Rattle.mysql_bulk.specs.HeadTypes.{types_block};
 ghost use Rattle.mysql_bulk.specs.RequestForm.{head_start, keeps_lists};
 
 use mysql_values::ParamType;
+use mysql_wire::command_code::COM_STMT_BULK_EXECUTE;
 use mysql_wire::{
     ColumnFlags, ColumnType, Const, ConstFault, ConstU8, FaultOf, Flags, LeU16, LeU32, ParseBuf,
     RawInt, Seq, StmtBulkExecuteFlags, StmtExecuteParamFlags, Unknown,
@@ -28,7 +29,7 @@ impl ConstFault for InvalidComStmtBulkExecuteHeader {
 }
 
 /// The first byte of a bulk request.
-pub type ComStmtBulkExecuteHeader = ConstU8<InvalidComStmtBulkExecuteHeader, 0xfa>;
+pub type ComStmtBulkExecuteHeader = ConstU8<InvalidComStmtBulkExecuteHeader, COM_STMT_BULK_EXECUTE>;
 
 /// The statement's number, the flags, and the types where they are sent.
 #[derive(Drop)]

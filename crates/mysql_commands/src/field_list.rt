@@ -5,6 +5,7 @@ ghost use Rattle.std.specs.Prelude.{◌≡◌, refl};
 ghost use Rattle.mysql_commands.specs.FieldList as spec;
 
 use crate::bytes_ref::BytesRef;
+use mysql_wire::command_code::COM_FIELD_LIST;
 use mysql_wire::{
     AnyWidth, BytesRepr, ConstFault, ConstU8, FaultOf, MyDeserialize, NullBytes, ParseBuf, Parts,
     RawBytes, Sink, parts,
@@ -22,7 +23,7 @@ impl ConstFault for InvalidComFieldListHeader {
 }
 
 /// The first byte of a request for columns: `04`.
-pub type ComFieldListHeader = ConstU8<InvalidComFieldListHeader, 0x04>;
+pub type ComFieldListHeader = ConstU8<InvalidComFieldListHeader, COM_FIELD_LIST>;
 
 /// `COM_FIELD_LIST`: the definitions of a table's columns.
 ///

@@ -8,6 +8,7 @@ ghost use Rattle.mysql_commands.specs.Query as spec;
 use crate::bytes_ref::BytesRef;
 use crate::query_attributes::QueryAttributesRef;
 use crate::with_raw_bytes::WithRawBytes;
+use mysql_wire::command_code::COM_QUERY;
 use mysql_wire::{
     AnyWidth, CapabilityFlags, ConstFault, ConstU8, FaultOf, Flags, MyDeserialize, ParseBuf, Parts,
     Sink, parts,
@@ -24,7 +25,7 @@ impl ConstFault for InvalidComQueryHeader {
 }
 
 /// The first byte of a query: `03`.
-pub type ComQueryHeader = ConstU8<InvalidComQueryHeader, 0x03>;
+pub type ComQueryHeader = ConstU8<InvalidComQueryHeader, COM_QUERY>;
 
 /// `COM_QUERY`: a query as text, which stays in the packet.
 ///

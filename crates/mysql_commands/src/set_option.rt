@@ -5,6 +5,7 @@ ghost use Rattle.std.specs.Prelude.{◌≡◌};
 ghost use Rattle.mysql_wire.specs.Form.{size-block};
 ghost use Rattle.mysql_commands.specs.SetOption as spec;
 
+use mysql_wire::command_code::COM_SET_OPTION;
 use mysql_wire::{
     ConstFault, ConstU8, FaultOf, Fixed, LeU16, MyDeserialize, ParseBuf, Parts, RawInt, Sink, parts,
 };
@@ -20,7 +21,7 @@ impl ConstFault for InvalidComSetOptionHeader {
 }
 
 /// The first byte of the choice of an option: `1b`.
-pub type ComSetOptionHeader = ConstU8<InvalidComSetOptionHeader, 0x1b>;
+pub type ComSetOptionHeader = ConstU8<InvalidComSetOptionHeader, COM_SET_OPTION>;
 
 /// `enum_mysql_set_option`: what a client chooses for its session.
 ///

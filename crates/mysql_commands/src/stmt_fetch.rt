@@ -5,6 +5,7 @@ ghost use Rattle.std.specs.Prelude.{◌≡◌};
 ghost use Rattle.mysql_wire.specs.Form.{size-block};
 ghost use Rattle.mysql_commands.specs.StmtFetch as spec;
 
+use mysql_wire::command_code::COM_STMT_FETCH;
 use mysql_wire::{
     ConstFault, ConstU8, FaultOf, Fixed, LeU32, MyDeserialize, ParseBuf, Parts, RawInt, Sink, parts,
 };
@@ -20,7 +21,7 @@ impl ConstFault for InvalidComStmtFetchHeader {
 }
 
 /// The first byte of a request for rows: `1c`.
-pub type ComStmtFetchHeader = ConstU8<InvalidComStmtFetchHeader, 0x1c>;
+pub type ComStmtFetchHeader = ConstU8<InvalidComStmtFetchHeader, COM_STMT_FETCH>;
 
 /// `COM_STMT_FETCH`: a given number of rows of the cursor that an execution opened.
 ///

@@ -5,6 +5,7 @@ ghost use Rattle.std.specs.Prelude.{◌≡◌};
 ghost use Rattle.mysql_wire.specs.Form.{size-block};
 ghost use Rattle.mysql_commands.specs.StmtReset as spec;
 
+use mysql_wire::command_code::COM_STMT_RESET;
 use mysql_wire::{
     ConstFault, ConstU8, FaultOf, Fixed, LeU32, MyDeserialize, ParseBuf, Parts, RawInt, Sink, parts,
 };
@@ -20,7 +21,7 @@ impl ConstFault for InvalidComStmtResetHeader {
 }
 
 /// The first byte of a reset: `1a`.
-pub type ComStmtResetHeader = ConstU8<InvalidComStmtResetHeader, 0x1a>;
+pub type ComStmtResetHeader = ConstU8<InvalidComStmtResetHeader, COM_STMT_RESET>;
 
 /// `COM_STMT_RESET`: the data that was sent ahead for a prepared statement is dropped, and its cursor is closed.
 ///

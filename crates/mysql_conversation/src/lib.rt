@@ -6,7 +6,6 @@
 #![tactic(auto)]
 
 mod agreed;
-mod command_code;
 mod conversation;
 mod conversation_state;
 mod expected;

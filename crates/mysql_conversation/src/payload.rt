@@ -8,7 +8,6 @@ ghost use Rattle.mysql_conversation.specs.Payloads as payloads;
 ghost use Rattle.mysql_conversation.specs.Standing as standing;
 
 use crate::agreed::{asks_factors, deprecates_eof, reports_progress};
-use crate::command_code as com;
 use crate::packet_kind::{PacketKind, RowFormat};
 use crate::state::{Answer, Command, Line, Reply, Request};
 use bitflags::Flags;
@@ -17,8 +16,11 @@ use mysql_replies::{
     ColumnCount, CommonOkPacket, OkPacketRefDeserializer, OldEofPacket, ResultSetTerminator,
     SessionCapabilities,
 };
-use mysql_wire::{FaultOf, ParseBuf, StatusFlags};
+use mysql_wire::{FaultOf, ParseBuf, StatusFlags, command_code as com};
 use std::alloc::Global;
+
+/// The mark of semi-synchronous replication, which begins an acknowledgement.
+pub(crate) const SEMI_SYNC_MARK: u8 = 0xef;
 
 #[inline(always)]
 pub(crate) fn has_more(status: StatusFlags) -> bool
@@ -302,7 +304,7 @@ fn answering(code: u8, cursor: bool) -> Option<Answer>
         com::COM_CHANGE_USER => Some(Answer::Authentication),
         com::COM_BINLOG_DUMP | com::COM_BINLOG_DUMP_GTID => Some(Answer::Events),
         com::COM_CLONE => Some(Answer::Clone),
-        com::SEMI_SYNC_MARK => None,
+        SEMI_SYNC_MARK => None,
         _ => Some(Answer::SessionError),
     }
 }

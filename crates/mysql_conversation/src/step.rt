@@ -6,11 +6,10 @@ ghost use Rattle.mysql_conversation.specs.declared.state.State.TheVariants as sp
 ghost use Rattle.mysql_conversation.specs.declared.packet_kind.Side.TheVariants.{Client, Server};
 
 use crate::agreed::deprecates_eof;
-use crate::command_code::SEMI_SYNC_MARK;
 use crate::packet_kind::{InitialPhase, PacketKind, RowFormat, Side, UnexpectedPacket};
 use crate::payload::{
-    authentication_kind, command_of, first_is, has_more, is_report, is_row_by_first, line_of,
-    ok_status, old_end_of, reply_of,
+    SEMI_SYNC_MARK, authentication_kind, command_of, first_is, has_more, is_report,
+    is_row_by_first, line_of, ok_status, old_end_of, reply_of,
 };
 use crate::results::{
     acknowledgement_step, definitions_end_step, event_step, infile_reply_step, last_ok, last_step,

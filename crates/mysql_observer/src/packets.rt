@@ -12,6 +12,7 @@ ghost use Rattle.mysql_observer.specs.Records as records;
 
 use mysql_conversation::{PacketKind, Side};
 use mysql_replies::SessionCapabilities;
+use mysql_wire::command_code::{COM_STMT_BULK_EXECUTE, COM_STMT_EXECUTE};
 use mysql_wire::{FaultOf, LeU32, ParseBuf, RawInt};
 use std::alloc::Global;
 
@@ -53,7 +54,7 @@ pub(crate) fn front_of(payload: &[u8]) -> &[u8]
     ensures { result.now ≡ spec.front payload.now }
 {
     let code = code_of(payload);
-    if code == 0x17 || code == 0xfa {
+    if code == COM_STMT_EXECUTE || code == COM_STMT_BULK_EXECUTE {
         payload
     } else {
         &payload[..payload.len().min(7)]
@@ -65,7 +66,7 @@ pub(crate) fn is_execution(kind: PacketKind) -> bool
     ensures { result ≡ spec.is_execution kind }
 {
     match kind {
-        PacketKind::Command(code) => code == 0x17,
+        PacketKind::Command(code) => code == COM_STMT_EXECUTE,
         _ => false,
     }
 }

@@ -5,5 +5,5 @@ pub use mysql_wire::{
     BinlogDumpFlags, CapabilityFlags, ColumnFlags, ColumnType, CursorType, FlagNames, FlagWord,
     Flags, MariadbBulkIndicator, MariadbCapabilities, ServerCommand, SessionStateType, StatusFlags,
     StmtBulkExecuteFlags, StmtExecuteParamFlags, StmtExecuteParamsFlags, UnknownColumnType,
-    UnknownMariadbBulkIndicator, UnknownServerCommand, UnknownSessionStateType,
+    UnknownMariadbBulkIndicator, UnknownServerCommand, UnknownSessionStateType, command_code,
 };

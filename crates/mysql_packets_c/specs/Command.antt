@@ -6,6 +6,7 @@ use Rattle.mysql_commands.specs.Query as query
 use Rattle.mysql_commands.specs.Unknown as unknown
 use Rattle.mysql_commands.specs.declared.command.Command.{Command}
 use Rattle.mysql_commands.specs.declared.command.Command.TheVariants as variant
+use Rattle.mysql_wire.specs.CommandCodes.{COM_QUIT, COM_INIT_DB, COM_QUERY, COM_FIELD_LIST, COM_CREATE_DB, COM_DROP_DB, COM_REFRESH, COM_SHUTDOWN, COM_STATISTICS, COM_PROCESS_INFO, COM_PROCESS_KILL, COM_DEBUG, COM_PING, COM_CHANGE_USER, COM_BINLOG_DUMP, COM_TABLE_DUMP, COM_REGISTER_SLAVE, COM_STMT_PREPARE, COM_STMT_EXECUTE, COM_STMT_SEND_LONG_DATA, COM_STMT_CLOSE, COM_STMT_RESET, COM_SET_OPTION, COM_STMT_FETCH, COM_BINLOG_DUMP_GTID, COM_RESET_CONNECTION, COM_STMT_BULK_EXECUTE}
 use Rattle.mysql_packets_c.specs.Input.{used_of}
 use Rattle.mysql_packets_c.specs.declared.command.CCommand.{CCommand}
 
@@ -29,33 +30,33 @@ with_number code number = record { code = code; text = []; wildcard = []; number
 
 -- the fields of a command
 abbrev pub fields_of : Command → Fields
-fields_of variant.Quit = alone 1
-fields_of (variant.InitDb schema) = with_text 2 schema
-fields_of (variant.Query p) = with_text 3 (query.text p)
-fields_of (variant.FieldList p) = record { code = 4; text = field_list.table p; wildcard = field_list.wildcard p; number = 0; rows = 0 }
-fields_of (variant.CreateDb schema) = with_text 5 schema
-fields_of (variant.DropDb schema) = with_text 6 schema
-fields_of (variant.Refresh options) = with_number 7 options
-fields_of (variant.Shutdown level) = with_number 8 (unwrap_or level 0)
-fields_of variant.Statistics = alone 9
-fields_of variant.ProcessInfo = alone 10
-fields_of (variant.ProcessKill id) = with_number 12 id
-fields_of variant.Debug = alone 13
-fields_of variant.Ping = alone 14
-fields_of (variant.ChangeUser p) = alone 17
-fields_of (variant.BinlogDump p) = alone 18
-fields_of (variant.TableDump p) = alone 19
-fields_of (variant.RegisterSlave p) = alone 21
-fields_of (variant.StmtPrepare text) = with_text 22 text
-fields_of (variant.StmtExecute p) = alone 23
-fields_of (variant.StmtSendLongData p) = alone 24
-fields_of (variant.StmtClose p) = with_number 25 p.stmt_id
-fields_of (variant.StmtReset p) = with_number 26 p.stmt_id
-fields_of (variant.SetOption p) = with_number 27 p.code
-fields_of (variant.StmtFetch p) = record { code = 28; text = []; wildcard = []; number = p.stmt_id; rows = p.num_rows }
-fields_of (variant.BinlogDumpGtid p) = alone 30
-fields_of variant.ResetConnection = alone 31
-fields_of (variant.StmtBulkExecute p) = alone 250
+fields_of variant.Quit = alone COM_QUIT
+fields_of (variant.InitDb schema) = with_text COM_INIT_DB schema
+fields_of (variant.Query p) = with_text COM_QUERY (query.text p)
+fields_of (variant.FieldList p) = record { code = COM_FIELD_LIST; text = field_list.table p; wildcard = field_list.wildcard p; number = 0; rows = 0 }
+fields_of (variant.CreateDb schema) = with_text COM_CREATE_DB schema
+fields_of (variant.DropDb schema) = with_text COM_DROP_DB schema
+fields_of (variant.Refresh options) = with_number COM_REFRESH options
+fields_of (variant.Shutdown level) = with_number COM_SHUTDOWN (unwrap_or level 0)
+fields_of variant.Statistics = alone COM_STATISTICS
+fields_of variant.ProcessInfo = alone COM_PROCESS_INFO
+fields_of (variant.ProcessKill id) = with_number COM_PROCESS_KILL id
+fields_of variant.Debug = alone COM_DEBUG
+fields_of variant.Ping = alone COM_PING
+fields_of (variant.ChangeUser p) = alone COM_CHANGE_USER
+fields_of (variant.BinlogDump p) = alone COM_BINLOG_DUMP
+fields_of (variant.TableDump p) = alone COM_TABLE_DUMP
+fields_of (variant.RegisterSlave p) = alone COM_REGISTER_SLAVE
+fields_of (variant.StmtPrepare text) = with_text COM_STMT_PREPARE text
+fields_of (variant.StmtExecute p) = alone COM_STMT_EXECUTE
+fields_of (variant.StmtSendLongData p) = alone COM_STMT_SEND_LONG_DATA
+fields_of (variant.StmtClose p) = with_number COM_STMT_CLOSE p.stmt_id
+fields_of (variant.StmtReset p) = with_number COM_STMT_RESET p.stmt_id
+fields_of (variant.SetOption p) = with_number COM_SET_OPTION p.code
+fields_of (variant.StmtFetch p) = record { code = COM_STMT_FETCH; text = []; wildcard = []; number = p.stmt_id; rows = p.num_rows }
+fields_of (variant.BinlogDumpGtid p) = alone COM_BINLOG_DUMP_GTID
+fields_of variant.ResetConnection = alone COM_RESET_CONNECTION
+fields_of (variant.StmtBulkExecute p) = alone COM_STMT_BULK_EXECUTE
 fields_of (variant.Unknown p) = with_text (unknown.code p) (unknown.content p)
 
 -- the struct has these fields
@@ -74,23 +75,23 @@ pub record IsCommand (packet : List ℕ) (c : Command) (rest : List ℕ) (out : 
 
 abbrev pub alone_given : ℕ → Option Command
 alone_given code =
-    if code == 1 then Some variant.Quit
-    else if code == 9 then Some variant.Statistics
-    else if code == 10 then Some variant.ProcessInfo
-    else if code == 13 then Some variant.Debug
-    else if code == 14 then Some variant.Ping
-    else if code == 31 then Some variant.ResetConnection
+    if code == COM_QUIT then Some variant.Quit
+    else if code == COM_STATISTICS then Some variant.Statistics
+    else if code == COM_PROCESS_INFO then Some variant.ProcessInfo
+    else if code == COM_DEBUG then Some variant.Debug
+    else if code == COM_PING then Some variant.Ping
+    else if code == COM_RESET_CONNECTION then Some variant.ResetConnection
     else None
 
 -- a query is one without attributes
 abbrev pub text_given : ℕ → (text wildcard : List ℕ) → Option Command
 text_given code text wildcard =
-    if code == 2 then Some (variant.InitDb text)
-    else if code == 3 then Some (variant.Query (query.query_of None text))
-    else if code == 4 then Some (variant.FieldList (field_list.field_list_of text wildcard))
-    else if code == 5 then Some (variant.CreateDb text)
-    else if code == 6 then Some (variant.DropDb text)
-    else if code == 22 then Some (variant.StmtPrepare text)
+    if code == COM_INIT_DB then Some (variant.InitDb text)
+    else if code == COM_QUERY then Some (variant.Query (query.query_of None text))
+    else if code == COM_FIELD_LIST then Some (variant.FieldList (field_list.field_list_of text wildcard))
+    else if code == COM_CREATE_DB then Some (variant.CreateDb text)
+    else if code == COM_DROP_DB then Some (variant.DropDb text)
+    else if code == COM_STMT_PREPARE then Some (variant.StmtPrepare text)
     else None
 
 -- a number that fits in its bytes
@@ -99,13 +100,13 @@ below limit number command = if nat_lt number limit then Some command else None
 
 abbrev pub number_given : ℕ → (number rows : ℕ) → Option Command
 number_given code number rows =
-    if code == 7 then below 256 number (variant.Refresh number)
-    else if code == 8 then below 256 number (variant.Shutdown (Some number))
-    else if code == 12 then Some (variant.ProcessKill number)
-    else if code == 25 then Some (variant.StmtClose (record { stmt_id = number }))
-    else if code == 26 then Some (variant.StmtReset (record { stmt_id = number }))
-    else if code == 27 then below 65536 number (variant.SetOption (record { code = number }))
-    else if code == 28 then Some (variant.StmtFetch (record { stmt_id = number; num_rows = rows }))
+    if code == COM_REFRESH then below 256 number (variant.Refresh number)
+    else if code == COM_SHUTDOWN then below 256 number (variant.Shutdown (Some number))
+    else if code == COM_PROCESS_KILL then Some (variant.ProcessKill number)
+    else if code == COM_STMT_CLOSE then Some (variant.StmtClose (record { stmt_id = number }))
+    else if code == COM_STMT_RESET then Some (variant.StmtReset (record { stmt_id = number }))
+    else if code == COM_SET_OPTION then below 65536 number (variant.SetOption (record { code = number }))
+    else if code == COM_STMT_FETCH then Some (variant.StmtFetch (record { stmt_id = number; num_rows = rows }))
     else None
 
 abbrev pub or_else : Option Command → Option Command → Option Command

@@ -17,6 +17,7 @@ use mysql_commands::{
     BytesRef, ComFieldListRef, ComQueryRef, ComSetOption, ComStmtFetch, ComStmtReset, Command,
 };
 use mysql_stmt::ComStmtClose;
+use mysql_wire::command_code as com;
 use std::alloc::Global;
 
 /// `myp_command`.
@@ -63,39 +64,43 @@ fn put_command<'a>(command: Command<'a>, out: &mut CCommand<'a>)
     ensures value { Holds (fields_of command.entry) out.new }
 {
     match command {
-        Command::Quit => put_alone(1, out),
-        Command::InitDb(schema) => put_text(2, schema.as_bytes(), out),
-        Command::Query(query) => put_text(3, query.text(), out),
+        Command::Quit => put_alone(com::COM_QUIT, out),
+        Command::InitDb(schema) => put_text(com::COM_INIT_DB, schema.as_bytes(), out),
+        Command::Query(query) => put_text(com::COM_QUERY, query.text(), out),
         Command::FieldList(list) => {
-            put_text(4, list.table(), out);
+            put_text(com::COM_FIELD_LIST, list.table(), out);
             out.wildcard = list.wildcard();
         }
-        Command::CreateDb(schema) => put_text(5, schema.as_bytes(), out),
-        Command::DropDb(schema) => put_text(6, schema.as_bytes(), out),
-        Command::Refresh(options) => put_number(7, u32::from(options), out),
-        Command::Shutdown(level) => put_number(8, u32::from(level.unwrap_or(0)), out),
-        Command::Statistics => put_alone(9, out),
-        Command::ProcessInfo => put_alone(10, out),
-        Command::ProcessKill(id) => put_number(12, id, out),
-        Command::Debug => put_alone(13, out),
-        Command::Ping => put_alone(14, out),
-        Command::ChangeUser(_) => put_alone(17, out),
-        Command::BinlogDump(_) => put_alone(18, out),
-        Command::TableDump(_) => put_alone(19, out),
-        Command::RegisterSlave(_) => put_alone(21, out),
-        Command::StmtPrepare(text) => put_text(22, text.as_bytes(), out),
-        Command::StmtExecute(_) => put_alone(23, out),
-        Command::StmtSendLongData(_) => put_alone(24, out),
-        Command::StmtClose(close) => put_number(25, close.stmt_id, out),
-        Command::StmtReset(reset) => put_number(26, reset.stmt_id, out),
-        Command::SetOption(option) => put_number(27, u32::from(option.code), out),
+        Command::CreateDb(schema) => put_text(com::COM_CREATE_DB, schema.as_bytes(), out),
+        Command::DropDb(schema) => put_text(com::COM_DROP_DB, schema.as_bytes(), out),
+        Command::Refresh(options) => put_number(com::COM_REFRESH, u32::from(options), out),
+        Command::Shutdown(level) => put_number(
+            com::COM_SHUTDOWN,
+            u32::from(level.unwrap_or(0)),
+            out,
+        ),
+        Command::Statistics => put_alone(com::COM_STATISTICS, out),
+        Command::ProcessInfo => put_alone(com::COM_PROCESS_INFO, out),
+        Command::ProcessKill(id) => put_number(com::COM_PROCESS_KILL, id, out),
+        Command::Debug => put_alone(com::COM_DEBUG, out),
+        Command::Ping => put_alone(com::COM_PING, out),
+        Command::ChangeUser(_) => put_alone(com::COM_CHANGE_USER, out),
+        Command::BinlogDump(_) => put_alone(com::COM_BINLOG_DUMP, out),
+        Command::TableDump(_) => put_alone(com::COM_TABLE_DUMP, out),
+        Command::RegisterSlave(_) => put_alone(com::COM_REGISTER_SLAVE, out),
+        Command::StmtPrepare(text) => put_text(com::COM_STMT_PREPARE, text.as_bytes(), out),
+        Command::StmtExecute(_) => put_alone(com::COM_STMT_EXECUTE, out),
+        Command::StmtSendLongData(_) => put_alone(com::COM_STMT_SEND_LONG_DATA, out),
+        Command::StmtClose(close) => put_number(com::COM_STMT_CLOSE, close.stmt_id, out),
+        Command::StmtReset(reset) => put_number(com::COM_STMT_RESET, reset.stmt_id, out),
+        Command::SetOption(option) => put_number(com::COM_SET_OPTION, u32::from(option.code), out),
         Command::StmtFetch(fetch) => {
-            put_number(28, fetch.stmt_id, out);
+            put_number(com::COM_STMT_FETCH, fetch.stmt_id, out);
             out.rows = fetch.num_rows;
         }
-        Command::BinlogDumpGtid(_) => put_alone(30, out),
-        Command::ResetConnection => put_alone(31, out),
-        Command::StmtBulkExecute(_) => put_alone(250, out),
+        Command::BinlogDumpGtid(_) => put_alone(com::COM_BINLOG_DUMP_GTID, out),
+        Command::ResetConnection => put_alone(com::COM_RESET_CONNECTION, out),
+        Command::StmtBulkExecute(_) => put_alone(com::COM_STMT_BULK_EXECUTE, out),
         Command::Unknown(unknown) => put_text(unknown.code(), unknown.content(), out),
     }
 }
@@ -126,12 +131,12 @@ fn alone_of(code: u8) -> Option<Command<'static>>
     ensures value { result ≡ spec.alone_given code }
 {
     match code {
-        1 => Some(Command::Quit),
-        9 => Some(Command::Statistics),
-        10 => Some(Command::ProcessInfo),
-        13 => Some(Command::Debug),
-        14 => Some(Command::Ping),
-        31 => Some(Command::ResetConnection),
+        com::COM_QUIT => Some(Command::Quit),
+        com::COM_STATISTICS => Some(Command::Statistics),
+        com::COM_PROCESS_INFO => Some(Command::ProcessInfo),
+        com::COM_DEBUG => Some(Command::Debug),
+        com::COM_PING => Some(Command::Ping),
+        com::COM_RESET_CONNECTION => Some(Command::ResetConnection),
         _ => None,
     }
 }
@@ -141,12 +146,12 @@ fn text_of<'a>(code: u8, text: &'a [u8], wildcard: &'a [u8]) -> Option<Command<'
     ensures value { result ≡ spec.text_given code text.now wildcard.now }
 {
     match code {
-        2 => Some(Command::InitDb(BytesRef::new(text))),
-        3 => Some(Command::Query(ComQueryRef::new(text))),
-        4 => Some(Command::FieldList(ComFieldListRef::new(text, wildcard))),
-        5 => Some(Command::CreateDb(BytesRef::new(text))),
-        6 => Some(Command::DropDb(BytesRef::new(text))),
-        22 => Some(Command::StmtPrepare(BytesRef::new(text))),
+        com::COM_INIT_DB => Some(Command::InitDb(BytesRef::new(text))),
+        com::COM_QUERY => Some(Command::Query(ComQueryRef::new(text))),
+        com::COM_FIELD_LIST => Some(Command::FieldList(ComFieldListRef::new(text, wildcard))),
+        com::COM_CREATE_DB => Some(Command::CreateDb(BytesRef::new(text))),
+        com::COM_DROP_DB => Some(Command::DropDb(BytesRef::new(text))),
+        com::COM_STMT_PREPARE => Some(Command::StmtPrepare(BytesRef::new(text))),
         _ => None,
     }
 }
@@ -156,15 +161,15 @@ fn number_of(code: u8, number: u32, rows: u32) -> Option<Command<'static>>
     ensures value { result ≡ spec.number_given code number rows }
 {
     match code {
-        7 if number < 256 => Some(Command::Refresh(number as u8)),
-        8 if number < 256 => Some(Command::Shutdown(Some(number as u8))),
-        12 => Some(Command::ProcessKill(number)),
-        25 => Some(Command::StmtClose(ComStmtClose::new(number))),
-        26 => Some(Command::StmtReset(ComStmtReset::new(number))),
-        27 if number < 65536 => Some(Command::SetOption(ComSetOption {
+        com::COM_REFRESH if number < 256 => Some(Command::Refresh(number as u8)),
+        com::COM_SHUTDOWN if number < 256 => Some(Command::Shutdown(Some(number as u8))),
+        com::COM_PROCESS_KILL => Some(Command::ProcessKill(number)),
+        com::COM_STMT_CLOSE => Some(Command::StmtClose(ComStmtClose::new(number))),
+        com::COM_STMT_RESET => Some(Command::StmtReset(ComStmtReset::new(number))),
+        com::COM_SET_OPTION if number < 65536 => Some(Command::SetOption(ComSetOption {
             code: number as u16,
         })),
-        28 => Some(Command::StmtFetch(ComStmtFetch::new(number, rows))),
+        com::COM_STMT_FETCH => Some(Command::StmtFetch(ComStmtFetch::new(number, rows))),
         _ => None,
     }
 }

@@ -5,6 +5,7 @@ ghost use Rattle.std.specs.Prelude.{◌≡◌};
 ghost use Rattle.mysql_wire.specs.Form.{size-block};
 ghost use Rattle.mysql_prepared.specs.Close as spec;
 
+use mysql_wire::command_code::COM_STMT_CLOSE;
 use mysql_wire::{
     ConstFault, ConstU8, FaultOf, Fixed, LeU32, MyDeserialize, ParseBuf, Parts, RawInt, Sink, parts,
 };
@@ -20,7 +21,7 @@ impl ConstFault for InvalidComStmtCloseHeader {
 }
 
 /// The first byte of the end of a statement: `19`.
-pub type ComStmtCloseHeader = ConstU8<InvalidComStmtCloseHeader, 0x19>;
+pub type ComStmtCloseHeader = ConstU8<InvalidComStmtCloseHeader, COM_STMT_CLOSE>;
 
 /// `COM_STMT_CLOSE`: deallocates a prepared statement. The server sends no answer.
 ///

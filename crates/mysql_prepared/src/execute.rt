@@ -11,6 +11,7 @@ ghost use Rattle.mysql_prepared.specs.Execute as request;
 use crate::execute_head::ComStmtExecuteHead;
 use crate::execute_params::ExecuteParams;
 use mysql_values::Value;
+use mysql_wire::command_code::COM_STMT_EXECUTE;
 use mysql_wire::{
     Const, ConstFault, ConstU8, ConstU32, CursorType, LeU32, Parts, RawInt, Sink,
     StmtExecuteParamsFlags, parts,
@@ -28,7 +29,7 @@ impl ConstFault for InvalidComStmtExecuteHeader {
 }
 
 /// The first byte of an execution: `17`.
-pub type ComStmtExecuteHeader = ConstU8<InvalidComStmtExecuteHeader, 0x17>;
+pub type ComStmtExecuteHeader = ConstU8<InvalidComStmtExecuteHeader, COM_STMT_EXECUTE>;
 
 /// The iteration count of an execution is not 1.
 #[derive(Clone, Copy, Debug, Default, PartialEq, Eq, Hash, Error)]

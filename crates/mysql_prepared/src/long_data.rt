@@ -5,6 +5,7 @@ ghost use Rattle.std.specs.Prelude.{◌≡◌, [], IfOk, IsOk, refl};
 ghost use Rattle.std.specs.Cow.{cow_slice_items};
 ghost use Rattle.mysql_prepared.specs.LongData as spec;
 
+use mysql_wire::command_code::COM_STMT_SEND_LONG_DATA;
 use mysql_wire::{
     AnyWidth, ConstFault, ConstU8, EofBytes, FaultOf, LeU16, LeU32, MyDeserialize, ParseBuf, Parts,
     RawBytes, RawInt, Sink, parts,
@@ -23,7 +24,10 @@ impl ConstFault for InvalidComStmtSendLongDataHeader {
 }
 
 /// The first byte of the data of one parameter: `18`.
-pub type ComStmtSendLongDataHeader = ConstU8<InvalidComStmtSendLongDataHeader, 0x18>;
+pub type ComStmtSendLongDataHeader = ConstU8<
+    InvalidComStmtSendLongDataHeader,
+    COM_STMT_SEND_LONG_DATA,
+>;
 
 /// `COM_STMT_SEND_LONG_DATA`: bytes of one parameter, sent before the execution. The server joins the bytes that it receives
 /// for a parameter, and sends no answer.

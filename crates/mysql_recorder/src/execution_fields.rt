@@ -5,17 +5,15 @@ use mysql_conversation::PacketKind;
 use mysql_prepared::{ExecuteParam, ExecuteParamsView};
 use mysql_show::Field;
 use mysql_values::{ParamValue, ValueRef};
+use mysql_wire::command_code::COM_STMT_EXECUTE;
 use std::alloc::AllocError;
-
-/// The first byte of `COM_STMT_EXECUTE`.
-const EXECUTE: u8 = 0x17;
 
 /// The length of the fields before the parameters of `COM_STMT_EXECUTE` in bytes.
 pub(crate) const EXECUTE_HEAD: usize = 10;
 
 /// Whether it is `COM_STMT_EXECUTE`.
 pub(crate) fn is_execution(kind: PacketKind) -> bool {
-    kind == PacketKind::Command(EXECUTE)
+    kind == PacketKind::Command(COM_STMT_EXECUTE)
 }
 
 /// Says that the types of the parameters aren't known, if it is an execution that has any.

@@ -5,11 +5,9 @@ use mysql_commands::read_query_attributes;
 use mysql_conversation::PacketKind;
 use mysql_replies::SessionCapabilities;
 use mysql_show::Field;
+use mysql_wire::command_code::COM_QUERY;
 use mysql_wire::{CapabilityFlags, Flags, ParseBuf};
 use std::alloc::{AllocError, Global};
-
-/// The first byte of `COM_QUERY`.
-const QUERY: u8 = 0x03;
 
 /// Appends what can be read of a query that is refused: the attributes before the first that is malformed, and the bytes from there on, in
 /// which the text is.
@@ -23,7 +21,7 @@ pub(crate) fn append_partial_query<'p>(
     let Some(agreed) = agreed else {
         return Ok(());
     };
-    if kind != PacketKind::Command(QUERY)
+    if kind != PacketKind::Command(COM_QUERY)
         || !agreed
             .mysql
             .contains(CapabilityFlags::CLIENT_QUERY_ATTRIBUTES)

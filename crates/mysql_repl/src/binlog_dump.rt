@@ -7,6 +7,7 @@ ghost use Rattle.mysql_wire.specs.Text.{GivesText};
 ghost use Rattle.mysql_repl.specs.BinlogDump as spec;
 
 use crate::binlog_dump_ref::ComBinlogDumpRef;
+use mysql_wire::command_code::COM_BINLOG_DUMP;
 use mysql_wire::{
     AnyWidth, BinlogDumpFlags, Const, ConstFault, ConstU8, EofBytes, FaultOf, Flags, LeU16, LeU32,
     MyDeserialize, ParseBuf, Parts, RawBytes, RawInt, Sink, parts,
@@ -25,7 +26,7 @@ impl ConstFault for InvalidComBinlogDumpHeader {
 }
 
 /// The first byte of a dump by position: `12`.
-pub type ComBinlogDumpHeader = ConstU8<InvalidComBinlogDumpHeader, 0x12>;
+pub type ComBinlogDumpHeader = ConstU8<InvalidComBinlogDumpHeader, COM_BINLOG_DUMP>;
 
 /// A replica's request for a binary log from a position (`COM_BINLOG_DUMP`).
 ///

@@ -13,6 +13,7 @@ ghost use Rattle.mysql_repl.specs.Space.{space_in_dump};
 use crate::sid::Sid;
 use crate::sid_block::{SidBlock, read_block};
 use crate::taken::append_taken;
+use mysql_wire::command_code::COM_BINLOG_DUMP_GTID;
 use mysql_wire::{
     AnyWidth, BinlogDumpFlags, Buffer, BytesRepr, Const, ConstFault, ConstU8, Fault, FaultOf,
     FixedInt, Flags, LeU16, LeU32, LeU64, MyDeserialize, MySerialize, ParseBuf, Parts, RawBytes,
@@ -32,7 +33,7 @@ impl ConstFault for InvalidComBinlogDumpGtidHeader {
 }
 
 /// The first byte of a dump by GTID set: `1e`.
-pub type ComBinlogDumpGtidHeader = ConstU8<InvalidComBinlogDumpGtidHeader, 0x1e>;
+pub type ComBinlogDumpGtidHeader = ConstU8<InvalidComBinlogDumpGtidHeader, COM_BINLOG_DUMP_GTID>;
 
 /// A replica's request for a binary log without the transactions that it has
 /// (`COM_BINLOG_DUMP_GTID`).

@@ -7,6 +7,7 @@ ghost use Rattle.mysql_wire.specs.Text.{GivesText};
 ghost use Rattle.mysql_repl.specs.RegisterSlave as spec;
 
 use crate::register_slave_ref::ComRegisterSlaveRef;
+use mysql_wire::command_code::COM_REGISTER_SLAVE;
 use mysql_wire::{
     AnyWidth, ConstFault, ConstU8, FaultOf, LeU16, LeU32, MyDeserialize, ParseBuf, Parts, RawBytes,
     RawInt, Sink, U8Bytes, parts,
@@ -25,7 +26,7 @@ impl ConstFault for InvalidComRegisterSlaveHeader {
 }
 
 /// The first byte of a registration: `15`.
-pub type ComRegisterSlaveHeader = ConstU8<InvalidComRegisterSlaveHeader, 0x15>;
+pub type ComRegisterSlaveHeader = ConstU8<InvalidComRegisterSlaveHeader, COM_REGISTER_SLAVE>;
 
 /// The registration of a replica at its source (`COM_REGISTER_SLAVE`), before it asks for a binary
 /// log.

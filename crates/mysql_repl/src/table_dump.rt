@@ -6,6 +6,7 @@ ghost use Rattle.std.specs.Cow.{cow_slice_items};
 ghost use Rattle.mysql_wire.specs.Text.{GivesText};
 ghost use Rattle.mysql_repl.specs.TableDump as spec;
 
+use mysql_wire::command_code::COM_TABLE_DUMP;
 use mysql_wire::{
     AnyWidth, ConstFault, ConstU8, FaultOf, MyDeserialize, ParseBuf, Parts, RawBytes, Sink,
     U8Bytes, parts,
@@ -24,7 +25,7 @@ impl ConstFault for InvalidComTableDumpHeader {
 }
 
 /// The first byte of a request for a table: `13`.
-pub type ComTableDumpHeader = ConstU8<InvalidComTableDumpHeader, 0x13>;
+pub type ComTableDumpHeader = ConstU8<InvalidComTableDumpHeader, COM_TABLE_DUMP>;
 
 /// The request for the rows of a table (`COM_TABLE_DUMP`): the byte `13`, and the names of the
 /// database and of the table, each after its length in one byte.

@@ -10,26 +10,11 @@ use crate::packets::{column_at, data_at, number_at, prepared_at};
 use crate::table::Statements;
 use mysql_conversation::PacketKind;
 use mysql_replies::SessionCapabilities;
-use mysql_wire::ServerCommand;
+use mysql_wire::command_code::{
+    COM_CHANGE_USER, COM_RESET_CONNECTION, COM_STMT_BULK_EXECUTE, COM_STMT_CLOSE, COM_STMT_EXECUTE,
+    COM_STMT_FETCH, COM_STMT_PREPARE, COM_STMT_RESET, COM_STMT_SEND_LONG_DATA,
+};
 use std::alloc::AllocError;
-
-const COM_CHANGE_USER: u8 = ServerCommand::COM_CHANGE_USER as u8;
-
-const COM_STMT_PREPARE: u8 = ServerCommand::COM_STMT_PREPARE as u8;
-
-const COM_STMT_EXECUTE: u8 = ServerCommand::COM_STMT_EXECUTE as u8;
-
-const COM_STMT_SEND_LONG_DATA: u8 = ServerCommand::COM_STMT_SEND_LONG_DATA as u8;
-
-const COM_STMT_CLOSE: u8 = ServerCommand::COM_STMT_CLOSE as u8;
-
-const COM_STMT_RESET: u8 = ServerCommand::COM_STMT_RESET as u8;
-
-const COM_STMT_FETCH: u8 = ServerCommand::COM_STMT_FETCH as u8;
-
-const COM_RESET_CONNECTION: u8 = ServerCommand::COM_RESET_CONNECTION as u8;
-
-const COM_STMT_BULK_EXECUTE: u8 = ServerCommand::COM_STMT_BULK_EXECUTE as u8;
 
 impl Statements {
     /// Takes the next packet of a conversation, of the kind that it has there, and keeps what it says about statements.

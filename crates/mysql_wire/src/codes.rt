@@ -1,6 +1,7 @@
 //! Values that are coded in one byte.
 
 mod column_type;
+pub mod command_code;
 mod mariadb_bulk_indicator;
 mod server_command;
 mod session_state_type;
