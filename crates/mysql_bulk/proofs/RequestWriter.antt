@@ -1,6 +1,6 @@
 -- What a request writer has written, and the builder with the same rows.
-use Rattle.std.proofs.Common.{◌≡◌, ◌≢◌, ℕ, ◌+◌, ◌*◌, Bool, true, false, if◌then◌else◌, List, [], ◌∷◌, ◌++◌, length, map, Option, Some, None, Ok, Err, IsTrue, refl, sym, ◌∙◌, ap, subst, arith, append_assoc, length-append, sum_by}
-use Rattle.std.specs.Prelude.{All, MatchOption, IfSome}
+use Rattle.std.proofs.Common.{◌≡◌, ◌≢◌, ℕ, ◌+◌, ◌*◌, Bool, true, false, if◌then◌else◌, List, [], ◌∷◌, ◌++◌, length, map, Some, Ok, Err, IsTrue, refl, sym, ◌∙◌, ap, subst, arith, append_assoc, length-append}
+use Rattle.std.specs.Prelude.{All}
 use Rattle.std.proofs.lemmas.Grind.{flat_map-append}
 use Rattle.std.proofs.lemmas.List.{append-nil, length-map, map-append}
 use Rattle.std.proofs.lemmas.List.Elements.{All-nil, All-head, All-push}
@@ -15,11 +15,11 @@ use Rattle.mysql_bulk.specs.declared.error.BulkExecuteRequestError.TheVariants a
 use Rattle.mysql_bulk.specs.Builder.{BuilderState, packing, TakesRow, RowFits, after_row, IsRequest, BuildsRequest, after_request}
 use Rattle.mysql_bulk.specs.ColumnTypes.{TakesTypes, spell_row}
 use Rattle.mysql_bulk.specs.ParamValue.{cell, with_indicator, param_value_bytes, values_bytes}
-use Rattle.mysql_bulk.specs.Request.{request_flags, request_bytes}
+use Rattle.mysql_bulk.specs.Request.{request_bytes}
 use Rattle.mysql_bulk.specs.RequestWriter.{WriterState, as_builder, request_of, bytes_so_far, Holds, IsBuilt, AddsAsBuilder, FinishesAsBuilder, cells_bytes, head_bytes, with_row}
 use Rattle.mysql_bulk.specs.Row.{row_size, rows_packing, first_length}
 use Rattle.mysql_bulk.proofs.ColumnTypes.{spelled_long}
-use Rattle.mysql_bulk.proofs.RequestBytes.{length-values, length-head, contents_indicators, size_of_rows}
+use Rattle.mysql_bulk.proofs.RequestBytes.{length-values, contents_indicators, size_of_rows}
 
 -- ---- the bytes of a row
 
@@ -37,9 +37,6 @@ length-cells row =
 pub length-sent : (due : Bool) (types : List ParamType) → 2 * length (if due then types else []) ≡ (if due then 2 * length types else 0)
 length-sent true types = refl
 length-sent false types = refl
-
-pub length-head_bytes : (w : WriterState) → length (head_bytes w) ≡ 7 + (if w.types_due then 2 * length w.types else 0)
-length-head_bytes w = omega (arith, length-head (record { stmt_id = w.stmt_id; bulk_flags = request_flags w.types_due w.results; types = if w.types_due then w.types else [] }), length-sent w.types_due w.types)
 
 -- ---- the bytes of a request, and of one row more
 
@@ -74,24 +71,6 @@ further_bytes w (r ∷ rows) row some =
     ∙ ap (λ (l : List ℕ). (head_bytes w ++ l) ++ cells_bytes row) (sym (append-nil (values_bytes before)))
 
 -- ---- a row is offered
-
--- whether it fits is the same for all rows that may be waiting
-pub fits_after : (w : WriterState) (row : List Content) (n : ℕ) (r : Option ℕ) → n ≡ length row
-    → ((rows : List (List Content)) → length rows ≡ w.count → w.size ≡ sum_by row_size rows →
-    MatchOption r (PartFits (rows_packing w.rule w.limit n) w.types_due (rows ++ row ∷ []) → ⊥)
-    (λ m. PartFits (rows_packing w.rule w.limit n) w.types_due (rows ++ row ∷ []) × (m ≡ sum_by row_size (rows ++ row ∷ []))))
-    → IfSome r (λ m. m ≡ w.size + row_size row)
-    → MatchOption r ((rows : List (List Content)) → Holds w rows → RowFits (as_builder w rows) row → ⊥)
-    (λ m. (m ≡ w.size + row_size row) × ((rows : List (List Content)) → Holds w rows → RowFits (as_builder w rows) row))
-fits_after w row n None long each size = λ rows h f.
-    let P : ℕ → Type 0 = λ m. PartFits (rows_packing w.rule w.limit m) w.types_due (rows ++ row ∷ []) in
-    each rows (sym h.count) h.size (subst P (sym long) f)
-fits_after w row n (Some m) long each size = (
-  size,
-  λ rows h.
-      let P : ℕ → Type 0 = λ k. PartFits (rows_packing w.rule w.limit k) w.types_due (rows ++ row ∷ []) in
-      subst P long (each rows (sym h.count) h.size).0,
-)
 
 -- it is written after these bytes
 pub holds_more : (w : WriterState) (rows : List (List Content)) (row : List ValueRef) (size capacity : ℕ) (before : List ℕ) → Holds w rows → TakesRow (as_builder w rows) (map ref_content row)
@@ -159,23 +138,8 @@ Spells w row = IsTrue (spell_row w.types (map ref_content row))
 abbrev pub EachFits : WriterState → List ValueRef → Type 0
 EachFits w row = (rows : List (List Content)) → Holds w rows → RowFits (as_builder w rows) (map ref_content row)
 
-abbrev pub NoneFits : WriterState → List ValueRef → Type 0
-NoneFits w row = (rows : List (List Content)) → Holds w rows → RowFits (as_builder w rows) (map ref_content row) → ⊥
-
 takes : (w : WriterState) (row : List ValueRef) → length row ≡ length w.types → Spells w row → (rows : List (List Content)) → TakesRow (as_builder w rows) (map ref_content row)
 takes w row long spells rows = (length-map row ref_content ∙ long, spells)
-
-pub refused_arity : (w : WriterState) (row : List ValueRef) → length row ≢ length w.types → AddsAsBuilder w (map ref_content row) (Err refused.MixedArity) w
-refused_arity w row long = λ rows h. (rows, h, ((λ e. long (sym (length-map row ref_content) ∙ e)), refl))
-
-pub refused_types : (w : WriterState) (row : List ValueRef) → length row ≡ length w.types → (Spells w row → ⊥) → AddsAsBuilder w (map ref_content row) (Err refused.MixedTypes) w
-refused_types w row long spells = λ rows h. (rows, h, (length-map row ref_content ∙ long, spells, refl))
-
-pub does_not_fit : (w : WriterState) (row : List ValueRef) → length row ≡ length w.types → Spells w row → w.count ≢ 0 → NoneFits w row → AddsAsBuilder w (map ref_content row) (Ok false) w
-does_not_fit w row long spells some none = λ rows h. (rows, h, (takes w row long spells rows, none rows h, some_counted w rows h some, refl))
-
-pub is_too_large : (w : WriterState) (row : List ValueRef) → length row ≡ length w.types → Spells w row → w.count ≡ 0 → NoneFits w row → AddsAsBuilder w (map ref_content row) (Err refused.TooLarge) w
-is_too_large w row long spells empty none = λ rows h. (rows, h, (takes w row long spells rows, none rows h, none_counted w rows h empty, refl))
 
 pub no_memory : (w : WriterState) (row : List ValueRef) → length row ≡ length w.types → Spells w row → EachFits w row → AddsAsBuilder w (map ref_content row) (Err refused.Memory) w
 no_memory w row long spells fits = λ rows h. (rows, h, (takes w row long spells rows, fits rows h, refl))

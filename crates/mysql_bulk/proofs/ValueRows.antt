@@ -1,12 +1,11 @@
 -- What a request writer has written for rows of values, DEFAULT and IGNORE.
-use Rattle.std.proofs.Common.{◌≡◌, ◌≢◌, ℕ, ◌+◌, true, false, List, [], ◌∷◌, ◌++◌, length, map, Ok, Err, refl, sym, ◌∙◌, ap, arith, append_assoc, length-append}
+use Rattle.std.proofs.Common.{◌≡◌, ◌≢◌, ℕ, ◌+◌, true, List, [], ◌∷◌, ◌++◌, length, Ok, Err, refl, sym, ◌∙◌, ap, arith, append_assoc, length-append}
 use Rattle.std.proofs.lemmas.Grind.{flat_map-append}
-use Rattle.std.proofs.lemmas.List.{append-nil, length-map}
+use Rattle.std.proofs.lemmas.List.{append-nil}
 use Rattle.std.proofs.lemmas.List.Elements.{All-nil, All-push}
 use Rattle.std.proofs.lemmas.List.Sums.{sum_by-append}
-use Rattle.mysql_bulk.specs.declared.bulk_value.BulkValue.{BulkValue}
 use Rattle.mysql_bulk.specs.declared.error.BulkRowError.TheVariants as refused
-use Rattle.mysql_bulk.specs.BulkValue.{Cell, cell_of, cells_bytes, cells_size}
+use Rattle.mysql_bulk.specs.BulkValue.{Cell, cells_bytes, cells_size}
 use Rattle.mysql_bulk.specs.RequestWriter.{WriterState, head_bytes, with_row}
 use Rattle.mysql_bulk.specs.ValueRows.{AddsCells, CellsFit, HoldsCells, IsRequestOf, Spells, rows_bytes, request_of_cells, so_far}
 
@@ -36,21 +35,6 @@ some_counted w rows h n e = n (h.count ∙ ap length e)
 
 abbrev pub EachFits : WriterState → List Cell → Type 0
 EachFits w row = (rows : List (List Cell)) → HoldsCells w rows → CellsFit w rows row
-
-abbrev pub NoneFits : WriterState → List Cell → Type 0
-NoneFits w row = (rows : List (List Cell)) → HoldsCells w rows → CellsFit w rows row → ⊥
-
-pub refused_arity : (w : WriterState) (row : List BulkValue) → length row ≢ length w.types → AddsCells w (map cell_of row) (Err refused.MixedArity) w
-refused_arity w row long = λ rows h. ((λ e. long (sym (length-map row cell_of) ∙ e)), refl)
-
-pub refused_types : (w : WriterState) (row : List BulkValue) → length row ≡ length w.types → (Spells w.types (map cell_of row) → ⊥) → AddsCells w (map cell_of row) (Err refused.MixedTypes) w
-refused_types w row long spells = λ rows h. (length-map row cell_of ∙ long, spells, refl)
-
-pub does_not_fit : (w : WriterState) (row : List Cell) → Spells w.types row → w.count ≢ 0 → NoneFits w row → AddsCells w row (Ok false) w
-does_not_fit w row spells some none = λ rows h. (spells, none rows h, some_counted w rows h some, refl)
-
-pub is_too_large : (w : WriterState) (row : List Cell) → Spells w.types row → w.count ≡ 0 → NoneFits w row → AddsCells w row (Err refused.TooLarge) w
-is_too_large w row spells empty none = λ rows h. (spells, none rows h, none_counted w rows h empty, refl)
 
 pub no_memory : (w : WriterState) (row : List Cell) → Spells w.types row → EachFits w row → AddsCells w row (Err refused.Memory) w
 no_memory w row spells fits = λ rows h. (spells, fits rows h, refl)

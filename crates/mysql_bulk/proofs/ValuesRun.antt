@@ -37,10 +37,6 @@ pub again_kept : (u m v x : WriterState) (row : List Cell) (b c : Bool) (q more 
 again_kept u m v x row b c q more e a f same g adds is stays =
     inr (inr (inr (v, not_taken u m row b a f same, let_go_from u m v same g, not_taken v x row c adds is stays)))
 
--- the request that is due was not released
-pub not_sent : (u m v : WriterState) (row : List Cell) (b : Bool) (q more : List (List ℕ)) → AddsCells u row (Ok b) m → b ≡ false → m ≡ u → v ≡ m → more ≡ q → OfferRefused u row q refused.Memory v more
-not_sent u m v row b q more a f same kept is = inr (inl (refl, not_taken u m row b a f same, kept ∙ same, is))
-
 -- ---- rows one after another
 
 -- a row was written, after these requests were released

@@ -48,10 +48,6 @@ module _ (nulls : List ℕ) (place : ℕ) (t : NamedType) (ts types : List Named
 
 -- ---- a loop over all of them
 
-pub passed-more : (a : Attribute) (r : Reading (List Attribute)) → passed (more a r) ≡ passed r
-passed-more a (Ok x) = refl
-passed-more a (Err e) = refl
-
 -- after reading past the same bytes, the fault is the same
 same-kind : (r : Reading (List Attribute)) (k : FaultKind) → passed r ≡ Err k → r ≡ Err k
 same-kind (Ok x) k e = absurd cc
@@ -73,7 +69,3 @@ read-to (Err k) rest e = absurd cc
 
 pub all-read : (all left : Reading (List Attribute)) (rest : List ℕ) → passed all ≡ passed left → left ≡ Ok ([], rest) → all ≡ Ok (attributes_read all, rest)
 all-read all left rest same e = read-to all rest (same ∙ ap (λ (r : Reading (List Attribute)). passed r) e)
-
--- if there is none
-pub nothing-read : (all : Reading (List Attribute)) (rest : List ℕ) → all ≡ Ok ([], rest) → (attributes_read all ≡ []) × (all ≡ Ok (attributes_read all, rest))
-nothing-read all rest e = rw e (refl, refl)

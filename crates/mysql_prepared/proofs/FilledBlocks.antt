@@ -1,6 +1,5 @@
 -- A block filled entry by entry.
-use Rattle.std.proofs.Common.{◌≡◌, ◌∙◌, sym, ap, subst, suc, ℕ, ◌+◌, ◌-◌, ◌*◌, ◌<◌, ◌≤◌, ◌^◌, ◌++◌, List, [], ◌∷◌, Ok, Some, true, length, drop, take, refl, arith, length-append, append_assoc}
-use Rattle.std.specs.Prelude.{map}
+use Rattle.std.proofs.Common.{◌≡◌, ◌∙◌, sym, ap, subst, suc, ℕ, ◌+◌, ◌-◌, ◌*◌, ◌<◌, ◌≤◌, ◌^◌, ◌++◌, List, [], ◌∷◌, Ok, length, drop, take, refl, arith, length-append, append_assoc}
 use Rattle.std.proofs.lemmas.List.{drop-drop, drop_at, append-nil, take_all}
 use Rattle.mysql_wire.specs.Form.{le_value}
 use Rattle.mysql_wire.specs.LittleEndian.{length-le_bytes, value-le_bytes}
@@ -9,7 +8,7 @@ use Rattle.mysql_wire.specs.Writing.{le_bytes}
 use Rattle.mysql_values.specs.Value.{Content}
 use Rattle.mysql_prepared.specs.declared.stored_form.StoredForm.{StoredForm}
 use Rattle.mysql_prepared.specs.RowView.{RowLeft, Gives}
-use Rattle.mysql_prepared.specs.StoredRow.{AreStored, HoldsRow, IsStored, ReadsAs, code_of, entry_reading, form_of, is_storable, reads_to_store, stored_size, stored_values, value_read}
+use Rattle.mysql_prepared.specs.StoredRow.{AreStored, HoldsRow, IsStored, ReadsAs, code_of, entry_reading, form_of, stored_size, stored_values, value_read}
 use Rattle.mysql_prepared.proofs.StoredRows.{code-again, values-append, stored-append, values-more, stored-more}
 
 -- the entries of the values read so far describe them, whatever follows in the block
@@ -115,7 +114,3 @@ filling-all row now block rest h none no_value end =
       stored = stored-append row.left block row.rest final len (subst (λ (n : ℕ). AreStored n block final) all good.1);
       end = (rest, sym h.end ∙ end);
     }
-
--- what is stored was read
-pub stored-reading : (row : RowLeft) (rest : List ℕ) → is_storable row ≡ true → row.end ≡ Ok rest → reads_to_store row ≡ Ok (map Some row.values, rest)
-stored-reading row rest fits end = rw (fits, end) refl

@@ -1,7 +1,6 @@
 -- An execution read parameter by parameter: one parameter, and those after it.
 use Rattle.std.proofs.Common.{◌≡◌, ◌≢◌, ◌∙◌, sym, ap, subst, suc, zero, ℕ, ◌+◌, ◌-◌, ◌≤◌, ◌==◌, ◌↔◌, List, [], ◌∷◌, Result, Ok, Err, Bool, true, false, IsTrue, length, drop, replicate, refl, arith, zero-add}
 use Rattle.std.proofs.lemmas.List.{length-replicate}
-use Rattle.std.specs.List.{All}
 use Rattle.mysql_wire.specs.Flags.{CapabilityFlags}
 use Rattle.mysql_wire.specs.declared.fault.FaultOf.{FaultOf}
 use Rattle.mysql_wire.specs.declared.fault.FaultOf.TheVariants as fault
@@ -9,12 +8,11 @@ use Rattle.mysql_wire.specs.declared.fault.FaultKind.{FaultKind}
 use Rattle.mysql_wire.specs.Reading.{Reading, Faults, IsTail, then_read}
 use Rattle.mysql_wire.specs.Each.{each}
 use Rattle.mysql_values.specs.declared.param_type.ParamType.{ParamType}
-use Rattle.mysql_prepared.specs.Attributes.{attributes_left}
-use Rattle.mysql_prepared.specs.BindFront.{AreSent, BindFront}
+use Rattle.mysql_prepared.specs.BindFront.{BindFront}
 use Rattle.mysql_prepared.specs.Bitmap.{cell}
-use Rattle.mysql_prepared.specs.ExecuteBytes.{IsBound, Suffice}
+use Rattle.mysql_prepared.specs.ExecuteBytes.{Suffice}
 use Rattle.mysql_prepared.specs.ExecuteParam.{Param}
-use Rattle.mysql_prepared.specs.ExecuteRead.{BoundType, Gives, HasFrontOf, ParamsBytes, ParamsLeft, RefusesParam, Several, TakesInForce, TypedParam, bytes_after, execution, execution_front, execution_of, in_force, left_of, param_form, params_in, params_left, params_of, params_to, then_params, typed_param}
+use Rattle.mysql_prepared.specs.ExecuteRead.{BoundType, Gives, ParamsBytes, ParamsLeft, RefusesParam, Several, TakesInForce, TypedParam, bytes_after, execution, execution_front, execution_of, in_force, left_of, param_form, params_in, params_left, params_of, params_to, then_params, typed_param}
 use Rattle.mysql_prepared.specs.SentTypes.{NamedType}
 use Rattle.mysql_prepared.specs.declared.execute_view.BoundParam.{BoundParam}
 use Rattle.mysql_prepared.proofs.NullBits.{is-one}
@@ -145,50 +143,6 @@ module _ (nulls : List ℕ) (place : ℕ) (s : Bool) (p : BoundParam) (ps : List
 
 -- ---- the invariant of a reader
 
-pub next-bound : (s : Bool) (earlier : ParamType) (left : ℕ) (nulls : List ℕ) (none : Bool) (place : ℕ) (ts more : List NamedType) (t : NamedType) → left ≢ 0 → IsBound s left nulls none place ts
-    → TakesInForce s earlier ts t more → IsBound s (left - 1) nulls none (place + 1) more
-next-bound true earlier left nulls none place ts more t some b takes =
-    let len : length ts ≡ suc (length more) = ap length takes in
-    let suffice : left ≤ length ts = b.suffice in
-    record {
-      params = record { there = omega (arith, b.params.there, some); counted = omega (arith, b.params.counted, some) };
-      attributes = record { there = omega (arith, b.attributes.there, len); counted = omega (arith, b.attributes.counted, len) };
-      clear = b.clear;
-      suffice = omega (arith, suffice, len, some);
-    }
-next-bound false earlier left nulls none place ts more t some b takes =
-    let empty : more ≡ [] = takes.1 ∙ b.suffice in
-    let len : length more ≡ 0 = ap length empty in
-    record {
-      params = record { there = omega (arith, b.params.there, some); counted = omega (arith, b.params.counted, some) };
-      attributes = record { there = omega (arith, b.params.there, len, some); counted = omega (arith, b.params.counted, len, some) };
-      clear = b.clear;
-      suffice = empty;
-    }
-
-few-types : (s : Bool) (count : ℕ) (ts : List NamedType) → AreSent s count ts → length ts ≤ count
-few-types true count ts h = omega (arith, h)
-few-types false count ts h = let len : length ts ≡ 0 = ap length h in omega (arith, len)
-
-enough-types : (s : Bool) (params count : ℕ) (ts : List NamedType) → params ≤ count → AreSent s count ts → Suffice s params ts
-enough-types true params count ts le h = omega (arith, le, h)
-enough-types false params count ts le h = h
-
-pub first-bound : (params : ℕ) (f : BindFront) (none : Bool) → HasFrontOf params f → (IsTrue none → All (λ b. b ≡ 0) f.nulls) → IsBound f.sends_types params f.nulls none 0 f.types
-first-bound params f none h clear =
-    let few = few-types f.sends_types h.0 f.types h.2.sent in
-    record {
-      params = record { there = omega (arith, h.1, h.2.marks.there); counted = omega (arith, h.1, h.2.marks.counted) };
-      attributes = record { there = omega (arith, few, h.2.marks.there); counted = omega (arith, few, h.2.marks.counted) };
-      clear = clear;
-      suffice = enough-types f.sends_types params h.0 f.types h.1 h.2.sent;
-    }
-
--- a type is left if one is needed
-pub one-left : (s : Bool) (left : ℕ) (ts : List NamedType) → left ≢ 0 → Suffice s left ts → IsTrue s → ts ≢ []
-one-left true left ts some enough is none = let len : length ts ≡ 0 = ap length none in some (omega (arith, len, enough))
-one-left false left ts some enough is none = let f : IsTrue false = is in absurd cc
-
 -- ---- the whole execution
 
 module _ (c : CapabilityFlags) (flags : ℕ) (params : List BoundParam) (bytes : List ℕ) where
@@ -206,12 +160,6 @@ module _ (c : CapabilityFlags) (flags : ℕ) (params : List BoundParam) (bytes :
   front-fault fault.UnexpectedEof h = refused-so _ h
   front-fault (fault.InvalidData text) h = refused-so _ h
   front-fault (fault.InvalidInput text) h = refused-so _ h
-
--- after the last parameter
-pub attributes-here : (nulls : List ℕ) (place : ℕ) (ps : List BoundParam) (ts : List NamedType) (bytes : List ℕ) → length ps ≡ 0
-    → attributes_left nulls place ts bytes ≡ attributes_left nulls (place + length ps) (drop (length ps) ts) bytes
-attributes-here nulls place [] ts bytes e = let here : place + 0 ≡ place = omega arith in rw here refl
-attributes-here nulls place (p ∷ ps) ts bytes e = absurd (omega (arith, e))
 
 -- the same for a statement with a given number of parameters
 pub read-counted : (c : CapabilityFlags) (flags : ℕ) (params : List BoundParam) (bytes : List ℕ) (count : ℕ) → length params ≡ count → (f : BindFront) (after : List ℕ)

@@ -1,5 +1,5 @@
 -- The sent bytes of parameters and attributes.
-use Rattle.std.proofs.Common.{◌≡◌, ℕ, ◌+◌, ◌*◌, Bool, true, false, not, if◌then◌else◌, List, [], ◌∷◌, ◌++◌, length, map, position, Option, Some, is_some, cond, refl, ap, ◌∙◌, arith}
+use Rattle.std.proofs.Common.{◌≡◌, ℕ, ◌+◌, ◌*◌, Bool, true, false, not, if◌then◌else◌, List, [], ◌∷◌, ◌++◌, length, map, position, Some, is_some, cond, refl, ap, ◌∙◌, arith}
 use Rattle.std.specs.List.{flat_map, position_or_len}
 use Rattle.std.proofs.lemmas.List.{append-nil, length-append, length-map}
 use Rattle.std.proofs.lemmas.List.Folds.{flat_map-map}
@@ -76,10 +76,6 @@ length-types (p ∷ ps) = omega (arith, length-append (type_bytes false p) (flat
 position-mapped : {A B : Type 0} (p : B → Bool) (f : A → B) (xs : List A) → position_or_len p (map f xs) ≡ position_or_len (λ x. p (f x)) xs
 position-mapped p f [] = refl
 position-mapped p f (x ∷ xs) = ap (λ (n : ℕ). cond (not (p (f x))) (1 + n) 0) (position-mapped p f xs)
-
-pub length-any : (has_names : Bool) (p : TypedParam) → length (type_bytes has_names p) ≡ if has_names then 2 + length (lenenc_string_bytes p.named_type.name) else 2
-length-any true p = length-named p
-length-any false p = length-typed p
 
 -- ---- lists of values of a type of the caller's
 

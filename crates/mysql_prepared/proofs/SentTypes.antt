@@ -1,6 +1,6 @@
 -- Types are read one by one.
 use Rattle.std.proofs.Common.{◌≡◌, ◌≢◌, ◌∙◌, sym, ap, subst, suc, ℕ, zero, ◌-◌, ◌+◌, ◌<◌, ◌≤◌, List, [], ◌∷◌, ◌++◌, append_assoc, get_or, set, drop, Ok, Err, Bool, false, length, refl, arith}
-use Rattle.std.proofs.lemmas.List.{drop_more, drop_all, get_or_at, set_at, length-append}
+use Rattle.std.proofs.lemmas.List.{drop_more, get_or_at, set_at, length-append}
 use Rattle.mysql_wire.specs.declared.fault.FaultOf.{FaultOf}
 use Rattle.mysql_wire.specs.declared.fault.FaultOf.TheVariants as fault
 use Rattle.mysql_wire.specs.declared.fault.FaultKind.{FaultKind}
@@ -169,9 +169,6 @@ pub record Typed (init : List BoundParam) (start : List NamedType) (now : List B
   pub all : done ++ under_types (drop i init) ts ≡ under_types init start
   pub enough : length (drop i init) ≤ length ts
 
-pub typed-none : (init : List BoundParam) (start ts : List NamedType) → ts ≡ start → length init ≤ length start → Typed init start init 0 ts
-typed-none init start ts is le = record { done = []; count = refl; now_is = refl; all = ap (λ (l : List NamedType). under_types init l) is; enough = rw is le }
-
 pub typed-more : (init : List BoundParam) (start : List NamedType) (now : List BoundParam) (i : ℕ) (ts more : List NamedType) (t : NamedType) (d : BoundParam)
     → i < length init → Typed init start now i ts → ts ≡ t ∷ more
     → Typed init start (set now i (record (get_or now i d) { param_type = t.param_type })) (i + 1) more
@@ -192,19 +189,3 @@ typed-more init start now i ts more t d lt h took =
       all = append_assoc h.done (q ∷ []) (under_types ps more) ∙ all;
       enough = omega (arith, enough);
     }
-
-none-under : (ts : List NamedType) (l : List BoundParam) → l ≡ [] → under_types l ts ≡ []
-none-under ts [] e = refl
-none-under ts (p ∷ ps) e = absurd cc
-
-pub typed-all : (init : List BoundParam) (start : List NamedType) (now : List BoundParam) (i : ℕ) (ts : List NamedType) → length init ≤ i → Typed init start now i ts → now ≡ under_types init start
-typed-all init start now i ts le h =
-    let e : drop i init ≡ [] = drop_all i init le in
-    h.now_is ∙ ap (λ (l : List BoundParam). h.done ++ l) (e ∙ sym (none-under ts (drop i init) e)) ∙ h.all
-
--- no type is missing
-pub typed-there : (init : List BoundParam) (start : List NamedType) (now : List BoundParam) (i : ℕ) (ts : List NamedType) (d : BoundParam) → i < length init → Typed init start now i ts → ts ≡ [] → ⊥
-typed-there init start now i ts d lt h none =
-    let e = drop_more init i d lt in
-    let enough : length (get_or init i d ∷ drop (i + 1) init) ≤ 0 = subst (λ (l : List BoundParam). length l ≤ 0) e (subst (λ (l : List NamedType). length (drop i init) ≤ length l) none h.enough) in
-    absurd (omega (arith, enough))

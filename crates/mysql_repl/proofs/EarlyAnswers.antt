@@ -2,12 +2,11 @@
 use Rattle.std.proofs.Common.{◌≡◌, ℕ, List, [], ◌∷◌, Option, Some, None, option_map, Result, Ok, Err, IfSome, true, refl, sym, ap, ◌∙◌}
 use Rattle.std.specs.Global.{Vec}
 use Rattle.uuid.specs.Text.{parsed}
-use Rattle.mysql_repl.specs.declared.binlog_dump_gtid.ComBinlogDumpGtid.{ComBinlogDumpGtid}
 use Rattle.mysql_repl.specs.declared.sid.Sid.{Sid}
 use Rattle.mysql_repl.specs.declared.sid_text.InvalidSid.{InvalidSid}
 use Rattle.mysql_repl.specs.declared.sid_text.InvalidSid.TheVariants as fault
 use Rattle.mysql_repl.specs.GtidSetEarly.{early_words, early_piece, early_pieces}
-use Rattle.mysql_repl.specs.GtidSetText.{trimmed, words, with_read_sids}
+use Rattle.mysql_repl.specs.GtidSetText.{trimmed, words}
 use Rattle.mysql_repl.specs.SidText.{colon, has, before, after}
 
 -- the errors of two readers
@@ -26,13 +25,6 @@ not-refused x e h = absurd cc
 pub record IsLeft (whole left : Option InvalidSid) : Type 0 where
   pub same : IfSome whole (λ e. left ≡ Some e)
 
-whole-left : (whole : Option InvalidSid) → IfSome whole (λ e. whole ≡ Some e)
-whole-left None = tt
-whole-left (Some e) = refl
-
-pub words-whole : (whole : Option InvalidSid) → IsLeft whole whole
-words-whole whole = record { same = whole-left whole }
-
 refused-now : (A B : Type 0) (whole left : Option InvalidSid) (e : InvalidSid) → IfSome whole (λ x. left ≡ Some x) → IfSome left (λ x. Refuses {A = A} (Err e) x)
     → IfSome whole (λ x. Refuses {A = B} (Err e) x)
 refused-now A B None left e same h = tt
@@ -42,25 +34,6 @@ refused-now A B (Some x) left e same h = same-refusal {A = A} {B = B} e x (rw sa
 pub word-refused : (A B : Type 0) (whole left : Option InvalidSid) (e : InvalidSid) → IsLeft whole left → IfSome left (λ x. Refuses {A = A} (Err e) x)
     → IfSome whole (λ x. Refuses {A = B} (Err e) x)
 word-refused A B whole left e l h = refused-now A B whole left e l.same h
-
-passed-now : {A : Type 0} (whole left : Option InvalidSid) (x : A) → IfSome whole (λ e. left ≡ Some e) → IfSome left (λ e. Refuses (Ok x) e) → whole ≡ None
-passed-now None left x same h = refl
-passed-now (Some e) left x same h = not-refused x e (rw same at h)
-
-of-none : (whole : Option InvalidSid) (P : InvalidSid → Type 0) → whole ≡ None → IfSome whole P
-of-none None P h = tt
-of-none (Some e) P h = absurd cc
-
--- an accepted word leaves none
-pub word-passed : {A : Type 0} (whole left next : Option InvalidSid) (x : A) → IsLeft whole left → IfSome left (λ e. Refuses (Ok x) e) → IsLeft whole next
-word-passed whole left next x l h = record { same = of-none whole (λ e. next ≡ Some e) (passed-now whole left x l.same h) }
-
-end-of : (whole : Option InvalidSid) → IfSome whole (λ e. None ≡ Some e) → whole ≡ None
-end-of None h = refl
-end-of (Some e) h = absurd cc
-
-pub words-passed : {A : Type 0} (whole : Option InvalidSid) (r : Result A InvalidSid) → IsLeft whole None → IfSome whole (λ e. Refuses r e)
-words-passed whole r l = of-none whole (λ e. Refuses r e) (end-of whole l.same)
 
 -- ---- the pieces between commas
 
@@ -72,28 +45,10 @@ all-left : (whole : Option (Result (List Sid) InvalidSid)) (sids : Vec Sid) → 
 all-left None sids none = tt
 all-left (Some read) sids none = (none, refl)
 
-pub pieces-begin : (sids : Vec Sid) (pieces : List (List ℕ)) → sids.items ≡ [] → AnswerIsLeft (early_pieces pieces) sids pieces
-pieces-begin sids pieces none = record { known = all-left (early_pieces pieces) sids none }
-
 -- a piece that isn't blank is refused, or allocates
 refusal-of : (e : Option InvalidSid) (read : Result (List Sid) InvalidSid) → option_map Err e ≡ Some read → (x : InvalidSid) × (e ≡ Some x) × (read ≡ Err x)
 refusal-of None read h = absurd cc
 refusal-of (Some x) read h = (x, refl, cc)
-
-passed-piece : (whole : Option (Result (List Sid) InvalidSid)) (sids next : Vec Sid) (piece : List ℕ) (pieces : List (List ℕ))
-    → IfSome whole (λ read. (sids.items ≡ []) × (early_pieces (piece ∷ pieces) ≡ Some read)) → (piece ≡ [] → next ≡ sids) → IfSome (early_piece piece) (λ e. Refuses (Ok next) e)
-    → IfSome whole (λ read. (next.items ≡ []) × (early_pieces pieces ≡ Some read))
-passed-piece None sids next piece pieces known blank refused = tt
-passed-piece (Some read) sids next [] pieces known blank refused =
-    (ap (λ (v : Vec Sid). v.items) (blank refl) ∙ known.0, known.1)
-passed-piece (Some read) sids next (c ∷ cs) pieces known blank refused =
-    let f = refusal-of (early_piece (c ∷ cs)) read known.1 in
-    not-refused next f.0 (rw f.1 at refused)
-
-pub piece-passed : (whole : Option (Result (List Sid) InvalidSid)) (sids next : Vec Sid) (piece : List ℕ) (pieces left : List (List ℕ)) → AnswerIsLeft whole sids left → left ≡ piece ∷ pieces
-    → (piece ≡ [] → next ≡ sids) → IfSome (early_piece piece) (λ e. Refuses (Ok next) e) → AnswerIsLeft whole next pieces
-piece-passed whole sids next piece pieces left l is blank refused =
-    record { known = passed-piece whole sids next piece pieces (rw is at l.known) blank refused }
 
 first-refused : (whole : Option (Result (List Sid) InvalidSid)) (sids : Vec Sid) (piece : List ℕ) (pieces : List (List ℕ)) (e : InvalidSid)
     → IfSome whole (λ read. (sids.items ≡ []) × (early_pieces (piece ∷ pieces) ≡ Some read)) → (piece ≡ [] → ◌≡◌ {A = Result (Vec Sid) InvalidSid} (Err e) (Ok sids)) → IfSome (early_piece piece) (λ x. Refuses {A = Vec Sid} (Err e) x)
@@ -114,9 +69,6 @@ none-read None sids known = tt
 none-read (Some read) sids known =
     let last : Ok [] ≡ read = let h : ◌≡◌ {A = Option (Result (List Sid) InvalidSid)} (Some (Ok [])) (Some read) = known.1 in cc in ap Ok known.0 ∙ last
 
-pub pieces-passed : (whole : Option (Result (List Sid) InvalidSid)) (sids : Vec Sid) → AnswerIsLeft whole sids [] → IfSome whole (λ read. Ok sids.items ≡ read)
-pieces-passed whole sids l = none-read whole sids l.known
-
 -- ---- a uuid and its words
 
 pub uuid-early : (piece front word : List ℕ) → has colon piece ≡ true → front ≡ before colon piece → word ≡ trimmed front → None ≡ parsed word → early_piece piece ≡ Some fault.Uuid
@@ -135,8 +87,3 @@ cut-some [] h e = cc
 cut-some (c ∷ cs) h e = cc
 
 -- ---- dumps
-
-pub dump-early : (p : ComBinlogDumpGtid) (whole : Option (Result (List Sid) InvalidSid)) (r : Result (List Sid) InvalidSid) → IfSome whole (λ read. r ≡ read)
-    → IfSome whole (λ read. with_read_sids r p ≡ with_read_sids read p)
-dump-early p None r h = tt
-dump-early p (Some read) r h = ap (λ (x : Result (List Sid) InvalidSid). with_read_sids x p) h

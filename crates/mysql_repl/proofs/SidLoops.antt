@@ -1,5 +1,5 @@
 -- A loop that reads intervals.
-use Rattle.std.proofs.Common.{◌≡◌, ◌⊎◌, inl, inr, List, [], ◌∷◌, ◌++◌, Some, None, Result, Ok, Err, IfSome, refl, sym, ap, ◌∙◌, append_assoc}
+use Rattle.std.proofs.Common.{◌≡◌, ◌⊎◌, inl, inr, List, [], ◌∷◌, ◌++◌, None, Result, Ok, Err, IfSome, refl, sym, ap, ◌∙◌, append_assoc}
 use Rattle.std.proofs.lemmas.List.{append-nil}
 use Rattle.mysql_repl.specs.declared.gno_interval.GnoInterval.{GnoInterval}
 use Rattle.mysql_repl.specs.declared.sid_text.InvalidSid.{InvalidSid}
@@ -40,22 +40,7 @@ pub not-refused : (left all more : List (Result GnoInterval InvalidSid)) (i : Gn
 not-refused left all more i early is =
     elim early [ inl same ↦ ap first_refusal (sym same ∙ is) | inr none ↦ none ]
 
-pub refused-first : {A : Type 0} (left all more : List (Result GnoInterval InvalidSid)) (e : InvalidSid) (r : Result A InvalidSid) → IsEarly left all → left ≡ Err e ∷ more
-    → r ≡ Err e → IfSome (first_refusal all) (λ x. r ≡ Err x)
-refused-first left all more e r early is known =
-    elim early [
-      | inl same ↦ let first : first_refusal all ≡ Some e = ap first_refusal (sym same ∙ is) in rw first known
-      | inr none ↦ rw none tt
-    ]
-
 pub none-refused : {A : Type 0} (all : List (Result GnoInterval InvalidSid)) (r : Result A InvalidSid) → first_refusal all ≡ None → IfSome (first_refusal all) (λ x. r ≡ Err x)
 none-refused all r none = rw none tt
-
-pub no-more-refused : {A : Type 0} (left all : List (Result GnoInterval InvalidSid)) (r : Result A InvalidSid) → IsEarly left all → left ≡ [] → IfSome (first_refusal all) (λ x. r ≡ Err x)
-no-more-refused left all r early is =
-    elim early [
-      | inl same ↦ let first : first_refusal all ≡ None = ap first_refusal (sym same ∙ is) in rw first tt
-      | inr none ↦ rw none tt
-    ]
 
 pub ruleset loops = (next-interval, no-interval, all-intervals, none-before)

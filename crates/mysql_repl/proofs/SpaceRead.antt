@@ -19,9 +19,6 @@ any-above : (n : ℕ) → 0 < n → is_any n ≡ true
 any-above zero lt = absurd (omega (arith, lt))
 any-above (suc n) lt = refl
 
-pub not-none : (n : ℕ) → (n ≡ 0 → ⊥) → is_any n ≡ true
-not-none n some = any-above n (omega (arith, some))
-
 -- a fault is returned unchanged, and Memory if it is allowed
 pub answered-as : {A B : Type 0} (b takes : Bool) (e : FaultOf) (one : Reading A) (read : Reading B) → (b ≡ true → takes ≡ true) → Faults b e one → Faults true e read → Faults takes e read
 answered-as b takes fault.Memory one read may h k = may h
