@@ -11,7 +11,6 @@ use Rattle.mysql_prepared.specs.declared.execute_head.ComStmtExecuteHead.{ComStm
 use Rattle.mysql_prepared.specs.declared.execute_view.BoundParam.{BoundParam}
 use Rattle.mysql_conversation.specs.Agreements.{Agreed}
 use Rattle.mysql_conversation.specs.declared.packet_kind.PacketKind.{PacketKind}
-use Rattle.mysql_conversation.specs.declared.packet_kind.PacketKind.TheVariants as kind
 use Rattle.mysql_wire.specs.Flags.{CapabilityFlags}
 use Rattle.mysql_observer.specs.Client.{client_packet}
 use Rattle.mysql_observer.specs.Context.{agreed_or_none}
@@ -21,7 +20,7 @@ use Rattle.mysql_statements.specs.ResultColumns.{ResultColumns}
 use Rattle.mysql_statements.specs.declared.row_column.RowColumn.{RowColumn}
 use Rattle.mysql_conversation.specs.Pipelined.{Numbered}
 use Rattle.mysql_observer.specs.PacketContext.{IsContext, type_of, unsigned}
-use Rattle.mysql_observer.specs.Tracked.{Tracked, Params, is_execution}
+use Rattle.mysql_observer.specs.Tracked.{Tracked, Params, Reached, is_execution}
 use Rattle.mysql_observer.specs.declared.execution.Known.{Known}
 use Rattle.mysql_observer.specs.declared.server.ServerPacket.{ServerPacket}
 use Rattle.mysql_observer.specs.declared.record.ClientRecord.{ClientRecord}
@@ -51,6 +50,11 @@ has_params (Some a) k = is_execution k
 -- its parameters, if its statement is known
 abbrev pub known_params : Option Agreed → Option Params → PacketKind → Option Params
 known_params agreed ps k = if has_params agreed k then ps else None
+
+-- the parameters of a pipelined execution that the server has reached
+abbrev pub reached_params : Option Reached → Option Params
+reached_params None = None
+reached_params (Some r) = r.params
 
 abbrev pub params_in : Known → Option Params
 params_in k = if k.is_known then Some (record { params = k.params.now; is_bound = k.is_bound }) else None

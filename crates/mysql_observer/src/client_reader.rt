@@ -1,16 +1,21 @@
 //! Packets of the client are read by their kind.
 #![tactic(auto, using(mysql_wire::proofs::Packets::packets))]
 
-ghost use Rattle.std.specs.Prelude.{false, ◌≡◌, Ok, List, ℕ, OnErr, IfOk, IfErr};
+ghost use Rattle.std.specs.Prelude.{false, true, ◌≡◌, Ok, List, ℕ, OnErr, IfOk, IfErr};
 ghost use Rattle.mysql_wire.specs.Reading.{Answers, Faults};
 ghost use Rattle.mysql_observer.specs.Client as spec;
+ghost use Rattle.mysql_observer.specs.Queries as queries;
 
 use crate::client::ClientPacket;
 use crate::read_context::agreed_or_none;
+use mysql_commands::Command;
 use mysql_conversation::PacketKind;
 use mysql_replies::SessionCapabilities;
 use mysql_wire::{FaultOf, ParseBuf};
 use std::alloc::Global;
+
+/// The first byte of `COM_QUERY`.
+const QUERY: u8 = 0x03;
 
 /// The packet of this kind.
 fn read_of_kind<'s, 'a>(
@@ -35,6 +40,42 @@ fn read_of_kind<'s, 'a>(
     }
 }
 
+/// Whether it is a query: a command that begins with that byte.
+#[inline(always)]
+fn is_query(kind: PacketKind, buf: &ParseBuf<'_>) -> bool
+    ensures { result ≡ true → queries.IsQuery kind buf.now }
+{
+    matches!(kind, PacketKind::Command(_)) && buf.first() == Some(QUERY)
+}
+
+/// Reads a query.
+#[inline(always)]
+fn read_query<'s, 'a>(
+    agreed: Option<SessionCapabilities>,
+    buf: &mut ParseBuf<'a>,
+) -> Result<ClientPacket<'a>, FaultOf<'s>>
+    ensures value { Answers false result buf.new ((queries.query_packet agreed).reads buf.old) }
+{
+    Ok(ClientPacket::Command(Command::Query(buf.parse(
+        agreed_or_none(agreed).mysql,
+    )?)))
+}
+
+/// The packet of this kind. A query is read without the moves of the other commands' records.
+#[inline(always)]
+fn read_packet<'s, 'a>(
+    agreed: Option<SessionCapabilities>,
+    kind: PacketKind,
+    buf: &mut ParseBuf<'a>,
+) -> Result<ClientPacket<'a>, FaultOf<'s>>
+    ensures value { Answers false result buf.new ((spec.client_packet agreed kind).reads buf.old) }
+{
+    if is_query(kind, buf) {
+        return read_query(agreed, buf);
+    }
+    read_of_kind(agreed, kind, buf)
+}
+
 /// Reads the packet of this kind from the front of the bytes, under the agreed capabilities: none before the login, as
 /// [`Session::agreed`](mysql_conversation::Session::agreed) returns them. Bytes after the record stay.
 ///
@@ -50,7 +91,7 @@ pub fn read_client_packet<'s, 'a>(
     ensures err { OnErr result (buf.new ≡ buf.old) }
 {
     let mut rest = buf.rest();
-    let packet = read_of_kind(agreed, kind, &mut rest)?;
+    let packet = read_packet(agreed, kind, &mut rest)?;
     *buf = rest;
     Ok(packet)
 }

@@ -1,6 +1,6 @@
 //! An execution and its parameters.
 
-ghost use Rattle.std.specs.Prelude.{◌≡◌, ◌||◌, false, true, Ok, IfOk, IfErr, Some, List, ℕ};
+ghost use Rattle.std.specs.Prelude.{◌≡◌, ◌||◌, false, true, None, Ok, IfOk, IfErr, Some, List, ℕ};
 ghost use Rattle.mysql_wire.specs.Reading.{Answers, Faults};
 ghost use Rattle.mysql_prepared.specs.ExecuteHead.{execute_head};
 ghost use Rattle.mysql_observer.specs.Records as spec;
@@ -21,6 +21,17 @@ pub(crate) struct Known<'o> {
     pub(crate) is_bound: bool,
     /// Whether they are known. If they aren't, the list is empty.
     pub(crate) is_known: bool,
+}
+
+/// Parameters that aren't known.
+pub(crate) fn unknown<'o>() -> Known<'o>
+    ensures { spec.params_in result ≡ None }
+{
+    Known {
+        params: &[],
+        is_bound: false,
+        is_known: false,
+    }
 }
 
 /// The fields before the parameters, and the bytes after them.

@@ -20,7 +20,7 @@ use crate::server_reader::server_packet;
 use crate::tracked::Tracked;
 use mysql_conversation::{PacketKind, PacketKindTag, RowFormat, Session, SessionError, Side};
 use mysql_replies::SessionCapabilities;
-use mysql_statements::{ResultColumns, RowColumn};
+use mysql_statements::{PipelinedCommand, ResultColumns, RowColumn};
 use mysql_wire::FaultOf;
 use std::alloc::Global;
 
@@ -45,6 +45,7 @@ impl Observer {
     ghost use Rattle.mysql_conversation.specs.Piped.{place};
     ghost use Rattle.mysql_conversation.specs.Session.{GoesOn, IsResumedBeginning, IsResumedSession, IsSession, IsSessionBeginning, SessionResumed};
     ghost use Rattle.mysql_conversation.specs.declared.packet_kind.PacketKind as declared;
+    ghost use Rattle.mysql_conversation.specs.declared.packet_kind.PacketKind.TheVariants as kinds;
     ghost use Rattle.mysql_conversation.specs.Agreements as agreement;
     ghost use Rattle.mysql_conversation.specs.declared.packet_kind.Side.TheVariants as side;
     ghost use Rattle.mysql_conversation.specs.declared.pipeline.Pipeline as pipe;
@@ -58,7 +59,7 @@ impl Observer {
     /// Creates an observer before the first packet, with these limits.
     pub fn new(alloc: Global, limits: ObserverLimits) -> Self
         ensures observed { Observed result [] }
-        ensures tracked { observed.tracked result ≡ record { table = tables.empty limits.statements; early = early.none_waits limits.early; lost = None; params = None } }
+        ensures tracked { observed.tracked result ≡ record { table = tables.empty limits.statements; early = early.none_waits limits.early; lost = None; params = None; reached = None } }
         ensures columns { observed.result_columns result ≡ results.unknown limits.columns }
         ensures limit { observed.limit result ≡ limits.waiting }
     {
@@ -230,7 +231,7 @@ impl Observer {
         ensures tracked { spec.KeptIn agreed is_early kind exchange payload.now result self.old.tracked self.new.tracked }
     {
         let Some(agreed) = agreed else {
-            self.tracked.forget_params();
+            self.tracked.forget_executions();
             return true;
         };
         if is_early {
@@ -367,6 +368,46 @@ impl Observer {
             agreed,
             kind,
             self.known_params(agreed, kind),
+            payload,
+        )
+    }
+
+    /// Returns the pipelined execution that the server has reached by the packet that was passed last, if its statement is known: the
+    /// answer to it begins. It came before its statement was known, or before an earlier command could change it.
+    ///
+    /// ```
+    /// match observer.reached_execution() {
+    ///     Some(execution) => Ok(Some(observer.reached_packet(execution.payload())?)),
+    ///     None => Ok(None),
+    /// }
+    /// ```
+    pub fn reached_execution(&self) -> Option<&PipelinedCommand>
+        ensures some { IfSome result (λ c. (r : spec.Reached) × ((observed.tracked self.now).reached ≡ Some r) × (c.now ≡ r.command)) }
+        ensures none { IfNone result ((observed.tracked self.now).reached ≡ None) }
+    {
+        self.tracked.reached()
+    }
+
+    /// Returns the record of that execution, which has this payload.
+    pub fn reached_packet<'s, 'a, 'o>(
+        &'o self,
+        payload: &'a [u8],
+    ) -> Result<ClientRecord<'a, 'o>, FaultOf<'s>>
+        ensures packet { IfOk result (λ r. (items : List Numbered) → Observed self.now items → (agreed : Option agreement.Agreed) × context.IsAgreed items agreed
+            × records.IsClientRecord agreed (records.reached_params (observed.tracked self.now).reached) (kinds.Command 0x17) payload.now r) }
+        ensures fault { IfErr result (λ e. (items : List Numbered) → Observed self.now items → (agreed : Option agreement.Agreed) × context.IsAgreed items agreed
+            × records.IsClientFault agreed (records.reached_params (observed.tracked self.now).reached) (kinds.Command 0x17) payload.now e) }
+        ensures resumed { IfOk result (λ r. (a : agreement.Agreed) (before : ℕ) (items : List Numbered) → Resumed self.now a before items
+            → records.IsClientRecord (Some a) (records.reached_params (observed.tracked self.now).reached) (kinds.Command 0x17) payload.now r) }
+        ensures resumed_fault { IfErr result (λ e. (a : agreement.Agreed) (before : ℕ) (items : List Numbered) → Resumed self.now a before items
+            → records.IsClientFault (Some a) (records.reached_params (observed.tracked self.now).reached) (kinds.Command 0x17) payload.now e) }
+    {
+        let agreed = self.agreed_in_session();
+        read_client(
+            self.alloc,
+            agreed,
+            PacketKind::Command(0x17),
+            self.tracked.reached_params(),
             payload,
         )
     }

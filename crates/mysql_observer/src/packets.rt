@@ -108,12 +108,19 @@ pub(crate) fn is_event(kind: PacketKind) -> bool
     matches!(kind, PacketKind::BinlogEvent)
 }
 
-/// Whether it is a row.
+/// Whether it says nothing about later packets, as a row or an OK packet.
 #[inline(always)]
-pub(crate) fn is_row(kind: PacketKind) -> bool
-    ensures { result ≡ spec.is_row kind }
+pub(crate) fn is_silent(kind: PacketKind) -> bool
+    ensures { result ≡ spec.is_silent kind }
 {
-    matches!(kind, PacketKind::Row(_))
+    match kind {
+        PacketKind::Command(_)
+        | PacketKind::PrepareOk(_, _, _)
+        | PacketKind::Column
+        | PacketKind::ColumnCount(_, _)
+        | PacketKind::Error => false,
+        _ => true,
+    }
 }
 
 /// Whether there was memory for both.

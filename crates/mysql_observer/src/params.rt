@@ -1,6 +1,6 @@
 //! The parameters of the execution that came last.
 
-ghost use Rattle.std.specs.Prelude.{◌≡◌, ◌&&◌, IsTrue, None, false, if◌then◌else◌, Some, IfSome, IfNone};
+ghost use Rattle.std.specs.Prelude.{◌≡◌, ◌&&◌, IsTrue, None, false, if◌then◌else◌, is_some, Some, IfSome, IfNone};
 ghost use Rattle.mysql_observer.specs.Tracked as spec;
 ghost use Rattle.mysql_observer.specs.Records as records;
 
@@ -59,6 +59,13 @@ impl Params {
         self.is_bound = statement.is_bound();
         self.is_known = true;
         true
+    }
+
+    /// Whether they are known.
+    pub(crate) fn is_known(&self) -> bool
+        ensures { result ≡ is_some self.now }
+    {
+        self.is_known
     }
 
     /// They, and whether an earlier execution gave them types.

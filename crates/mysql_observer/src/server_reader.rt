@@ -136,6 +136,21 @@ fn read_of_kind<'s, 'a, 'c, C: TypedColumn>(
     }
 }
 
+/// The packet of this kind. An OK packet is read without the moves of the other records.
+#[inline(always)]
+fn read_packet<'s, 'a, 'c, C: TypedColumn>(
+    context: &ReadContext<'c, C>,
+    kind: PacketKind,
+    buf: &mut ParseBuf<'a>,
+) -> Result<ServerPacket<'a, 'c, C>, FaultOf<'s>>
+    ensures value { Answers false result buf.new ((spec.server_packet C.type_of C.unsigned context.now kind).reads buf.old) }
+{
+    if let PacketKind::Ok = kind {
+        return Ok(ServerPacket::Ok(read_ok(agreed_or_none(context.agreed), buf)?));
+    }
+    read_of_kind(context, kind, buf)
+}
+
 /// Reads the packet of this kind from the front of the bytes.
 ///
 /// Bytes after the record stay. A row has all bytes, since its values are read later: [`TextRowView::rest`] and
@@ -158,7 +173,7 @@ pub fn read_server_packet<'s, 'a, 'c, C: TypedColumn>(
         return Ok(ServerPacket::TextRow(read_text_row(context.column_count, buf)));
     }
     let mut rest = buf.rest();
-    let packet = read_of_kind(context, kind, &mut rest)?;
+    let packet = read_packet(context, kind, &mut rest)?;
     *buf = rest;
     Ok(packet)
 }
