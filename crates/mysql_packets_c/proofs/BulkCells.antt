@@ -146,8 +146,8 @@ module _ (held cell rest left front whole : List ℕ) (parts : left ≡ cell ++ 
   items-more longer is = ap (λ (l : List ℕ). l ++ rest) is ∙ append_assoc held cell rest ∙ ap (λ (l : List ℕ). held ++ l) (sym parts) ∙ so_far
 
   pub fits-more : (least capacity : ℕ) → length front + length whole ≤ least → least ≤ capacity → length held + length cell ≤ capacity
-  fits-more least capacity room more =
-      omega (arith, ap length so_far, ap length parts, length-append held left, length-append cell rest, length-append front whole, room, more)
+  fits-more least capacity enough more =
+      omega (arith, ap length so_far, ap length parts, length-append held left, length-append cell rest, length-append front whole, enough, more)
 
 pub less-more : (cell rest left : List ℕ) (whole : ℕ) → left ≡ cell ++ rest → length left ≤ whole → length rest ≤ whole
 less-more cell rest left whole parts le = omega (arith, ap length parts, length-append cell rest, le)

@@ -82,6 +82,10 @@ is_plain column v =
 abbrev pub takes_value : CColumnType → CValue → Bool
 takes_value column value = is_cell value && spells_cell (declared_type column) (cell_of value)
 
+-- the length of what is sent of it, if its type can encode it
+abbrev pub IsValueLen : CColumnType → CValue → Option ℕ → Type 0
+IsValueLen column value len = MatchOption len (takes_value column value ≡ false) (λ n. (takes_value column value ≡ true) × (n ≡ saturated (length (value_bytes column value))))
+
 -- the row has one of them for each column
 abbrev pub takes_row : List CColumnType → List CValue → Bool
 takes_row columns row = list_all is_cell row && spells_cells (declared_types columns) (cells_of row)

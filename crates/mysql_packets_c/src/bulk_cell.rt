@@ -80,7 +80,7 @@ fn indicator_of(value: &ValueRef<'_>) -> u8
 }
 
 /// The length of a value under a type with its indicator. `None` if the type can't encode it.
-#[inline(never)]
+#[inline(always)]
 fn typed_len(param_type: ParamType, value: ValueRef<'_>) -> Option<usize>
     ensures { spec.IsLen param_type (Given (ref_content value.entry)) result }
 {
@@ -88,19 +88,28 @@ fn typed_len(param_type: ParamType, value: ValueRef<'_>) -> Option<usize>
     Some(typed.defined_len().saturating_add(1))
 }
 
-/// The length of a value in a column. `None` if it is invalid, or the type can't encode it.
-#[inline(always)]
-fn value_len(column: &CColumnType, value: &CValue<'_>) -> Option<usize>
-    ensures { MatchOption result (spec.takes_value column.now value.now ≡ false) (λ n. (spec.takes_value column.now value.now ≡ true) × (n ≡ saturated (length (spec.value_bytes column.now value.now)))) }
+/// The length of a value of any kind in a column. `None` if it is invalid, or the type can't encode it.
+// (by a call, so that what counts NULLs, numbers and texts stays small enough to be in line)
+#[inline(never)]
+fn any_len(column: &CColumnType, value: &CValue<'_>) -> Option<usize>
+    ensures { spec.IsValueLen column.now value.now result }
 {
-    if is_plain(column, value) {
-        return Some(plain(value).defined_len().saturating_add(1));
-    }
     match value.kind {
         KIND_DEFAULT => Some(1),
         KIND_IGNORE => Some(1),
         _ => typed_len(declared_type(column), to_ref(value)?),
     }
+}
+
+/// The same length.
+#[inline(always)]
+fn value_len(column: &CColumnType, value: &CValue<'_>) -> Option<usize>
+    ensures { spec.IsValueLen column.now value.now result }
+{
+    if is_plain(column, value) {
+        return Some(plain(value).defined_len().saturating_add(1));
+    }
+    any_len(column, value)
 }
 
 /// The length of a row, which has a value for each column. `None` if one of them is invalid, or its type can't encode it.

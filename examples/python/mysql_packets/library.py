@@ -197,7 +197,7 @@ class Library:
         it.held = packed
         return it
 
-    def parameters(self, values: Sequence[Sent], types: Sequence[Optional[str]] = (), names: Sequence[bytes] = ()) -> Any:
+    def parameters(self, values: Sequence[Sent], types: Sequence[Optional[str]] = (), names: Sequence[Content] = ()) -> Any:
         """Converted values as an array of `myp_parameter`: each of the type of its kind, or of one that is named."""
         packed = self.packed(values)
         parameters = [self.types["myp_parameter"](value=value) for value in packed[: len(values)]]

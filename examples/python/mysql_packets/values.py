@@ -6,7 +6,7 @@ import enum
 import struct
 import uuid
 from itertools import accumulate, chain
-from typing import Any, Callable, Dict, List, NamedTuple, Sequence, Tuple, Type, Union
+from typing import Any, Callable, Dict, List, NamedTuple, Sequence, Set, Tuple, Type, Union
 
 from .errors import InvalidValue
 from .records import Cell
@@ -14,7 +14,7 @@ from .records import Cell
 # What a value is converted to before it is sent.
 Sent = Union[None, int, float, bytes, decimal.Decimal, datetime.datetime, datetime.date, datetime.timedelta, Cell]
 # These have no type of their own, and fit each.
-UNTYPED = {type(None), Cell}
+UNTYPED: Set[Type[Any]] = {type(None), Cell}
 # The fields of a myp_value, and their bytes.
 FIELDS = ["kind", "is_negative", "month", "day", "hour", "minute", "second", "reserved", "micros", "days", "number", "bytes"]
 LAYOUT = struct.Struct("<8BIIQQQ")
@@ -92,7 +92,7 @@ def column_of(values: Sequence[Any], column: int) -> ColumnValues:
 
     Ints and floats together are sent as DOUBLE, a Decimal and numbers beside it as text, and dates and datetimes together as DATETIME. Raises
     InvalidValue, with row and column, for a value that no type has together with those before it."""
-    kinds = {type(it) for it in values} - UNTYPED
+    kinds: Set[Type[Any]] = {type(it) for it in values} - UNTYPED
     if kinds == {float}:
         return ColumnValues("DOUBLE", False, values)
     if kinds and kinds <= {str, bytes}:
@@ -110,7 +110,7 @@ def column_of(values: Sequence[Any], column: int) -> ColumnValues:
 
 
 def _unified(sent: List[Sent], column: int) -> ColumnValues:
-    kinds = {type(it) for it in sent} - UNTYPED
+    kinds: Set[Type[Any]] = {type(it) for it in sent} - UNTYPED
     if kinds == {int}:
         return _integers(sent, column)
     if kinds <= {int, float} and kinds:

@@ -1,5 +1,5 @@
 use Rattle.mysql_packets_c.proofs.BulkCells.{default-len, ignore-len}
-use Rattle.mysql_packets_c.proofs.bulk_cell.value_len.Goals as goal
+use Rattle.mysql_packets_c.proofs.bulk_cell.any_len.Goals as goal
 
 pub returns-in-9 : goal.returns-in-9
 returns-in-9 c = default-len c.args.column.now c.args.value.now c.in-9.is
