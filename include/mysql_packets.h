@@ -566,7 +566,9 @@ enum myp_value_kind {
     MYP_VALUE_DOUBLE,
     MYP_VALUE_DATE,
     MYP_VALUE_TIME,
-    MYP_VALUE_DATE_WITH_OFFSET
+    MYP_VALUE_DATE_WITH_OFFSET,
+    MYP_VALUE_DEFAULT,
+    MYP_VALUE_IGNORE
 };
 
 /* A value of a row, a parameter or an attribute. In a text row values are bytes or NULL. In a
@@ -591,7 +593,11 @@ enum myp_value_kind {
  *                      those of MYP_VALUE_DATE, and number: the offset from UTC in minutes, in
  *                      two's complement, from -32768 to 32767. Only parameters and attributes of
  *                      the types DATETIME and TIMESTAMP have it: calls that write rows and bulk
- *                      requests return MYP_ERROR_INVALID_INPUT for it */
+ *                      requests return MYP_ERROR_INVALID_INPUT for it
+ *   MYP_VALUE_DEFAULT, MYP_VALUE_IGNORE
+ *                      none: in a row of a bulk request that is written, the column's default, or
+ *                      a column that is left unchanged. All other calls return
+ *                      MYP_ERROR_INVALID_INPUT for them, and none sets them */
 typedef struct myp_value {
     uint8_t kind; /* of enum myp_value_kind */
     uint8_t is_negative, month, day, hour, minute, second;
@@ -676,6 +682,20 @@ static inline myp_value myp_time(
     return value;
 }
 
+static inline myp_value myp_default(void)
+{
+    myp_value value = MYP_VALUE_INIT;
+    value.kind = MYP_VALUE_DEFAULT;
+    return value;
+}
+
+static inline myp_value myp_ignore(void)
+{
+    myp_value value = MYP_VALUE_INIT;
+    value.kind = MYP_VALUE_IGNORE;
+    return value;
+}
+
 /* Returns the number of MYP_VALUE_FLOAT and MYP_VALUE_DOUBLE. */
 static inline double myp_as_double(const myp_value *value)
 {
@@ -708,7 +728,8 @@ static inline myp_column_type myp_type_of(const myp_column *column)
 }
 
 /* Reads ProtocolText::ResultsetRow into n values, one for each column; *used is the length of the
- * row. MYP_ERROR_UNEXPECTED_EOF and MYP_ERROR_INVALID_DATA: the first values may be set. */
+ * row. MYP_ERROR_UNEXPECTED_EOF and MYP_ERROR_INVALID_DATA: the values before the faulty one are
+ * set, and the others unchanged. */
 MYP_MUST_CHECK uint32_t myp_read_text_row(
     const uint8_t *packet,
     size_t len,
@@ -738,7 +759,8 @@ MYP_MUST_CHECK uint32_t myp_text_to_double(
 
 /* Reads ProtocolBinary::ResultsetRow into the first values, one for each column; *used is the
  * length of the row. MYP_ERROR_BUFFER_TOO_SMALL for fewer values than columns, and nothing is
- * changed; MYP_ERROR_UNEXPECTED_EOF and MYP_ERROR_INVALID_DATA: the first values may be set. */
+ * changed; MYP_ERROR_UNEXPECTED_EOF and MYP_ERROR_INVALID_DATA: the values before the faulty one
+ * are set, and the others unchanged. */
 MYP_MUST_CHECK uint32_t myp_read_binary_row(
     const uint8_t *packet,
     size_t len,
@@ -917,15 +939,15 @@ enum myp_bulk_flag {
 };
 
 /* Writes COM_STMT_BULK_EXECUTE with as many of the first rows as a request of max_allowed_packet -
- * 4 bytes holds, and their types; *rows is their number. The values are row after row. The types
- * may be MYP_TYPE_LONGLONG, MYP_TYPE_FLOAT, MYP_TYPE_DOUBLE, those of dates and times, and those of
- * byte strings except MYP_TYPE_BIT; only MYP_TYPE_LONGLONG may be unsigned. Without values nothing
- * is written. A buffer of max_allowed_packet - 4 bytes is never too small.
+ * 4 bytes holds, and their types; *rows is their number. The values are row after row. Each is
+ * encoded under the type of its column, as in myp_write_execution; myp_default() and myp_ignore()
+ * fit any type. Without values nothing is written. A buffer of max_allowed_packet - 4 bytes is
+ * never too small.
  *
- * MYP_ERROR_INVALID_INPUT for no columns, values that are not whole rows, an unknown flag, another
- * type, a value that is invalid or that its type can't encode, or max_allowed_packet below 4;
- * MYP_ERROR_ROW_TOO_LARGE if the first row exceeds a request: *written and *rows are 0, even if the
- * invalid row comes after others. Rows after those that fit are not checked.
+ * MYP_ERROR_INVALID_INPUT for no columns, values that are not whole rows, an unknown flag, an
+ * invalid type, a value that is invalid or that its type can't encode, or max_allowed_packet below
+ * 4; MYP_ERROR_ROW_TOO_LARGE if the first row exceeds a request: *written and *rows are 0, even if
+ * the invalid row comes after others. Rows after those that fit are not checked.
  * MYP_ERROR_BUFFER_TOO_SMALL: *rows is 0. */
 MYP_MUST_CHECK uint32_t myp_write_bulk(
     uint32_t statement_id,
@@ -941,8 +963,8 @@ MYP_MUST_CHECK uint32_t myp_write_bulk(
     size_t *rows);
 
 /* Begins COM_STMT_BULK_EXECUTE for rows that are added one by one: writes its head and the types,
- * as myp_write_bulk does. MYP_ERROR_INVALID_INPUT for no columns, an unknown flag, or a type that
- * may not be declared, and *written is 0; MYP_ERROR_BUFFER_TOO_SMALL. */
+ * as myp_write_bulk does. MYP_ERROR_INVALID_INPUT for no columns, an unknown flag, or an invalid
+ * type, and *written is 0; MYP_ERROR_BUFFER_TOO_SMALL. */
 MYP_MUST_CHECK uint32_t myp_begin_bulk(
     uint32_t statement_id,
     uint32_t flags,
@@ -1426,7 +1448,8 @@ typedef struct myp_execution {
  *
  * MYP_ERROR_BUFFER_TOO_SMALL for fewer values or types than parameters: nothing is changed.
  * MYP_ERROR_UNEXPECTED_EOF; MYP_ERROR_INVALID_DATA, also for a count below that of the parameters,
- * and for attributes without types: equally many of the first values and types may be set. */
+ * and for attributes without types: the values before the faulty one and their types are set, and
+ * the others are unchanged. */
 MYP_MUST_CHECK uint32_t myp_read_execution(
     const uint8_t *packet,
     size_t len,
@@ -1483,14 +1506,15 @@ MYP_MUST_CHECK uint32_t myp_read_bulk_head(
 
 /* Takes the types of the columns off the front of *rest, the rows of a head with
  * MYP_BULK_SEND_TYPES_TO_SERVER; without that flag those of an earlier execution apply.
- * MYP_ERROR_UNEXPECTED_EOF; MYP_ERROR_INVALID_DATA for an unknown type: *rest is unchanged, and the
- * types before it may be set. */
+ * MYP_ERROR_UNEXPECTED_EOF, and no type is set; MYP_ERROR_INVALID_DATA for an unknown type, and the
+ * types before it are set. After both *rest and the other types are unchanged. */
 MYP_MUST_CHECK uint32_t myp_read_bulk_types(
     myp_bytes *rest,
     myp_column_type *types,
     size_t columns);
 
-/* How a value of a bulk row is given: for each but the first the value is MYP_VALUE_NULL. */
+/* How a value of a bulk row that is read is given: for each but the first the value is
+ * MYP_VALUE_NULL. The last two are written as myp_default() and myp_ignore(). */
 enum myp_indicator {
     MYP_INDICATOR_NONE = 0,    /* as a value */
     MYP_INDICATOR_NULL = 1,
@@ -1502,8 +1526,8 @@ enum myp_indicator {
  * the first values and indicators, one of each for each column. MYP_END at the end, and
  * MYP_ERROR_BUFFER_TOO_SMALL for fewer values or indicators than columns: nothing is changed.
  * MYP_ERROR_UNEXPECTED_EOF; MYP_ERROR_INVALID_DATA for an unknown indicator, a type that no value
- * has, and bytes without columns: *rest is unchanged, and the first values and indicators may be
- * set. */
+ * has, and bytes without columns: the values before the faulty one and their indicators are set,
+ * and *rest and the others are unchanged. */
 MYP_MUST_CHECK uint32_t myp_next_bulk_row(
     myp_bytes *rest,
     const myp_column_type *types,

@@ -27,21 +27,6 @@ pub record Fills (old new : RowLeft) (before after : List CValue) : Type 0 where
   pub others : drop (old.left - new.left) after ≡ drop (old.left - new.left) before
   pub len : length after ≡ length before
 
--- All elements for the columns are set if the row is read, and after a fault some of the first ones. The others are unchanged.
-pub record FillsPlaces (columns : ℕ) (is_read : Type 0) (before after : List CValue) : Type 0 where
-  pub count : ℕ
-  pub few : count ≤ columns
-  pub all : is_read → count ≡ columns
-  pub places : SetsFirst count before after
-
--- The same number of elements of two arrays are set, and the others of both are unchanged.
-pub record FillsBoth {X : Type 0} (columns : ℕ) (is_read : Type 0) (before after : List CValue) (others_before others_after : List X) : Type 0 where
-  pub count : ℕ
-  pub few : count ≤ columns
-  pub all : is_read → count ≡ columns
-  pub places : SetsFirst count before after
-  pub other_places : drop count others_after ≡ drop count others_before
-
 -- the values of a row before its first fault: all of them without one
 abbrev pub good_text : ℕ → List ℕ → List Content
 good_text columns packet = (text_row_left columns packet).values

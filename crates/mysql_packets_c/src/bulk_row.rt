@@ -1,7 +1,7 @@
 //! The types and the rows of a bulk execution, as a server reads them.
 #![tactic(auto, using(crate::proofs::ReadBulkRows::bulk_reads))]
 
-ghost use Rattle.std.specs.Prelude.{◌≡◌, ◌≢◌, ◌<◌, ◌≤◌, ◌*◌, ◌⊎◌, IsOk, [], drop, false, length, map, take, true};
+ghost use Rattle.std.specs.Prelude.{◌≡◌, ◌≢◌, ◌<◌, ◌≤◌, ◌⊎◌, [], false, length, map, take, true};
 ghost use Rattle.mysql_bulk.specs.HeadTypes.{types_block};
 ghost use Rattle.mysql_bulk.specs.ParamValue.{param_value};
 ghost use Rattle.mysql_bulk.specs.ReadRows.{row_of_columns};
@@ -10,7 +10,6 @@ ghost use Rattle.mysql_wire.specs.Reading.{Answers};
 ghost use Rattle.mysql_wire.specs.Seq.{counted};
 ghost use Rattle.mysql_packets_c.specs.ColumnType.{type_of, unsigned_of};
 ghost use Rattle.mysql_packets_c.specs.BulkRow as spec;
-ghost use Rattle.mysql_packets_c.specs.Rows.{FillsBoth, FillsPlaces};
 
 use crate::code::{BUFFER_TOO_SMALL, END, INVALID_DATA, OK, code_of};
 use crate::execution::type_held;
@@ -25,7 +24,7 @@ use std::alloc::Global;
 /// Reads a given number of types of two bytes each.
 fn fill_block(types: &mut [CColumnType], block: &mut ParseBuf<'_>) -> Result<(), Fault>
     ensures value { spec.ReadsTypes result types.new block.new ((counted (length types.old) (param_type.form tt)).reads block.old) }
-    ensures places { spec.FillsTypes block.old types.old types.new }
+    ensures places { spec.FillsTypes (spec.good_types (length types.old) block.old) types.old types.new }
 {
     for place in 0..types.len() {
         let param_type: ParamType = block.parse(())?;
@@ -37,7 +36,7 @@ fn fill_block(types: &mut [CColumnType], block: &mut ParseBuf<'_>) -> Result<(),
 /// Reads the types of as many columns as there are places, in a block.
 fn fill_types(types: &mut [CColumnType], buf: &mut ParseBuf<'_>) -> Result<(), Fault>
     ensures value { spec.ReadsTypes result types.new buf.new ((types_block true (length types.old)).reads buf.old) }
-    ensures places { spec.FillsTypes (take (2 * length types.old) buf.old) types.old types.new }
+    ensures places { spec.FillsTypes (spec.good_block (length types.old) buf.old) types.old types.new }
 {
     if buf.len() / 2 < types.len() {
         return Err(FaultOf::UnexpectedEof);
@@ -55,7 +54,7 @@ pub extern "C" fn myp_read_bulk_types<'a>(
     types: &mut [CColumnType],
 ) -> u32
     ensures value { spec.TypesInto ((types_block true (length types.old)).reads rest.old.bytes.now) result rest.old rest.new types.new }
-    ensures places { spec.FillsTypes (take (2 * length types.old) rest.old.bytes.now) types.old types.new }
+    ensures places { spec.FillsTypes (spec.good_block (length types.old) rest.old.bytes.now) types.old types.new }
 {
     let mut buf = ParseBuf::new(alloc, rest.bytes);
     match fill_types(types, &mut buf) {
@@ -94,9 +93,7 @@ fn fill_row<'a>(
     requires values { length types.now ≤ length values.old }
     requires indicators { length types.now ≤ length indicators.old }
     ensures value { spec.ReadsRow result (take (length types.now) values.new) (take (length types.now) indicators.new) buf.new ((spec.bulk_row types.now).reads buf.old) }
-    ensures places { FillsPlaces (length types.now) (IsOk result) values.old values.new }
-    ensures together { FillsBoth (length types.now) (IsOk result) values.old values.new indicators.old indicators.new }
-    ensures others { drop (length types.now) indicators.new ≡ drop (length types.now) indicators.old }
+    ensures places { spec.FillsRow (spec.good_row types.now buf.old) values.old values.new indicators.old indicators.new }
 {
     for place in 0..types.len() {
         let param = read_param(&types[place], buf)?;
@@ -127,9 +124,8 @@ pub extern "C" fn myp_next_bulk_row<'a>(
         → spec.RowInto ((spec.bulk_row types.now).reads rest.old.bytes.now) result rest.old rest.new (take (length types.now) values.new) (take (length types.now) indicators.new) }
     ensures contents { rest.old.bytes.now ≢ [] → types.now ≢ [] → length types.now ≤ length values.old → length types.now ≤ length indicators.old
         → spec.ContentsInto ((row_of_columns (map spec.column_of types.now)).reads rest.old.bytes.now) result (take (length types.now) values.new) rest.new.bytes.now }
-    ensures places { length types.now ≤ length values.old → length types.now ≤ length indicators.old → FillsPlaces (length types.now) (result ≡ 0) values.old values.new }
-    ensures together { length types.now ≤ length values.old → length types.now ≤ length indicators.old → FillsBoth (length types.now) (result ≡ 0) values.old values.new indicators.old indicators.new }
-    ensures other_indicators { drop (length types.now) indicators.new ≡ drop (length types.now) indicators.old }
+    ensures places { rest.old.bytes.now ≢ [] → types.now ≢ [] → length types.now ≤ length values.old → length types.now ≤ length indicators.old
+        → spec.FillsRow (spec.good_row types.now rest.old.bytes.now) values.old values.new indicators.old indicators.new }
 {
     if rest.bytes.is_empty() {
         return END;

@@ -1,14 +1,13 @@
 //! The execution of a prepared statement.
 #![tactic(auto, using(crate::proofs::Codes::codes, crate::proofs::Executions::executions))]
 
-ghost use Rattle.std.specs.Prelude.{◌≡◌, ◌≢◌, ◌<◌, ◌≤◌, ◌⊎◌, Ok, Err, IfErr, IfOk, IsOk, OnOk, drop, length, take, false, true};
+ghost use Rattle.std.specs.Prelude.{◌≡◌, ◌≢◌, ◌<◌, ◌≤◌, ◌⊎◌, Ok, Err, IfErr, IfOk, OnOk, length, take, false, true};
 ghost use Rattle.mysql_prepared.specs.ExecuteParam.{param_of};
 ghost use Rattle.mysql_prepared.specs.Attributes.{attributes_left};
 ghost use Rattle.mysql_prepared.specs.ExecuteHead.{cursor_flags, execute_head};
 ghost use Rattle.mysql_prepared.specs.ExecuteRead.{HasNoParam, RefusesParam};
 ghost use Rattle.mysql_packets_c.specs.Code.{ReadsInto};
 ghost use Rattle.mysql_packets_c.specs.Execution as spec;
-ghost use Rattle.mysql_packets_c.specs.Rows.{FillsBoth, FillsPlaces};
 ghost use Rattle.mysql_packets_c.specs.Value.{SetsParam, param_content};
 
 use crate::code::{BUFFER_TOO_SMALL, OK, code_of};
@@ -164,9 +163,7 @@ fn params_into<'a>(
     requires values { length params.now ≤ length values.old }
     requires types { length params.now ≤ length types.old }
     ensures value { spec.TakesParams capabilities (cursor_flags head.now) (spec.bound_list params.now) result (take (length params.now) values.new) (take (length params.now) types.new) buf.entry }
-    ensures places { FillsPlaces (length params.now) (IsOk result) values.old values.new }
-    ensures together { FillsBoth (length params.now) (IsOk result) values.old values.new types.old types.new }
-    ensures other_types { drop (length params.now) types.new ≡ drop (length params.now) types.old }
+    ensures places { spec.FillsGood (spec.good_params capabilities (cursor_flags head.now) (spec.bound_list params.now) buf.entry) values.old values.new types.old types.new }
 {
     let mut sent = ExecuteParamsBytes::new(capabilities, head, params.len(), buf)?;
     let sends_types = sent.sends_types();
@@ -189,9 +186,7 @@ fn execution_into<'a>(
     requires types { length params.now ≤ length types.old }
     ensures code { result ≢ 4 }
     ensures value { spec.ExecutionInto capabilities buf.old (spec.bound_list params.now) ((execute_head.form tt).reads buf.old) (take (length params.now) values.new) (take (length params.now) types.new) result out.old out.new }
-    ensures places { FillsPlaces (length params.now) (result ≡ 0) values.old values.new }
-    ensures together { FillsBoth (length params.now) (result ≡ 0) values.old values.new types.old types.new }
-    ensures other_types { drop (length params.now) types.new ≡ drop (length params.now) types.old }
+    ensures places { spec.FillsGood (spec.good_execution capabilities (spec.bound_list params.now) ((execute_head.form tt).reads buf.old)) values.old values.new types.old types.new }
 {
     let len = buf.len();
     let head: ComStmtExecuteHead = match buf.parse(()) {
@@ -228,9 +223,7 @@ pub extern "C" fn myp_read_execution<'a>(
     ensures no_memory { result ≢ 4 }
     ensures small { (length values.old < length params.now) ⊎ (length types.old < length params.now) → (result ≡ 5) × (values.new ≡ values.old) × (types.new ≡ types.old) × (out.new ≡ out.old) }
     ensures value { length params.now ≤ length values.old → length params.now ≤ length types.old → spec.ExecutionInto (record { 0 = capabilities; 1 = record {} }) packet.now (spec.bound_list params.now) ((execute_head.form tt).reads packet.now) (take (length params.now) values.new) (take (length params.now) types.new) result out.old out.new }
-    ensures places { length params.now ≤ length values.old → length params.now ≤ length types.old → FillsPlaces (length params.now) (result ≡ 0) values.old values.new }
-    ensures together { length params.now ≤ length values.old → length params.now ≤ length types.old → FillsBoth (length params.now) (result ≡ 0) values.old values.new types.old types.new }
-    ensures other_types { length params.now ≤ length values.old → length params.now ≤ length types.old → drop (length params.now) types.new ≡ drop (length params.now) types.old }
+    ensures places { length params.now ≤ length values.old → length params.now ≤ length types.old → spec.FillsGood (spec.good_execution (record { 0 = capabilities; 1 = record {} }) (spec.bound_list params.now) ((execute_head.form tt).reads packet.now)) values.old values.new types.old types.new }
 {
     if values.len() < params.len() || types.len() < params.len() {
         return BUFFER_TOO_SMALL;

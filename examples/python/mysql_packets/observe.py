@@ -1,8 +1,8 @@
 """An observed connection: the bytes of both sides as they pass by, and the packets in them."""
-from typing import TYPE_CHECKING, Any, Callable, Dict, Iterator, List, Optional, Set, Tuple
+from typing import TYPE_CHECKING, Any, Callable, Dict, Iterator, List, Optional, Set
 
 from .errors import PacketError
-from .records import Column, Command, Execution, Login, Packet, Record, Statement, Value
+from .records import Column, Command, Execution, Packet, ParamType, Record, Statement
 from .rows import RowReader
 
 if TYPE_CHECKING:
@@ -16,7 +16,7 @@ class Prepared:
 
     def __init__(self, params: int):
         self.columns: List[Column] = []
-        self.types: List[Any] = [None] * params
+        self.types: List[ParamType] = [None] * params
         self.ahead: Set[int] = set()
 
 
@@ -73,12 +73,7 @@ class Observer:
         return self.session.read_handshake(payload)
 
     def _login(self, payload: bytes) -> Record:
-        p, it = self.p, self.p.read("myp_read_login", payload, into="myp_login")
-        attributes, name, value = [], p.bytes(b""), p.bytes(b"")
-        while p.next("myp_next_connection_attribute", it.attributes, name, value):
-            attributes.append((self.session._text(name), self.session._text(value)))
-        return Login(self.session._text(it.user), self.session._text(it.database), self.session._text(it.auth_plugin_name),
-                     it.capabilities, it.mariadb_capabilities, it.collation, tuple(attributes))
+        return self.session.read_login(payload)
 
     # ---- commands
 
@@ -110,24 +105,9 @@ class Observer:
         if known is None:
             return Execution(number, None, ())
         self.executed, self.columns, self.reader = known, known.columns, None
-        count = len(known.types)
-        bound = [p.types["myp_bound_param"](*(it or (0, 0)), int(at in known.ahead)) for at, it in enumerate(known.types)]
-        params = p.array("myp_bound_param", bound), count
-        values = p.array("myp_value", [p.new("myp_value") for _ in range(count)])
-        types, out, given = p.array("myp_column_type", [p.types["myp_column_type"]() for _ in range(count)]), p.new("myp_execution"), p.bytes(payload)
-        known.ahead.clear()
-        agreed = given.data, given.len, self.session.capabilities
-        self._check("myp_read_execution", *agreed, *params, values, count, types, count, p.refer(out))
-        if not out.sends_types and None in known.types:
-            return Execution(number, None, ())
-        if out.sends_types:
-            known.types = [(it.column_type, it.is_unsigned) for it in types[:count]]
-        attributes: List[Tuple[str, Value]] = []
-        for place in range(out.attributes):
-            attribute = p.new("myp_parameter")
-            self._check("myp_read_execution_attribute", *agreed, *params, place, p.refer(attribute))
-            attributes.append((self.session._text(attribute.name), p.content(attribute.value)))
-        return Execution(number, tuple(p.content(it) for it in values[:count]), tuple(attributes))
+        ahead, known.ahead = known.ahead, set()
+        execution, known.types = self.session.read_execution(payload, known.types, ahead)
+        return execution
 
     # ---- replies
 
