@@ -941,8 +941,9 @@ enum myp_bulk_flag {
 /* Writes COM_STMT_BULK_EXECUTE with as many of the first rows as a request of max_allowed_packet -
  * 4 bytes holds, and their types; *rows is their number. The values are row after row. Each is
  * encoded under the type of its column, as in myp_write_execution; myp_default() and myp_ignore()
- * fit any type. Without values nothing is written. A buffer of max_allowed_packet - 4 bytes is
- * never too small.
+ * fit any type. MariaDB refuses MYP_TYPE_INT24 and MYP_TYPE_YEAR: send a MEDIUMINT as
+ * MYP_TYPE_LONG, and a YEAR as MYP_TYPE_SHORT. Without values nothing is written. A buffer of
+ * max_allowed_packet - 4 bytes is never too small.
  *
  * MYP_ERROR_INVALID_INPUT for no columns, values that are not whole rows, an unknown flag, an
  * invalid type, a value that is invalid or that its type can't encode, or max_allowed_packet below
@@ -1478,8 +1479,8 @@ MYP_MUST_CHECK uint32_t myp_read_execution_attribute(
  * with the types, under MYP_CLIENT_QUERY_ATTRIBUTES; a name that isn't sent is empty.
  *
  * MYP_ERROR_BUFFER_TOO_SMALL for fewer places than parameters: nothing is changed.
- * MYP_ERROR_UNEXPECTED_EOF and MYP_ERROR_INVALID_DATA as in myp_read_execution: the first names may
- * be set. */
+ * MYP_ERROR_UNEXPECTED_EOF and MYP_ERROR_INVALID_DATA as in myp_read_execution: the names of the
+ * parameters before the faulty one are set, and the others unchanged. */
 MYP_MUST_CHECK uint32_t myp_read_execution_names(
     const uint8_t *packet,
     size_t len,

@@ -138,45 +138,53 @@ module _ (old new : ParamsLeft) (values_before values : List CValue) (types_befo
     other_types = subst (λ (n : ℕ). drop n types ≡ drop n types_before) (sym good-count) fills.other_types;
   }
 
-module _ (c : CapabilityFlags) (flags : ℕ) (list : List CBoundParam) (bytes : List ℕ) (values_before values : List CValue) (types_before types : List CColumnType) where
-  pub good-filled : (sent after : ParamsBytes) → StandsAfter c flags (length list) bytes sent → length list ≤ length types_before
-      → FillsParams (last_left sent list) (last_left after list) values_before values types_before types → (last_left after list).params ≡ []
-      → FillsGood (good_params c flags (bound_list list) bytes) values_before values types_before types
-  good-filled sent after (f, rest, reads, is) fit fills none =
-      let ps = bound_list list in
-      let len : length ps ≡ length list = length-map list bound_of in
-      let left : sent.left ≡ length list = ap (λ (b : ParamsBytes). b.left) is in
-      let whole : last_left sent list ≡ left_of (bytes_after (length ps) f rest) ps = all-left sent list left ∙ ap (λ (b : ParamsBytes). left_of b ps) (is ∙ ap (λ (n : ℕ). bytes_after n f rest) (sym len)) in
-      let good : good_params c flags ps bytes ≡ (last_left sent list).params =
-      ap (good_after ps) (ap (λ (n : ℕ). (execution_front c flags n).reads bytes) len ∙ reads) ∙ ap (λ (l : ParamsLeft). l.params) (sym whole) in
-      subst (λ (g : List TypedParam). FillsGood g values_before values types_before types) (sym good)
-      (params-filled (last_left sent list) (last_left after list) values_before values types_before types (omega (arith, left, fit)) fills none)
+-- the good parameters are those that are left after the front
+pub good-are : (c : CapabilityFlags) (flags : ℕ) (list : List CBoundParam) (bytes : List ℕ) (sent : ParamsBytes) → StandsAfter c flags (length list) bytes sent → good_params c flags (bound_list list) bytes ≡ (last_left sent list).params
+good-are c flags list bytes sent (f, rest, reads, is) =
+    let ps = bound_list list in
+    let len : length ps ≡ length list = length-map list bound_of in
+    let left : sent.left ≡ length list = ap (λ (b : ParamsBytes). b.left) is in
+    let whole : last_left sent list ≡ left_of (bytes_after (length ps) f rest) ps = all-left sent list left ∙ ap (λ (b : ParamsBytes). left_of b ps) (is ∙ ap (λ (n : ℕ). bytes_after n f rest) (sym len)) in
+    ap (good_after ps) (ap (λ (n : ℕ). (execution_front c flags n).reads bytes) len ∙ reads) ∙ ap (λ (l : ParamsLeft). l.params) (sym whole)
 
--- no parameter stands after a front that is none
+pub good-filled : (c : CapabilityFlags) (flags : ℕ) (list : List CBoundParam) (bytes : List ℕ) (values_before values : List CValue) (types_before types : List CColumnType) (sent after : ParamsBytes)
+    → StandsAfter c flags (length list) bytes sent → length list ≤ length types_before → FillsParams (last_left sent list) (last_left after list) values_before values types_before types → (last_left after list).params ≡ []
+    → FillsGood (good_params c flags (bound_list list) bytes) values_before values types_before types
+good-filled c flags list bytes values_before values types_before types sent after stands fit fills none =
+    let left : sent.left ≡ length list = ap (λ (b : ParamsBytes). b.left) stands.3 in
+    subst (λ (g : List TypedParam). FillsGood g values_before values types_before types) (sym (good-are c flags list bytes sent stands))
+    (params-filled (last_left sent list) (last_left after list) values_before values types_before types (omega (arith, left, fit)) fills none)
+
+-- no parameter stands after a front, or a head, that is none
+module _ (P : List TypedParam → Type 0) (none : P []) where
+  front-fault : (c : CapabilityFlags) (flags : ℕ) (list : List CBoundParam) (bytes : List ℕ) (k : FaultKind) → (execution_front c flags (length list)).reads bytes ≡ Err k → P (good_params c flags (bound_list list) bytes)
+  front-fault c flags list bytes k h = rw (length-map list bound_of, h) none
+
+  pub no-front : (c : CapabilityFlags) (flags : ℕ) (list : List CBoundParam) (bytes : List ℕ) (e : FaultOf) → Faults false e ((execution_front c flags (length list)).reads bytes) → P (good_params c flags (bound_list list) bytes)
+  no-front c flags list bytes fault.UnexpectedEof h = front-fault c flags list bytes kind.UnexpectedEof h
+  no-front c flags list bytes (fault.InvalidData text) h = front-fault c flags list bytes kind.InvalidData h
+  no-front c flags list bytes (fault.InvalidInput text) h = front-fault c flags list bytes kind.InvalidInput h
+  no-front c flags list bytes fault.Memory h = absurd cc
+
+  head-fault-of : (c : CapabilityFlags) (params : List BoundParam) (read : Reading ComStmtExecuteHead) (k : FaultKind) → read ≡ Err k → P (good_execution c params read)
+  head-fault-of c params read k h = rw h none
+
+  pub no-head : (c : CapabilityFlags) (params : List BoundParam) (read : Reading ComStmtExecuteHead) (e : FaultOf) → Faults false e read → P (good_execution c params read)
+  no-head c params read fault.UnexpectedEof h = head-fault-of c params read kind.UnexpectedEof h
+  no-head c params read (fault.InvalidData text) h = head-fault-of c params read kind.InvalidData h
+  no-head c params read (fault.InvalidInput text) h = head-fault-of c params read kind.InvalidInput h
+  no-head c params read fault.Memory h = absurd cc
+
 nothing-filled : (values : List CValue) (types : List CColumnType) → FillsGood [] values values types types
 nothing-filled values types = record { contents = refl; types = refl; places = record { set = tt; others = refl }; other_types = refl }
 
-front-fault : (c : CapabilityFlags) (flags : ℕ) (list : List CBoundParam) (bytes : List ℕ) (values : List CValue) (types : List CColumnType) (k : FaultKind) → (execution_front c flags (length list)).reads bytes ≡ Err k
-    → FillsGood (good_params c flags (bound_list list) bytes) values values types types
-front-fault c flags list bytes values types k h = rw (length-map list bound_of, h) (nothing-filled values types)
-
 pub front-refused : (c : CapabilityFlags) (flags : ℕ) (list : List CBoundParam) (bytes : List ℕ) (values : List CValue) (types : List CColumnType) (e : FaultOf)
     → Faults false e ((execution_front c flags (length list)).reads bytes) → FillsGood (good_params c flags (bound_list list) bytes) values values types types
-front-refused c flags list bytes values types fault.UnexpectedEof h = front-fault c flags list bytes values types kind.UnexpectedEof h
-front-refused c flags list bytes values types (fault.InvalidData text) h = front-fault c flags list bytes values types kind.InvalidData h
-front-refused c flags list bytes values types (fault.InvalidInput text) h = front-fault c flags list bytes values types kind.InvalidInput h
-front-refused c flags list bytes values types fault.Memory h = absurd cc
-
-no-head : (c : CapabilityFlags) (params : List BoundParam) (read : Reading ComStmtExecuteHead) (values : List CValue) (types : List CColumnType) (k : FaultKind) → read ≡ Err k
-    → FillsGood (good_execution c params read) values values types types
-no-head c params read values types k h = rw h (nothing-filled values types)
+front-refused c flags list bytes values types e h = no-front (λ g. FillsGood g values values types types) (nothing-filled values types) c flags list bytes e h
 
 pub head-refused : (c : CapabilityFlags) (params : List BoundParam) (read : Reading ComStmtExecuteHead) (values : List CValue) (types : List CColumnType) (e : FaultOf) → Faults false e read
     → FillsGood (good_execution c params read) values values types types
-head-refused c params read values types fault.UnexpectedEof h = no-head c params read values types kind.UnexpectedEof h
-head-refused c params read values types (fault.InvalidData text) h = no-head c params read values types kind.InvalidData h
-head-refused c params read values types (fault.InvalidInput text) h = no-head c params read values types kind.InvalidInput h
-head-refused c params read values types fault.Memory h = absurd cc
+head-refused c params read values types e h = no-head (λ g. FillsGood g values values types types) (nothing-filled values types) c params read e h
 
 pub head-read : (c : CapabilityFlags) (params : List BoundParam) (read : Reading ComStmtExecuteHead) (values_before values : List CValue) (types_before types : List CColumnType) (h : ComStmtExecuteHead) (after : List ℕ) → read ≡ Ok (h, after)
     → FillsGood (good_params c (cursor_flags h) params after) values_before values types_before types → FillsGood (good_execution c params read) values_before values types_before types
