@@ -169,18 +169,6 @@ swapped true false true d = refl
 swapped true false false d = refl
 swapped false b c d = refl
 
-pub takes-from : (columns : List CColumnType) (row : List CValue) (i : ℕ) (c : CColumnType) (v : CValue) → length columns ≡ length row → i < length row
-    → takes_row (drop i columns) (drop i row) ≡ (takes_value (get_or columns i c) (get_or row i v) && takes_row (drop (i + 1) columns) (drop (i + 1) row))
-takes-from columns row i c v same lt = rw add-one (from columns row i same lt)
-  where
-    from : (columns : List CColumnType) (row : List CValue) (i : ℕ) → length columns ≡ length row → i < length row
-        → takes_row (drop i columns) (drop i row) ≡ (takes_value (get_or columns i c) (get_or row i v) && takes_row (drop (suc i) columns) (drop (suc i) row))
-    from [] [] i same lt = absurd (omega (arith, lt))
-    from [] (w ∷ row) i same lt = absurd (omega (arith, same))
-    from (d ∷ columns) [] i same lt = absurd (omega (arith, same))
-    from (d ∷ columns) (w ∷ row) zero same lt = swapped (is_cell w) (list_all is_cell row) (spells_cell (declared_type d) (cell_of w)) (spells_cells (declared_types columns) (cells_of row))
-    from (d ∷ columns) (w ∷ row) (suc i) same lt = from columns row i (omega (arith, same)) (omega (arith, lt))
-
 pub bytes-from : (columns : List CColumnType) (row : List CValue) (i : ℕ) (c : CColumnType) (v : CValue) → length columns ≡ length row → i < length row
     → row_bytes (drop i columns) (drop i row) ≡ value_bytes (get_or columns i c) (get_or row i v) ++ row_bytes (drop (i + 1) columns) (drop (i + 1) row)
 bytes-from columns row i c v same lt = rw add-one (from columns row i same lt)
@@ -192,11 +180,6 @@ bytes-from columns row i c v same lt = rw add-one (from columns row i same lt)
     from (d ∷ columns) [] i same lt = absurd (omega (arith, same))
     from (d ∷ columns) (w ∷ row) zero same lt = refl
     from (d ∷ columns) (w ∷ row) (suc i) same lt = from columns row i (omega (arith, same)) (omega (arith, lt))
-
--- sums that saturate at 2^64 - 1
-pub len-more : (whole left after size len more longer : ℕ) → left ≡ size + after → left ≤ whole → len ≡ saturated (whole - left) → more ≡ saturated size → longer ≡ min (len + more) (2 ^ 64 - 1) → longer ≡ saturated (whole - after)
-unfolding saturated
-len-more whole left after size len more longer parts le so_far is sum = omega (arith, parts, le, so_far, is, sum)
 
 -- a row has a value for each column
 pub takes-long : (columns : List CColumnType) (row : List CValue) → length columns ≢ length row → takes_row columns row ≡ false
