@@ -64,8 +64,15 @@ pub record Serving (a : Agreed) (n : ℕ) (first now : Tracked) (memory : Bool) 
 
 pub none_taken : (a : Agreed) (n : ℕ) (first : Tracked) → first.reached ≡ None → Serving a n first first true
 none_taken a n first e = record {
-  was = None; execution = refl; table = refl; left = refl; limits = refl; lost = refl; params = refl;
-  kept = λ m. e; asked = λ m. absurd (let f : true ≡ false = m in cc);
+  was = None;
+  execution = refl;
+  table = refl;
+  left = refl;
+  limits = refl;
+  lost = refl;
+  params = refl;
+  kept = λ m. e;
+  asked = λ m. absurd (let f : true ≡ false = m in cc);
 }
 
 one_taken : (a : Agreed) (n : ℕ) (first now : Tracked) (memory after : Bool) (c : Command) (queue : Queue) (r : Option Reached) → Serving a n first now memory → Serves n now.early c queue

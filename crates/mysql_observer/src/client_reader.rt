@@ -56,9 +56,7 @@ fn read_query<'s, 'a>(
 ) -> Result<ClientPacket<'a>, FaultOf<'s>>
     ensures value { Answers false result buf.new ((queries.query_packet agreed).reads buf.old) }
 {
-    Ok(ClientPacket::Command(Command::Query(buf.parse(
-        agreed_or_none(agreed).mysql,
-    )?)))
+    Ok(ClientPacket::Command(Command::Query(buf.parse(agreed_or_none(agreed).mysql)?)))
 }
 
 /// The packet of this kind. A query is read without the moves of the other commands' records.

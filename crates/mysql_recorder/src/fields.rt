@@ -67,14 +67,42 @@ fn append_faulty<'p>(
     append_partial_query(alloc, agreed, kind, payload, fields)
 }
 
-/// Appends the fields of a packet of the server, the last that was observed. Where the columns of a row aren't known, it says so.
+/// Appends the parameters of a pipelined execution that the server has reached, which weren't known when it came, and the number of its
+/// exchange.
+fn append_reached<'p>(
+    observer: &'p Observer,
+    fields: &mut Vec<Field<'p>>,
+) -> Result<(), AllocError> {
+    let Some(execution) = observer.reached_execution() else {
+        return Ok(());
+    };
+    let payload = execution.payload();
+    if payload.len() <= EXECUTE_HEAD {
+        return Ok(());
+    }
+    match observer.reached_packet(payload) {
+        Ok(ClientRecord::Execution(_head, params)) => {
+            fields.push(Field::number("parameters_of", execution.number()))?;
+            append_params(params, fields)
+        }
+        Ok(ClientRecord::Packet(_packet)) => Ok(()),
+        Err(fault) => {
+            fields.push(Field::number("parameters_of", execution.number()))?;
+            append_refused(&fault, &payload[EXECUTE_HEAD..], fields)
+        }
+    }
+}
+
+/// Appends the fields of a packet of the server, the last that was observed: of the first that answers a pipelined execution, also the
+/// parameters of that. Where the columns of a row aren't known, it says so.
 pub(crate) fn append_server<'p>(
     alloc: Global,
-    observer: &Observer,
+    observer: &'p Observer,
     kind: PacketKind,
     payload: &'p [u8],
     fields: &mut Vec<Field<'p>>,
 ) -> Result<(), AllocError> {
+    append_reached(observer, fields)?;
     match observer.server_packet(kind, payload) {
         Ok(mut packet) => server_fields(&mut packet, fields),
         Err(fault) => match kind {
