@@ -22,6 +22,7 @@ use mysql_conversation::{PacketKind, PacketKindTag, RowFormat, Session, SessionE
 use mysql_replies::SessionCapabilities;
 use mysql_statements::{PipelinedCommand, ResultColumns, RowColumn};
 use mysql_wire::FaultOf;
+use mysql_wire::command_code::COM_STMT_EXECUTE;
 use std::alloc::Global;
 
 /// Observes a connection, from its greeting on or from a command on ([`resume`](Self::resume)): takes each payload of both sides, and
@@ -46,6 +47,7 @@ impl Observer {
     ghost use Rattle.mysql_conversation.specs.Session.{GoesOn, IsResumedBeginning, IsResumedSession, IsSession, IsSessionBeginning, SessionResumed};
     ghost use Rattle.mysql_conversation.specs.declared.packet_kind.PacketKind as declared;
     ghost use Rattle.mysql_conversation.specs.declared.packet_kind.PacketKind.TheVariants as kinds;
+    ghost use Rattle.mysql_wire.specs.CommandCodes as first_bytes;
     ghost use Rattle.mysql_conversation.specs.Agreements as agreement;
     ghost use Rattle.mysql_conversation.specs.declared.packet_kind.Side.TheVariants as side;
     ghost use Rattle.mysql_conversation.specs.declared.pipeline.Pipeline as pipe;
@@ -394,19 +396,19 @@ impl Observer {
         payload: &'a [u8],
     ) -> Result<ClientRecord<'a, 'o>, FaultOf<'s>>
         ensures packet { IfOk result (λ r. (items : List Numbered) → Observed self.now items → (agreed : Option agreement.Agreed) × context.IsAgreed items agreed
-            × records.IsClientRecord agreed (records.reached_params (observed.tracked self.now).reached) (kinds.Command 0x17) payload.now r) }
+            × records.IsClientRecord agreed (records.reached_params (observed.tracked self.now).reached) (kinds.Command first_bytes.COM_STMT_EXECUTE) payload.now r) }
         ensures fault { IfErr result (λ e. (items : List Numbered) → Observed self.now items → (agreed : Option agreement.Agreed) × context.IsAgreed items agreed
-            × records.IsClientFault agreed (records.reached_params (observed.tracked self.now).reached) (kinds.Command 0x17) payload.now e) }
+            × records.IsClientFault agreed (records.reached_params (observed.tracked self.now).reached) (kinds.Command first_bytes.COM_STMT_EXECUTE) payload.now e) }
         ensures resumed { IfOk result (λ r. (a : agreement.Agreed) (before : ℕ) (items : List Numbered) → Resumed self.now a before items
-            → records.IsClientRecord (Some a) (records.reached_params (observed.tracked self.now).reached) (kinds.Command 0x17) payload.now r) }
+            → records.IsClientRecord (Some a) (records.reached_params (observed.tracked self.now).reached) (kinds.Command first_bytes.COM_STMT_EXECUTE) payload.now r) }
         ensures resumed_fault { IfErr result (λ e. (a : agreement.Agreed) (before : ℕ) (items : List Numbered) → Resumed self.now a before items
-            → records.IsClientFault (Some a) (records.reached_params (observed.tracked self.now).reached) (kinds.Command 0x17) payload.now e) }
+            → records.IsClientFault (Some a) (records.reached_params (observed.tracked self.now).reached) (kinds.Command first_bytes.COM_STMT_EXECUTE) payload.now e) }
     {
         let agreed = self.agreed_in_session();
         read_client(
             self.alloc,
             agreed,
-            PacketKind::Command(0x17),
+            PacketKind::Command(COM_STMT_EXECUTE),
             self.tracked.reached_params(),
             payload,
         )
