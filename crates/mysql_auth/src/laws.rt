@@ -155,7 +155,7 @@ pub fn one_version()
     ensures one_mariadb { (text : List ℕ) (v w : ℕ × ℕ × ℕ) → HasMariadbVersion text v → HasMariadbVersion text w → v ≡ w }
 {}
 
-/// Each packet states its size: a request for TLS takes 32 bytes, a switch to the oldest plugin one, and nothing else has a constant size.
+/// Each packet states its size: a request for TLS takes 32 bytes, a switch to the oldest plugin one, and no other packet states one.
 #[tactic(auto)]
 pub fn each_packet_has_its_size() -> bool
     ensures value { result ≡ true }

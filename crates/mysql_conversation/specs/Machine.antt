@@ -240,7 +240,7 @@ line_step deprecates r None = None
 line_step deprecates r (Some line.Row) = Some (kind.Row (format_of r), state.Rows r)
 line_step deprecates r (Some (line.End more)) = Some (ending deprecates, ended r more)
 
--- a packet of this kind that continues this state, or the end
+-- a packet of this kind, after which the state is the same, or the end
 abbrev pub last_step : Bool → PacketKind → State → Option Line → Option (PacketKind × State)
 last_step deprecates k s None = None
 last_step deprecates k s (Some line.Row) = Some (k, s)
@@ -251,13 +251,14 @@ abbrev pub column_end : ℕ → State
 column_end zero = state.Rest
 column_end (suc n) = state.DefinitionsEnd after.Rest
 
--- the definitions of a given number of parameters, before them
+-- the same, with the definitions of a given number of parameters before them
 abbrev pub param_end : (params columns : ℕ) → State
 param_end zero columns = column_end columns
 param_end (suc n) zero = state.DefinitionsEnd after.Rest
 param_end (suc n) (suc m) = state.DefinitionsEnd after.End
 
--- whether the definitions of a statement follow; if they are left out and EOF packets are deprecated, nothing comes in their place
+-- the state after a prepared statement, whose definitions follow or not; if EOF packets are deprecated, nothing replaces definitions that
+-- are left out
 abbrev pub prepared_by : Bool → Bool → ℕ → ℕ → State
 prepared_by deprecates true columns params = define params (after.Columns columns)
 prepared_by true false columns params = state.Rest

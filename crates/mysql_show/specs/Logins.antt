@@ -1,4 +1,4 @@
--- The fields of packets before the commands, and of a change of user. Scrambles' answers and passwords are not shown.
+-- The fields of packets before the commands, and of a change of user. The client's authentication data is not among them.
 use Rattle.std.specs.Prelude.{ℕ, List, [], ◌∷◌, ◌++◌, Option, Some, None, codes, option_map}
 use Rattle.mysql_auth.specs.AuthPlugin.{plugin_name}
 use Rattle.mysql_auth.specs.ComChangeUser as change
