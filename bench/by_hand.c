@@ -828,6 +828,11 @@ uint64_t bench_rows_counted(const uint8_t *bytes, size_t len)
     return sum;
 }
 
+uint64_t bench_rows_stored(const uint8_t *bytes, size_t len)
+{
+    return bench_rows_counted(bytes, len);
+}
+
 /* ---- streams */
 
 static inline uint64_t seen(const uint8_t *bytes, size_t len)

@@ -18,7 +18,7 @@ typedef uint64_t call(const uint8_t *bytes, size_t len);
 
 call bench_statements_read, bench_statements_written, bench_columns_read, bench_columns_written,
     bench_columns_borrowed, bench_executions_borrowed,
-    bench_ok_packets_read, bench_ok_packets_viewed, bench_errors_read, bench_errors_written, bench_rows_read, bench_rows_counted,
+    bench_ok_packets_read, bench_ok_packets_viewed, bench_errors_read, bench_errors_written, bench_rows_read, bench_rows_counted, bench_rows_stored,
     bench_rows_viewed, bench_rows_placed, bench_text_rows_viewed, bench_text_rows_placed,
     bench_executions_written, bench_bulk_rows_made, bench_bulk_rows_written, bench_bulk_rows_offered,
     bench_bulk_rows_offered_refs, bench_bulk_rows_streamed, bench_bulk_rows_iterated,
@@ -438,6 +438,7 @@ static const struct operation {
     { "errors_written", 10000, "error, read and written", put_error, bench_errors_written },
     { "rows_read", 10000, "binary row of 10 columns, read", put_row, bench_rows_read },
     { "rows_counted", 10000, "binary row of 10 columns, read in a second place", put_row, bench_rows_counted },
+    { "rows_stored", 10000, "binary row of 10 columns, stored in one block", put_row, bench_rows_stored },
     { "rows_viewed", 10000, "binary row of 10 columns, viewed value by value", put_row, bench_rows_viewed },
     { "rows_placed", 10000, "binary row of 10 columns, read into borrowed values", put_row, bench_rows_placed },
     { "text_rows_viewed", 10000, "text row of 10 columns, viewed value by value", put_text_row, bench_text_rows_viewed },

@@ -796,7 +796,7 @@ MYP_MUST_CHECK uint32_t myp_write_command(
  * DATETIME, TIME or NULL. Initializer: MYP_PARAMETER_INIT. */
 typedef struct myp_parameter {
     myp_value value;
-    myp_bytes name;        /* sent under MYP_CLIENT_QUERY_ATTRIBUTES */
+    myp_bytes name;        /* sent with the type, under MYP_CLIENT_QUERY_ATTRIBUTES */
     uint8_t has_type;      /* not 0: it has the type below */
     uint8_t column_type;   /* of enum myp_type */
     uint8_t is_unsigned;   /* any number but 0 if it is */
@@ -1450,6 +1450,21 @@ MYP_MUST_CHECK uint32_t myp_read_execution_attribute(
     size_t n_params,
     size_t place,
     myp_parameter *out);
+
+/* Reads the names of an execution's parameters into the first places, one for each. They are sent
+ * with the types, under MYP_CLIENT_QUERY_ATTRIBUTES; a name that isn't sent is empty.
+ *
+ * MYP_ERROR_BUFFER_TOO_SMALL for fewer places than parameters: nothing is changed.
+ * MYP_ERROR_UNEXPECTED_EOF and MYP_ERROR_INVALID_DATA as in myp_read_execution: the first names may
+ * be set. */
+MYP_MUST_CHECK uint32_t myp_read_execution_names(
+    const uint8_t *packet,
+    size_t len,
+    uint32_t capabilities,
+    const myp_bound_param *params,
+    size_t n_params,
+    myp_bytes *names,
+    size_t n_names);
 
 /* Initializer: MYP_BULK_HEAD_INIT. */
 typedef struct myp_bulk_head {

@@ -258,6 +258,26 @@ static void executions_with_attributes(void)
     CHECK(v[0].days == 2011 && v[0].month == 2 && v[0].day == 3 && v[0].hour == 4 && v[0].minute == 5 && v[0].second == 6 && v[0].micros == 123456 && (int64_t)v[0].number == 754);
 }
 
+/* MySQL 9.7.4's two named parameters (executions.txt), read and written again */
+static void named_parameters(void)
+{
+    static const uint32_t flags = MYP_CLIENT_QUERY_ATTRIBUTES;
+    static const myp_bound_param params[3] = { { 0, 0, 0 }, { 0, 0, 0 }, { 0, 0, 0 } };
+    uint8_t p[64], out[64];
+    size_t len = hex(p, "17010000000801000000020001080001700800017107000000000000000700000000000000"), n = 0;
+    myp_bytes names[3] = { { p, 1 }, { p, 2 }, { p, 3 } };
+    CHECK(myp_read_execution_names(p, len, flags, params, 2, names, 1) == MYP_ERROR_BUFFER_TOO_SMALL && names[0].len == 1);
+    CHECK(myp_read_execution_names(p, len, flags, params, 2, names, 3) == MYP_OK && names[0].data == p + 16 && IS(names[0], "p") && names[1].data == p + 20 && IS(names[1], "q") && names[2].data == p && names[2].len == 3);
+    CHECK(myp_read_execution_names(p, len - 1, flags, params, 2, names, 3) == MYP_ERROR_UNEXPECTED_EOF && myp_read_execution_names(p, len, flags, params, 3, names, 3) == MYP_ERROR_INVALID_DATA && names[2].len == 3);
+    myp_parameter given[2] = { myp_query_attribute("p", 1, myp_int(7)), myp_query_attribute("q", 1, myp_int(7)) };
+    const myp_execution_options options = MYP_EXECUTION_OPTIONS_INIT;
+    uint8_t as_long_data = 7;
+    CHECK(myp_write_execution(1, given, 2, NULL, 0, &options, flags, out, sizeof out, &n, &as_long_data) == MYP_OK && n == len && !memcmp(out, p, n) && as_long_data == 0);
+    len = hex(p, "1701000000000100000000010800080007000000000000000700000000000000"); /* without names */
+    CHECK(myp_read_execution_names(p, len, 0, params, 2, names, 3) == MYP_OK && names[0].len == 0 && names[1].len == 0 && names[2].len == 3);
+    CHECK(myp_write_execution(1, given, 2, NULL, 0, &options, 0, out, sizeof out, &n, &as_long_data) == MYP_OK && n == len && !memcmp(out, p, n));
+}
+
 static void bulks(void)
 {
     uint8_t p[32];
@@ -414,6 +434,7 @@ void replica_checks(void)
     served();
     executions();
     executions_with_attributes();
+    named_parameters();
     bulks();
     bulk_rows();
     bulk_again();

@@ -70,6 +70,7 @@ static struct {
     SEED("\0\x2a\0\0\0\0\7\0\0\0\0\0\0\0\0\2hi\1\1\0\2ho"), /* rows of three of the columns here */
     SEED("\4t\0a%"), SEED("\3\2\1\0\1\xfe\0\2n1\xfe\0\2n2\2v1\2v2" "DO 1"), /* commands: a list of fields, and a query with attributes */
     SEED("\x17\1\0\0\0\x08\1\0\0\0\3\0\1\x08\0\0\x08\0\0\xfe\0\1a\7\0\0\0\0\0\0\0\7\0\0\0\0\0\0\0\1z"), /* an execution with an attribute */
+    SEED("\x17\1\0\0\0\x08\1\0\0\0\2\0\1\x08\0\1p\x08\0\1q\7\0\0\0\0\0\0\0\7\0\0\0\0\0\0\0"), /* named parameters */
     SEED("\x13\2db\1t"), SEED("\xef\x96\x65\0\0\0\0\0\0mbin.000001"), SEED("\0\xef\1event"), /* a dump of a table, an acknowledgement, an event */
 };
 static size_t count_of_packets;

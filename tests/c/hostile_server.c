@@ -85,6 +85,15 @@ static void read_served(const uint8_t *p, size_t len)
     if (e.attributes)
         CALL(attribute, myp_read_execution_attribute(p, len, attributes, params, params_there, 0, &attribute));
     place("attribute", attribute.name), place("attribute", attribute.value.bytes);
+    myp_bytes names[6];
+    for (size_t i = 0; i < 6; i++)
+        names[i] = nothing;
+    uint32_t named = myp_read_execution_names(p, len, attributes, params, params_there, names, 6);
+    done++, refused += named != 0;
+    if (named > MYP_ERROR_INVALID_DATA)
+        lost("myp_read_execution_names", named);
+    for (size_t i = 0; i < 6; i++)
+        place("a parameter's name", names[i]);
     struct { myp_bytes rest; } k = { b.rows };
     size_t columns = varied() % 7;
     uint8_t given[6] = { 0 };

@@ -63,6 +63,9 @@ READ(read_binary_row, row, myp_read_binary_row(p, len, under.types, under.column
 typedef struct execution { myp_execution head; myp_value values[6]; myp_column_type types[6]; } execution;
 READ(read_execution, execution, myp_read_execution(p, len, under.capabilities, under.params, under.columns, out->values, 6, out->types, 6, &out->head))
 
+typedef struct parameter_names { myp_bytes names[6]; } parameter_names;
+READ(read_execution_names, parameter_names, myp_read_execution_names(p, len, under.capabilities, under.params, under.columns, out->names, 6))
+
 typedef struct name_and_value { myp_bytes name, value; } name_and_value;
 typedef struct bulk_values { myp_value values[6]; uint8_t indicators[6]; } bulk_values;
 typedef struct types_of_bulk { myp_column_type types[6]; } types_of_bulk;
@@ -113,6 +116,7 @@ static const struct call {
     ROW(read_query_attribute, myp_parameter, 2, AT(myp_parameter, name), AT(myp_parameter, value.bytes)),
     ROW(read_execution_attribute, myp_parameter, 2, AT(myp_parameter, name), AT(myp_parameter, value.bytes)),
     ROW(read_execution, execution, 1, VALUES(execution, values)),
+    ROW(read_execution_names, parameter_names, 2, AT(parameter_names, names[0]), AT(parameter_names, names[1])),
     ROW(read_long_data, myp_long_data, 1, AT(myp_long_data, content)),
     ROW(read_login, myp_login, 5, AT(myp_login, user), AT(myp_login, auth_response), AT(myp_login, database), AT(myp_login, auth_plugin_name), AT(myp_login, attributes)),
     ROW(read_change_user, myp_change_user, 5, AT(myp_change_user, user), AT(myp_change_user, auth_response), AT(myp_change_user, database), AT(myp_change_user, auth_plugin_name), AT(myp_change_user, attributes)),

@@ -203,7 +203,7 @@ static void read_commands(void)
     myp_bulk_head bulk = MYP_BULK_HEAD_INIT;
     myp_column_type types[3] = { { 0, 0 }, { 0, 0 }, { 0, 0 } };
     myp_value values[3] = { none, none, none };
-    myp_bytes rest;
+    myp_bytes rest, names[2] = { MYP_BYTES_INIT, MYP_BYTES_INIT };
     uint8_t indicators[3] = { 7, 7, 7 };
     uint32_t id = 7;
     READS("\x1c\1\0\0\0\x0a\0\0\0", myp_read_command(packet, len, 0, &command), command.rows == 10);
@@ -214,6 +214,8 @@ static void read_commands(void)
     READS_HEX("170100000000010000000101060008000100000000000000", myp_read_execution(packet, len, 0, params, 2, values, 3, types, 3, &execution), values[1].number == 1);
     READS_HEX("17010000000801000000030001080000080000fe00016107000000000000000700000000000000017a",
               myp_read_execution_attribute(packet, len, MYP_CLIENT_QUERY_ATTRIBUTES, params, 2, 0, &attribute), IS(attribute.name, "a"));
+    READS_HEX("17010000000801000000020001080001700800017107000000000000000700000000000000",
+              myp_read_execution_names(packet, len, MYP_CLIENT_QUERY_ATTRIBUTES, params, 2, names, 2), IS(names[1], "q"));
     READS_HEX("fa0100000080000300", myp_read_bulk_head(packet, len, &bulk), bulk.rows.len == 2);
     READS_HEX("0300fe000880", (rest = REST, myp_read_bulk_types(&rest, types, 3)), types[2].is_unsigned == 1);
     READS_HEX("002a000000" "00026869" "00ffffffffffffffff", (rest = REST, myp_next_bulk_row(&rest, columns, 3, values, 3, indicators, 3)), values[2].number == UINT64_MAX);

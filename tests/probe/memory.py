@@ -21,11 +21,12 @@ NAMES = {
 WORDS = {
     r"\bAnswers\b": "memory is an answer only where the reader takes some",
     r"\bIs(Server|Client)Fault\b": "a fault is that of a grammar, which is never that of memory",
-    r"\bFaults false\b|\bRefuses(Next|Param)\b|\bGives(One|Param|Bound|AsSent|BoundAsSent)\b": "a fault is the grammar's, which is never that of memory",
+    r"\bFaults false\b|\bRefuses(Next|Param)\b|\bGives(One|Param|Bound|AsSent|BoundAsSent)\b|\b(ChecksRow|PassesOne)\b": "a fault is the grammar's, which is never that of memory",
     r"\b(AttributesThere|AttributesAt|PassedTo)\b": "attributes are read without memory",
     r"\bNext(Change|ChangeRef|Variable|Pair|Sid|Interval|Attribute|AttributeAsSent)\b": "an entry is read without memory, or as its grammar has it",
     r"\bGivesText\b|BorrowsUtf8\b": "what is UTF-8 is borrowed",
     r"\bAdds(Row|Copy|Params)?\b": "memory is an answer only where the row would be taken",
+    r"\bStoresRow\b": "memory is an answer only where the block is too small",
     r"\bBuilds\b": "a request is built without memory",
     r"\b(Cells)?RunGives\b": "memory is an answer only where a request is due, or the next row would be taken",
     r"\bMakesRequest\b": "memory is an answer only for rows of one length",

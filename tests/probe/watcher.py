@@ -182,11 +182,25 @@ class Watcher:
     def column(self, payload, exchange):
         try:
             ((names, numbers), metadata) = replies.extended_column(Buf(payload), self.session.own)
-        except (Eof, Invalid):
+        except (Eof, Invalid) as fault:
             self.define(None, exchange)
-            raise
+            return self.partly_column(payload, fault)
         self.define((numbers[2], numbers[3]), exchange)
         return self.of_column(names, numbers, metadata)
+
+    def partly_column(self, payload, fault):
+        """Of a definition that is malformed the texts before the first that is, and the bytes from there on."""
+        buf, fields = Buf(payload), {}
+        left = buf.data
+        try:
+            buf.const(b"\x03def")
+            left = buf.data
+            for name in ("schema", "table", "org_table", "name", "org_name"):
+                fields[name] = shown(buf.string())
+                left = buf.data
+        except (Eof, Invalid):
+            pass
+        return {**fields, "refused": FAULTS[type(fault)], **unread(left)}
 
     def of_column(self, names, numbers, metadata):
         fields = named("schema table org_table name org_name character_set column_length column_type flags decimals", (*names, *numbers))

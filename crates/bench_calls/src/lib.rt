@@ -17,4 +17,5 @@ mod row_views;
 mod rows;
 mod sent;
 mod statements;
+mod stored_rows;
 mod streams;

@@ -12,7 +12,7 @@ type View<'a, 'c> = BinaryRowView<'a, 'c, ServerSide, Column>;
 
 /// What a value adds to the sum: a number itself, a string its length.
 #[inline(always)]
-fn part(value: ValueRef<'_>) -> u64 {
+pub(crate) fn part(value: ValueRef<'_>) -> u64 {
     match value {
         ValueRef::Int(number) => number.cast_unsigned(),
         ValueRef::Bytes(bytes) => bytes.len() as u64,

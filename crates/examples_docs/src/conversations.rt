@@ -85,6 +85,16 @@ pub fn text_columns<'o>(observer: &'o Observer) -> &'o [RowColumn] {
     observer.result_columns().unwrap_or(&[])
 }
 
+/// The kind of the first command after a loss.
+pub fn kind_after_a_loss(
+    observer: &mut Observer,
+    agreed: SessionCapabilities,
+    command: &[u8],
+) -> Result<PacketKind, Error> {
+    observer.resume(agreed);
+    Ok(observer.next(Side::Client, command)?.kind)
+}
+
 /// Whether a payload of the server is a row.
 pub fn is_row(observer: &mut Observer, payload: &[u8]) -> Result<bool, Error> {
     let kind = observer.next(Side::Server, payload)?.kind;

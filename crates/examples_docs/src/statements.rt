@@ -5,14 +5,14 @@ use mysql_packets::constants::{
 };
 use mysql_packets::conversation::PacketKind;
 use mysql_packets::error::Error;
-use mysql_packets::io::ParseBuf;
+use mysql_packets::io::{Fault, ParseBuf};
 use mysql_packets::packets::{
     BulkRequestWriter, BulkRowError, BulkValue, Column, ComStmtExecuteHead, ComStmtExecuteRef,
     ComStmtSendLongDataRef, ExecuteParam, NullBitmap, SessionCapabilities, StmtPacketWithMetadata,
     TypedExecuteParam,
 };
 use mysql_packets::proto::MySerialize;
-use mysql_packets::row::{BinaryRowError, write_binary_row};
+use mysql_packets::row::{BinaryRowError, BinaryRowView, StoredRow, write_binary_row};
 use mysql_packets::statements::{
     PipelinedCommands, PipelinedLimits, ResultColumns, RowColumn, StatementLimits, Statements,
 };
@@ -113,4 +113,12 @@ pub fn tables(alloc: Global) -> (Statements, PipelinedCommands) {
 /// Adds a row of a number and its column's default. `false`: it is for the next request.
 pub fn add_row(writer: &mut BulkRequestWriter<'_>, id: i64) -> Result<bool, BulkRowError> {
     writer.add_row_values(&[BulkValue::Value(ValueRef::Int(id)), BulkValue::Default])
+}
+
+/// A binary row that outlives its packet.
+pub fn store(alloc: Global, columns: &[Column], buf: ParseBuf<'_>) -> Result<StoredRow, Fault> {
+    let view: BinaryRowView<'_, '_, ServerSide, Column> = BinaryRowView::new(columns, buf)?;
+    let mut row = StoredRow::new(alloc);
+    row.store(view)?;
+    Ok(row)
 }

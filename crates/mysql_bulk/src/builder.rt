@@ -15,7 +15,7 @@ ghost use Rattle.mysql_bulk.specs.Row.{row_size, rows_packing};
 
 use crate::error::BulkExecuteRequestError;
 use crate::request::ComStmtBulkExecuteRequest;
-use crate::row::row_len;
+use crate::row::{row_len, row_len_by_call};
 use crate::row_value::RowValue;
 use crate::size::size_within;
 use mysql_cuts::BulkRule;
@@ -147,6 +147,8 @@ impl<'a> PartialEq for ComStmtBulkExecuteRequestBuilder<'a> {
 }
 
 /// The bytes of a given number of waiting rows with one more, if these may be one request.
+// (inlined: the length of a row of a known number of values is counted without a loop then)
+#[inline(always)]
 pub(crate) fn size_with<V: RowValue>(
     rule: BulkRule,
     limit: u64,
@@ -162,6 +164,26 @@ pub(crate) fn size_with<V: RowValue>(
 {
     let bytes = row_len(row)?;
     size_within(rule, limit, row.len(), types, count, size, bytes)
+}
+
+/// The bytes of a given number of waiting rows with one more, as [`size_with`] has them.
+// (for the builder, where the number of values is mostly not known: they are counted by a call)
+#[inline(always)]
+fn size_by_call<V: RowValue>(
+    rule: BulkRule,
+    limit: u64,
+    types: bool,
+    count: usize,
+    size: u64,
+    row: &[V],
+) -> Option<u64>
+    ensures size { IfSome result (λ n. n ≡ size + row_size (map V.content row.now)) }
+    ensures fits { (rows : List (List Content)) → length rows ≡ count → size ≡ sum_by row_size rows →
+        MatchOption result (PartFits (rows_packing rule limit (length row.now)) types (rows ++ map V.content row.now ∷ []) → ⊥)
+        (λ n. PartFits (rows_packing rule limit (length row.now)) types (rows ++ map V.content row.now ∷ []) × (n ≡ sum_by row_size (rows ++ map V.content row.now ∷ []))) }
+{
+    let row_bytes = row_len_by_call(row)?;
+    size_within(rule, limit, row.len(), types, count, size, row_bytes)
 }
 
 /// The flags of a request.
@@ -306,7 +328,7 @@ impl<'a> ComStmtBulkExecuteRequestBuilder<'a> {
         ensures { MatchOption result (RowFits self.now (map V.content row.now) → ⊥)
             (λ n. RowFits self.now (map V.content row.now) × (n ≡ sum_by row_size (self.now.waiting ++ map V.content row.now ∷ []))) }
     {
-        size_with(
+        size_by_call(
             self.rule,
             self.limit,
             self.types_due,

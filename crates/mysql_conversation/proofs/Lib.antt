@@ -15,6 +15,7 @@ pub mod Stood
 pub mod Places
 pub mod Sessions
 pub mod SessionAnswers
+pub mod Resumed
 pub mod SessionEnds
 pub mod Named
 pub mod Witnesses

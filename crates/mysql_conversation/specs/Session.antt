@@ -14,10 +14,10 @@ use Rattle.mysql_conversation.specs.PacketKindTag.{name_of}
 use Rattle.mysql_conversation.specs.Payloads.{first_is}
 use Rattle.mysql_conversation.specs.Piped as pipe
 use Rattle.mysql_conversation.specs.Piped.{PipeTaken, place}
-use Rattle.mysql_conversation.specs.Pipelined.{Numbered, IsPipelined}
+use Rattle.mysql_conversation.specs.Pipelined.{Numbered, IsPipelined, IsPipelinedBeginning}
 use Rattle.mysql_conversation.specs.declared.packet_kind.PacketKind.{PacketKind}
 use Rattle.mysql_conversation.specs.declared.packet_kind.PacketKind.TheVariants as kind
-use Rattle.mysql_conversation.specs.declared.packet_kind.InitialPhase.TheVariants.{Login}
+use Rattle.mysql_conversation.specs.declared.packet_kind.InitialPhase.TheVariants.{Commands, Login}
 use Rattle.mysql_conversation.specs.declared.packet_kind.Side.{Side}
 use Rattle.mysql_conversation.specs.declared.packet_kind.Side.TheVariants.{Client, Server}
 use Rattle.mysql_conversation.specs.declared.packet_kind_tag.PacketKindTag.{PacketKindTag}
@@ -204,3 +204,16 @@ GoesOn side name items = (payload : List ℕ) × (kind : PacketKind) × (number 
 -- one of the packets is a login, by which both sides agree on this
 abbrev pub IsLoggedInAmong : Agreed → List Numbered → Type 0
 IsLoggedInAmong a items = (front : List Numbered) × (x : Numbered) × (rest : List Numbered) × (items ≡ front ++ x ∷ rest) × IsLoggedIn a front x
+
+-- ---- sessions that are resumed
+
+-- it is resumed between two exchanges, under what both sides agreed on before, and these packets are what it has taken since
+abbrev pub SessionResumed : Session → Agreed → List Numbered → Type 0
+SessionResumed s a items = (p : Pipeline) × Continues s p × (pipe.agreed p ≡ a) × (pipe.opening p ≡ Commands) × PipeTaken p items
+
+-- it goes on as a pipelined conversation does that begins with a command
+abbrev pub IsResumedBeginning : Agreed → List Numbered → Type 0
+IsResumedBeginning a items = IsPipelinedBeginning a Commands items
+
+abbrev pub IsResumedSession : Agreed → List Numbered → Type 0
+IsResumedSession a items = IsPipelined a Commands items

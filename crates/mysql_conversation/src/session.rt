@@ -139,7 +139,7 @@ impl Session {
     ghost use Rattle.mysql_conversation.specs.Pipelined.{Numbered};
     ghost use Rattle.mysql_conversation.specs.Piped as piped;
     ghost use Rattle.mysql_conversation.specs.Piped.{place};
-    ghost use Rattle.mysql_conversation.specs.Session.{IsSession, IsSessionBeginning, SessionTaken, IsEncrypted, IsHidden, AsksForTls, AgreesOnCompression, IsSame, Continues, Comes, GoesOn, IsLoggedInAmong, client_of};
+    ghost use Rattle.mysql_conversation.specs.Session.{IsResumedBeginning, IsResumedSession, IsSession, IsSessionBeginning, SessionResumed, SessionTaken, IsEncrypted, IsHidden, AsksForTls, AgreesOnCompression, IsSame, Continues, Comes, GoesOn, IsLoggedInAmong, client_of};
     ghost use Rattle.mysql_conversation.specs.SessionSteps.{AnsweredAs, CompressedAt, CompressedBy, SentBefore, is_commands, is_encrypted, sends_none, served_before};
     ghost use Rattle.mysql_conversation.specs.declared.session.Phase.TheVariants as phases;
     ghost use Rattle.mysql_conversation.specs.Agreements as agreement;
@@ -175,6 +175,7 @@ impl Session {
     pub fn agreed(&self) -> Option<SessionCapabilities>
         ensures some { IfSome result (λ a. (items : List Numbered) → SessionTaken self.now items → IsLoggedInAmong a items) }
         ensures none { IfNone result ((items : List Numbered) (a : agreement.Agreed) → SessionTaken self.now items → IsLoggedInAmong a items → ⊥) }
+        ensures resumed { (a : agreement.Agreed) (items : List Numbered) → SessionResumed self.now a items → result ≡ Some a }
     {
         match &self.phase {
             Phase::Commands(pipeline) => Some(pipeline.agreed),
@@ -185,7 +186,8 @@ impl Session {
     /// Whether every command is answered, so that the next packet starts an exchange.
     #[inline]
     pub fn is_idle(&self) -> bool
-        ensures { (items : List Numbered) → SessionTaken self.now items → IsTrue result ↔ IsSession items }
+        ensures session { (items : List Numbered) → SessionTaken self.now items → IsTrue result ↔ IsSession items }
+        ensures resumed { (a : agreement.Agreed) (items : List Numbered) → SessionResumed self.now a items → IsTrue result ↔ IsResumedSession a items }
     {
         match &self.phase {
             Phase::Commands(pipeline) => pipeline.is_idle(),
@@ -221,6 +223,21 @@ impl Session {
         }
     }
 
+    /// Continues at the next command, in the middle of a connection or after a loss, under what both sides agreed on. The next
+    /// command has the number 1.
+    pub fn resume(&mut self, agreed: SessionCapabilities)
+        ensures resumed { SessionResumed self.new agreed [] }
+        ensures limit { sessions.limit self.new ≡ sessions.limit self.old }
+    {
+        let limit = self.limit();
+        self.phase = Phase::Commands(Pipeline::new(
+            self.alloc,
+            agreed,
+            InitialPhase::Commands,
+            limit,
+        ));
+    }
+
     /// Returns the payload's kind and the number of the command whose exchange it belongs to: 0 before the first command.
     #[inline]
     pub fn next(&mut self, from: Side, payload: &[u8]) -> Result<(PacketKind, u64), SessionError>
@@ -229,6 +246,10 @@ impl Session {
         // With no kind and number does the packet continue what was taken.
         ensures refused { IfErr result (λ why. (items : List Numbered) (kind : declared.PacketKind) (number : ℕ) → why ≡ refusal.UnexpectedPacket → SessionTaken self.old items
             → IsSessionBeginning (items ++ place from payload.now kind number ∷ []) → ⊥) }
+        // The same for a session that was resumed.
+        ensures resumed { IfOk result (λ x. (a : agreement.Agreed) (items : List Numbered) → SessionResumed self.old a items → SessionResumed self.new a (items ++ place from payload.now x.0 x.1 ∷ [])) }
+        ensures not_next { IfErr result (λ why. (a : agreement.Agreed) (items : List Numbered) (kind : declared.PacketKind) (number : ℕ) → why ≡ refusal.UnexpectedPacket → SessionResumed self.old a items
+            → IsResumedBeginning a (items ++ place from payload.now kind number ∷ []) → ⊥) }
         // Exactly after a request for TLS, until `tls_established` is called: except for an error that the server sends in clear.
         ensures encrypted { (result ≡ Err refusal.Encrypted) ↔ IsHidden self.old from payload.now }
         ensures tls { IfOk result (λ _. IsEncrypted self.new ↔ AsksForTls self.old from payload.now) }
@@ -241,6 +262,7 @@ impl Session {
         // A packet refused as full, or for memory, may come next.
         ensures comes { IfErr result (λ why. (why ≡ refusal.Full) ⊎ (why ≡ refusal.Memory) → Comes self.old from payload.now) }
         ensures err { OnErr result ((items : List Numbered) → SessionTaken self.old items → SessionTaken self.new items) }
+        ensures stays { OnErr result ((a : agreement.Agreed) (items : List Numbered) → SessionResumed self.old a items → SessionResumed self.new a items) }
         // An error changes nothing.
         ensures same { OnErr result (IsSame self.old self.new) }
         ensures limit { sessions.limit self.new ≡ sessions.limit self.old }

@@ -7,12 +7,13 @@ use Rattle.mysql_conversation.specs.Pipelined.{Numbered}
 use Rattle.mysql_statements.specs.After.{after}
 use Rattle.mysql_statements.specs.PipelinedCommands.{Command, has_place, command}
 use Rattle.mysql_statements.specs.Table.{Table}
-use Rattle.mysql_observer.specs.Tracked.{Tracked, command_taken, table_served, left_waiting, tracked_after, taken, held}
+use Rattle.mysql_observer.proofs.Fronts.{front_taken}
+use Rattle.mysql_observer.specs.Tracked.{Tracked, front, command_taken, table_served, left_waiting, tracked_after, taken, held}
 use Rattle.mysql_observer.specs.Order.{up_to, tables_after, Step, items_of, IsCommand, IsNext, at_after, at_last, AreOrderly, step_after, after_steps, HavePlaces}
 use Rattle.mysql_observer.proofs.Ordered.{Ascends, later, sooner, filter_append, up_to_same, up_to_more, up_to_later, none_sooner, all_later, keeps, skips}
 
 abbrev pub command_at : Numbered → Command
-command_at x = command x.number x.packet.payload
+command_at x = command x.number (front x.packet.payload)
 
 abbrev pub AreCommands : List Numbered → Type 0
 AreCommands [] = Unit {0}
@@ -20,20 +21,20 @@ AreCommands (x ∷ xs) = IsCommand x × AreCommands xs
 
 -- ---- the commands that are taken
 
-taken_as : (a : Agreed) (x : Numbered) (t : Table) → IsCommand x → command_taken a x.packet.payload t ≡ after true a x.packet.kind x.packet.payload t
-taken_as a x t h = ap (λ k. after true a k x.packet.payload t) (sym h)
+taken_as : (a : Agreed) (x : Numbered) (t : Table) → IsCommand x → command_taken a (front x.packet.payload) t ≡ after true a x.packet.kind x.packet.payload t
+taken_as a x t h = front_taken a x.packet.payload t ∙ ap (λ k. after true a k x.packet.payload t) (sym h)
 
 served_when : (b : Bool) (a : Agreed) (n l : ℕ) (x : Numbered) (xs : List Numbered) (t : Table) → nat_le x.number n ≡ b → IsCommand x → Ascends x.number xs l
     → ((u : Table) → table_served a n (map command_at xs) u ≡ tables_after a (sooner n xs) u)
     → table_served a n (map command_at (x ∷ xs)) t ≡ tables_after a (sooner n (x ∷ xs)) t
 served_when true a n l x xs t e c h ih =
-    ap (λ b. if b then table_served a n (map command_at xs) (command_taken a x.packet.payload t) else t) e
-    ∙ ih (command_taken a x.packet.payload t)
+    ap (λ b. if b then table_served a n (map command_at xs) (command_taken a (front x.packet.payload) t) else t) e
+    ∙ ih (command_taken a (front x.packet.payload) t)
     ∙ ap (tables_after a (sooner n xs)) (taken_as a x t c)
     ∙ sym (ap (λ q. tables_after a q t) (keeps (λ y. nat_le y.number n) x xs e))
 served_when false a n l x xs t e c h ih =
     let lt = leb-false x.number n e in
-    ap (λ b. if b then table_served a n (map command_at xs) (command_taken a x.packet.payload t) else t) e
+    ap (λ b. if b then table_served a n (map command_at xs) (command_taken a (front x.packet.payload) t) else t) e
     ∙ sym (ap (λ q. tables_after a q t) (skips (λ y. nat_le y.number n) x xs e ∙ none_sooner n x.number l xs (omega (arith, lt)) h))
 
 served_is : (a : Agreed) (n m l : ℕ) (xs : List Numbered) (t : Table) → Ascends m xs l → AreCommands xs → table_served a n (map command_at xs) t ≡ tables_after a (sooner n xs) t
@@ -135,13 +136,13 @@ pub record InOrder (a : Agreed) (t : Table) (items : List Numbered) (at last : �
   pub ascends : Ascends at (later at items) last
   pub commands : AreCommands (later at items)
 
-held_when : (b : Bool) (n : ℕ) (p : List ℕ) (f : Tracked) → b ≡ true → has_place f.early p ≡ b
-    → held true n p f ≡ record { table = f.table; early = record { limits = f.early.limits; commands = f.early.commands ++ command n p ∷ [] }; lost = f.lost; params = None }
+held_when : (b : Bool) (n : ℕ) (p : List ℕ) (f : Tracked) → b ≡ true → has_place f.early (front p) ≡ b
+    → held true n p f ≡ record { table = f.table; early = record { limits = f.early.limits; commands = f.early.commands ++ command n (front p) ∷ [] }; lost = f.lost; params = None }
 held_when true n p f e h = rw h refl
 held_when false n p f e h = absurd cc
 
 early_in_order : (a : Agreed) (t : Table) (items : List Numbered) (at last : ℕ) (f : Tracked) (x : Numbered) → InOrder a t items at last f
-    → x.number ≡ last + 1 → IsCommand x → IsTrue (has_place f.early x.packet.payload) → InOrder a t (items ++ x ∷ []) at (last + 1) (held true x.number x.packet.payload f)
+    → x.number ≡ last + 1 → IsCommand x → IsTrue (has_place f.early (front x.packet.payload)) → InOrder a t (items ++ x ∷ []) at (last + 1) (held true x.number x.packet.payload f)
 early_in_order a t items at last f x h e c place =
     let up = ascends_up at last (later at items) h.ascends in
     let lt : at < x.number = omega (arith, up, e) in
@@ -200,7 +201,7 @@ turn_in_order a t items at last f x h le =
     }
 
 step_in_order : (is_early : Bool) (a : Agreed) (t : Table) (items : List Numbered) (at last : ℕ) (f : Tracked) (x : Numbered) → InOrder a t items at last f → IsNext is_early at last x
-    → (is_early ≡ true → IsTrue (has_place f.early x.packet.payload))
+    → (is_early ≡ true → IsTrue (has_place f.early (front x.packet.payload)))
     → InOrder a t (items ++ x ∷ []) (at_after is_early at x) (max last x.number) (tracked_after true is_early a x.packet.kind x.number x.packet.payload f)
 step_in_order true a t items at last f x h n p =
     let e : last + 1 ≡ max last x.number = (let k = n.0 in omega (arith, k)) in

@@ -1,34 +1,76 @@
 -- What an observer knows after a packet.
-use Rattle.std.proofs.Common.{◌≡◌, ◌↔◌, ℕ, Result, Err, Bool, true, false, not, ◌&&◌, List, [], ◌∷◌, ◌++◌, Option, Some, None, IfSome, IfNone, option_copied, IsTrue, inl, inr, refl, sym, ap, subst}
+use Rattle.std.proofs.Common.{◌≡◌, ◌↔◌, arith, ℕ, max, Result, Ok, Err, IfOk, OnErr, Bool, true, false, not, ◌&&◌, List, [], ◌∷◌, ◌++◌, Option, Some, None, IfSome, IfNone, option_copied, IsTrue, inl, inr, refl, sym, ap, subst, ◌∙◌}
 use Rattle.std.specs.Borrow.{Bor}
 use Rattle.mysql_conversation.specs.Agreements.{Agreed}
 use Rattle.mysql_conversation.specs.Pipelined.{Numbered, is_command}
-use Rattle.mysql_conversation.specs.Session.{IsSession, SessionTaken, IsLoggedInAmong}
+use Rattle.mysql_conversation.specs.Session.{SessionResumed, SessionTaken, IsLoggedInAmong}
 use Rattle.mysql_conversation.specs.declared.session.Session.{Session}
 use Rattle.mysql_statements.specs.ResultColumns.{ResultColumns}
-use Rattle.mysql_observer.specs.PacketContext.{IsAgreed, IsEarly, counted, count_after, DefinedIn}
+use Rattle.mysql_conversation.specs.Piped.{place}
+use Rattle.mysql_conversation.specs.declared.packet_kind.PacketKind.{PacketKind}
+use Rattle.mysql_conversation.specs.declared.packet_kind.Side.TheVariants.{Client}
+use Rattle.mysql_conversation.specs.declared.pipeline.SessionError.{SessionError}
+use Rattle.mysql_observer.specs.Event.{has_header}
+use Rattle.mysql_observer.specs.Latest.{latest_after, latest_of}
+use Rattle.mysql_observer.specs.PacketContext.{ComesEarly, IsAgreed, IsContext, IsEarly, DefinedIn, columns_for, columns_of_binary, is_event}
+use Rattle.mysql_observer.specs.Records.{Are}
 use Rattle.mysql_observer.specs.Tracked.{Tracked, KeptIn}
-use Rattle.mysql_observer.specs.Observed.{Defines, Tracks}
+use Rattle.mysql_observer.specs.Observed.{Defines, Resumed, ResumedAfter, Tracks, exchange_from, highest_exchange}
+use Rattle.mysql_observer.specs.declared.latest.Latest.{Latest}
+use Rattle.mysql_observer.specs.declared.observed_packet.ObservedPacket.{ObservedPacket}
+use Rattle.mysql_observer.specs.declared.observer.Observer.{Observer}
+use Rattle.mysql_observer.specs.declared.read_context.ReadContext.{ReadContext}
+use Rattle.mysql_statements.specs.declared.row_column.RowColumn.{RowColumn}
 
--- ---- the count
+-- ---- the exchanges
 
-pub counted_more : (n : ℕ) (items : List Numbered) (x : Numbered) → counted n (items ++ x ∷ []) ≡ count_after x.packet.kind (counted n items)
-counted_more n [] x = refl
-counted_more n (y ∷ ys) x = counted_more (count_after y.packet.kind n) ys x
+pub latest_more : (l : Latest) (items : List Numbered) (x : Numbered) → latest_of l (items ++ x ∷ []) ≡ latest_after x.packet.kind x.number (latest_of l items)
+latest_more l [] x = refl
+latest_more l (y ∷ ys) x = latest_more (latest_after y.packet.kind y.number l) ys x
+
+highest_more : (items : List Numbered) (x : Numbered) → highest_exchange (items ++ x ∷ []) ≡ max (highest_exchange items) x.number
+highest_more [] x = omega arith
+highest_more (y ∷ items) x = let h = highest_more items x in omega (arith, h)
+
+-- the highest number of what came, with one more
+pub highest_now : (items : List Numbered) (x : Numbered) (was now : ℕ) → was ≡ highest_exchange items → now ≡ max was x.number → now ≡ highest_exchange (items ++ x ∷ [])
+highest_now items x was now h e = let more = highest_more items x in omega (arith, h, e, more)
 
 -- ---- early commands
 
 false_is_not : false ≡ true → ⊥
 false_is_not e = absurd cc
 
-early_when : (between command : Bool) (items : List Numbered) (x : Numbered) → is_command x.packet ≡ command → (IsTrue between → IsSession items) → (IsSession items → IsTrue between)
-    → IsEarly (not between && command) items x
-early_when true command items x e there back = inr (there refl)
-early_when false true items x e there back = (e, λ s. false_is_not (back s))
-early_when false false items x e there back = inl e
+early_when : (P : Type 0) (between command : Bool) (x : Numbered) → is_command x.packet ≡ command → (IsTrue between → P) → (P → IsTrue between) → ComesEarly P (not between && command) x
+early_when P true command x e there back = inr (there refl)
+early_when P false true x e there back = (e, λ s. false_is_not (back s))
+early_when P false false x e there back = inl e
 
-pub early_is : (early between : Bool) (items : List Numbered) (x : Numbered) → early ≡ (not between && is_command x.packet) → IsTrue between ↔ IsSession items → IsEarly early items x
-early_is early between items x e h = subst (λ b. IsEarly b items x) (sym e) (early_when between (is_command x.packet) items x refl h.0 h.1)
+pub early_is : (P : Type 0) (early between : Bool) (x : Numbered) → early ≡ (not between && is_command x.packet) → IsTrue between ↔ P → ComesEarly P early x
+early_is P early between x e h = subst (λ b. ComesEarly P b x) (sym e) (early_when P between (is_command x.packet) x refl h.0 h.1)
+
+-- ---- a connection that is resumed
+
+-- after a command, or after none
+pub resumed_after : (r : Result ObservedPacket SessionError) (old new : Observer) (a : Agreed) (before : ℕ) (command : List ℕ)
+    → IfOk r (λ x. (a : Agreed) (before : ℕ) (items : List Numbered) → Resumed old a before items
+    → (number : ℕ) × (x.exchange ≡ exchange_from before number) × Resumed new a before (items ++ place Client command x.kind number ∷ []))
+    → OnErr r ((a : Agreed) (before : ℕ) (items : List Numbered) → Resumed old a before items → Resumed new a before items)
+    → Resumed old a before [] → ResumedAfter new a before command
+resumed_after (Ok x) old new a before command taken kept h = let t = taken a before [] h in inl (x.kind, t.0, t.2)
+resumed_after (Err e) old new a before command taken kept h = inr (kept a before [] h)
+
+-- its context
+pub resumed_context : (o : Observer) (a : Agreed) (before : ℕ) (items : List Numbered) (k : PacketKind) (p : List ℕ) (c : ReadContext RowColumn)
+    → ((a : Agreed) (items : List Numbered) → SessionResumed o.session a items → c.agreed ≡ Some a)
+    → c.column_count ≡ o.latest.column_count → option_copied c.columns ≡ columns_for k (columns_of_binary o.latest o.tracked o.columns) → c.semi_sync ≡ (is_event k && has_header p)
+    → Resumed o a before items → IsContext (Are a) items o.tracked o.columns k p c
+resumed_context o a before items k p c agreed count columns semi_sync h = record {
+  agreed = agreed a items h.0;
+  count = count ∙ ap (λ (l : Latest). l.column_count) h.1;
+  columns = columns ∙ ap (λ l. columns_for k (columns_of_binary l o.tracked o.columns)) h.1;
+  semi_sync = semi_sync;
+}
 
 -- ---- what is known
 

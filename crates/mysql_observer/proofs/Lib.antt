@@ -2,6 +2,7 @@ pub mod Found
 pub mod Refused
 pub mod Served
 pub mod Known
+pub mod Fronts
 pub mod Ordered
 pub mod InOrder
 pub mod Orderly

@@ -1,4 +1,4 @@
--- A packet of the client: which grammar reads it, by its kind.
+-- Packets of the client: the grammar of each kind.
 use Rattle.std.specs.Prelude.{Option}
 use Rattle.mysql_wire.specs.Form.{Form, all_left, give, map}
 use Rattle.mysql_auth.specs.HandshakeResponse.{handshake_response_as_sent}

@@ -1,4 +1,4 @@
--- What a packet is read by beside its kind and its bytes.
+-- The context in which a packet is read.
 use Rattle.std.specs.Prelude.{◌≡◌, ℕ, List, Option, Some, None, Ok, Err}
 use Rattle.mysql_wire.specs.declared.fault.FaultKind.TheVariants as fault
 use Rattle.mysql_wire.specs.Form.{Form}
@@ -13,7 +13,7 @@ agreed_or_none None = record { mysql = record { 0 = 0; 1 = record {} }; mariadb 
 pub refused : {A : Type 0} {P : Type 0} (v : A) (bytes rest : List ℕ) → ◌≡◌ {A = Reading A} (Err fault.InvalidInput) (Ok (v, rest)) → P
 refused v bytes rest e = absurd cc
 
--- a kind of the other side has no bytes
+-- a kind of the other side has no encoding
 abbrev pub other_side : {A : Type 0} → Form A
 other_side {A} = record {
   size = None;

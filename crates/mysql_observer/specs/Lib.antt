@@ -4,6 +4,7 @@ pub mod Client
 pub mod Read
 pub mod PacketContext
 pub mod Event
+pub mod Latest
 pub mod Tracked
 pub mod Observed
 pub mod Order

@@ -1,4 +1,4 @@
--- A packet of the server: which grammar reads it, by its kind.
+-- Packets of the server: the grammar of each kind.
 use Rattle.std.specs.Prelude.{ℕ, Bool, List, Option, Some, None, option_copied}
 use Rattle.mysql_wire.specs.declared.codes.column_type.ColumnType.{ColumnType}
 use Rattle.mysql_wire.specs.Form.{Form, ◌>>=◌, all_left, map}
@@ -45,39 +45,39 @@ eof_form a = map packet (ok_packet {T = OldEofPacket} 0xfe (old_eof_body a.mysql
 abbrev pub ok_terminator_form : SessionCapabilities → Form OkPacket
 ok_terminator_form a = map packet (ok_packet {T = ResultSetTerminator} 0xfe (terminator_body a.mysql))
 
--- three bytes that say so, and the report
+-- three bytes that mark a report, and the report
 abbrev pub report_form : Form ProgressReport
 report_form = skip 3 >>= (λ head. progress_report.form tt)
 
--- ---- rows, whose values are read later: each has all bytes that are left, and of a binary row the front alone is read
+-- ---- rows, whose values are read later: each has the rest of the bytes, and only the beginning of a binary row is read
 
--- a given number of values of text
+-- a number of text values
 abbrev pub text_row : ℕ → Form RowLeft
 text_row columns = map (text_row_left columns) all_left
 
 module _ {C : Type 0} (type_of : C → ColumnType) (unsigned : C → Bool) where
-  -- a byte with any value, the bitmap of NULLs, and a value for each column
+  -- a byte with any value, the NULL bitmap, and a value for each column
   abbrev pub binary_row : List C → Form RowLeft
   binary_row columns = do
     nulls ← row_front type_of unsigned 2 columns
     map (row_left (ref_cell type_of unsigned nulls.bytes 2) 0 columns) all_left
 
-  -- a binary row under its columns; where these are unknown, the whole payload
+  -- a binary row under its columns; if they are unknown, the whole payload
   abbrev pub row_under : Option (List C) → Form (ServerPacket C)
   row_under None = map variant.UntypedRow all_left
   row_under (Some columns) = map variant.BinaryRow (binary_row columns)
 
-  -- in place of the greeting the error has a state where its bytes begin with one
+  -- an error in place of the greeting has an SQL state if its bytes begin with one
   abbrev pub unsolicited_error : Option SessionCapabilities → Form (ServerPacket C)
   unsolicited_error None = map variant.GreetingError (greeting_error.form tt)
   unsolicited_error (Some agreed) = map variant.UnsolicitedError (err_packet.form agreed.mysql)
 
-  -- and so has one that answers what is no login
+  -- and so does one that answers a packet that is no login
   abbrev pub asked_error : Option SessionCapabilities → Form (ServerPacket C)
   asked_error None = map variant.GreetingError (greeting_error.form tt)
   asked_error (Some agreed) = map variant.Error (err_packet.form agreed.mysql)
 
-  -- ---- by the kind
+  -- ---- by kind
 
   abbrev pub server_packet : ReadContext C → PacketKind → Form (ServerPacket C)
   server_packet c kind.Handshake = map variant.Handshake (handshake.form tt)

@@ -18,6 +18,7 @@ mod client;
 mod client_reader;
 mod event;
 mod execution;
+mod latest;
 pub mod laws;
 mod limits;
 mod observed_packet;

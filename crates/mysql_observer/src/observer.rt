@@ -1,6 +1,6 @@
 //! An observer of a connection.
 
-ghost use Rattle.std.specs.Prelude.{◌&&◌, Option, option_copied, IfSome, IfNone, ◌≡◌, ◌↔◌, ◌⊎◌, ◌≤◌, ◌<◌, ◌∷◌, ◌++◌, [], IfOk, IfErr, OnErr, IsTrue, List, ℕ, true, false, None, Some, Err};
+ghost use Rattle.std.specs.Prelude.{◌&&◌, ◌-◌, Option, option_copied, IfSome, IfNone, ◌≡◌, ◌↔◌, ◌⊎◌, ◌≤◌, ◌<◌, ◌∷◌, ◌++◌, [], IfOk, IfErr, OnErr, IsTrue, List, ℕ, true, false, None, Some, Err};
 ghost use Rattle.mysql_conversation.specs.Session as sessions;
 ghost use Rattle.mysql_statements.specs.PipelinedCommands as early;
 ghost use Rattle.mysql_statements.specs.ResultColumns as results;
@@ -9,9 +9,10 @@ ghost use Rattle.mysql_observer.specs.Tracked as spec;
 
 use crate::event::has_header;
 use crate::execution::{Known, read_client};
+use crate::latest::Latest;
 use crate::limits::ObserverLimits;
 use crate::observed_packet::ObservedPacket;
-use crate::packets::{are_both, count_after, has_params, is_early, is_event};
+use crate::packets::{are_both, has_params, is_early, is_event};
 use crate::read_context::ReadContext;
 use crate::record::ClientRecord;
 use crate::server::ServerPacket;
@@ -23,21 +24,26 @@ use mysql_statements::{ResultColumns, RowColumn};
 use mysql_wire::FaultOf;
 use std::alloc::Global;
 
-/// Observes a connection from its greeting on: takes each payload of both sides, and returns its kind and its record.
+/// Observes a connection, from its greeting on or from a command on ([`resume`](Self::resume)): takes each payload of both sides, and
+/// returns its kind and its record.
 #[derive(Drop)]
 pub struct Observer {
     alloc: Global,
     session: Session,
     tracked: Tracked,
-    count: u64,
+    latest: Latest,
     columns: ResultColumns,
+    /// The number of the last exchange before the connection was resumed.
+    before: u64,
+    /// The highest number of an exchange that came.
+    last: u64,
 }
 
 impl Observer {
     ghost use Rattle.mysql_conversation.specs.Pipelined.{Numbered};
     ghost use Rattle.mysql_conversation.specs.Piped as piped;
     ghost use Rattle.mysql_conversation.specs.Piped.{place};
-    ghost use Rattle.mysql_conversation.specs.Session.{GoesOn, IsSession, IsSessionBeginning};
+    ghost use Rattle.mysql_conversation.specs.Session.{GoesOn, IsResumedBeginning, IsResumedSession, IsSession, IsSessionBeginning, SessionResumed};
     ghost use Rattle.mysql_conversation.specs.declared.packet_kind.PacketKind as declared;
     ghost use Rattle.mysql_conversation.specs.Agreements as agreement;
     ghost use Rattle.mysql_conversation.specs.declared.packet_kind.Side.TheVariants as side;
@@ -47,33 +53,77 @@ impl Observer {
     ghost use Rattle.mysql_observer.specs.Event as events;
     ghost use Rattle.mysql_observer.specs.Records as records;
     ghost use Rattle.mysql_observer.specs.Observed as observed;
-    ghost use Rattle.mysql_observer.specs.Observed.{Knows, Observed};
+    ghost use Rattle.mysql_observer.specs.Observed.{Knows, KnowsResumed, Observed, Resumed, ResumedAfter};
 
     /// Creates an observer before the first packet, with these limits.
     pub fn new(alloc: Global, limits: ObserverLimits) -> Self
         ensures observed { Observed result [] }
         ensures tracked { observed.tracked result ≡ record { table = tables.empty limits.statements; early = early.none_waits limits.early; lost = None; params = None } }
         ensures columns { observed.result_columns result ≡ results.unknown limits.columns }
+        ensures limit { observed.limit result ≡ limits.waiting }
     {
         Observer {
             alloc,
             session: Session::new(alloc, limits.waiting),
             tracked: Tracked::none(alloc, limits),
-            count: 0,
+            latest: Latest::none(),
             columns: ResultColumns::new(alloc, limits.columns),
+            before: 0,
+            last: 0,
         }
+    }
+
+    /// Continues at the next command, under what both sides agreed on: in the middle of a connection, or after a loss. Exchanges
+    /// are counted on, and nothing is known of statements.
+    ///
+    /// ```
+    /// observer.resume(agreed);
+    /// Ok(observer.next(Side::Client, command)?.kind)
+    /// ```
+    pub fn resume(&mut self, agreed: SessionCapabilities)
+        ensures resumed { Resumed self.new agreed (observed.last_exchange self.old) [] }
+        ensures last { observed.last_exchange self.new ≡ observed.last_exchange self.old }
+        ensures tracked { observed.tracked self.new ≡ spec.forgotten (observed.tracked self.old) }
+        ensures columns { observed.result_columns self.new ≡ results.unknown (observed.result_columns self.old).limit }
+        ensures limit { observed.limit self.new ≡ observed.limit self.old }
+    {
+        self.session.resume(agreed);
+        self.tracked.forget();
+        self.columns.forget();
+        self.latest = Latest::none();
+        self.before = self.last;
+    }
+
+    /// Continues after this command, the last that came: the answer to the one before it is lost. Its first six bytes are enough.
+    pub fn resume_after(&mut self, agreed: SessionCapabilities, command: &[u8])
+        ensures resumed { ResumedAfter self.new agreed (observed.last_exchange self.old - 1) command.now }
+        ensures limit { observed.limit self.new ≡ observed.limit self.old }
+    {
+        self.resume(agreed);
+        self.before = self.last.saturating_sub(1);
+        // (a command comes between two exchanges)
+        let _observed = self.next(Side::Client, command);
+    }
+
+    /// Returns the highest number of an exchange that came.
+    pub fn last_exchange(&self) -> u64
+        ensures { result ≡ observed.last_exchange self.now }
+    {
+        self.last
     }
 
     /// Whether every command is answered.
     pub fn is_idle(&self) -> bool
-        ensures { (items : List Numbered) → Observed self.now items → IsTrue result ↔ IsSession items }
+        ensures session { (items : List Numbered) → Observed self.now items → IsTrue result ↔ IsSession items }
+        ensures resumed { (a : agreement.Agreed) (before : ℕ) (items : List Numbered) → Resumed self.now a before items → IsTrue result ↔ IsResumedSession a items }
     {
         self.session.is_idle()
     }
 
     /// Returns what both sides agreed on, once the client has sent its login.
     pub fn agreed(&self) -> Option<SessionCapabilities>
-        ensures { (items : List Numbered) → Observed self.now items → context.IsAgreed items result }
+        ensures session { (items : List Numbered) → Observed self.now items → context.IsAgreed items result }
+        ensures resumed { (a : agreement.Agreed) (before : ℕ) (items : List Numbered) → Resumed self.now a before items → result ≡ Some a }
     {
         self.agreed_in_session()
     }
@@ -88,6 +138,9 @@ impl Observer {
     /// Continues after a request for TLS: the payloads that follow are decrypted.
     pub fn tls_established(&mut self)
         ensures stays { (items : List Numbered) → Observed self.old items → Observed self.new items }
+        ensures resumed { (a : agreement.Agreed) (before : ℕ) (items : List Numbered) → Resumed self.old a before items → Resumed self.new a before items }
+        ensures last { observed.last_exchange self.new ≡ observed.last_exchange self.old }
+        ensures limit { observed.limit self.new ≡ observed.limit self.old }
         ensures in_tls { observed.IsEncrypted self.new → ⊥ }
         ensures tracked { observed.tracked self.new ≡ observed.tracked self.old }
         ensures columns { observed.result_columns self.new ≡ observed.result_columns self.old }
@@ -105,6 +158,14 @@ impl Observer {
         // Of no kind and exchange does the packet go on with what was taken.
         ensures refused { IfErr result (λ why. (items : List Numbered) (kind : declared.PacketKind) (number : ℕ) → why ≡ refusal.UnexpectedPacket → Observed self.old items
             → IsSessionBeginning (items ++ place from payload.now kind number ∷ []) → ⊥) }
+        // Of a connection that is resumed likewise.
+        ensures resumed { IfOk result (λ x. (a : agreement.Agreed) (before : ℕ) (items : List Numbered) → Resumed self.old a before items
+            → (number : ℕ) × (x.exchange ≡ observed.exchange_from before number) × Resumed self.new a before (items ++ place from payload.now x.kind number ∷ [])) }
+        ensures more { IfOk result (λ x. (a : agreement.Agreed) (before : ℕ) (items : List Numbered) → Resumed self.old a before items
+            → (number : ℕ) × KnowsResumed a x.has_memory items x.exchange (place from payload.now x.kind number) self.old self.new) }
+        ensures not_next { IfErr result (λ why. (a : agreement.Agreed) (before : ℕ) (items : List Numbered) (kind : declared.PacketKind) (number : ℕ) → why ≡ refusal.UnexpectedPacket → Resumed self.old a before items
+            → IsResumedBeginning a (items ++ place from payload.now kind number ∷ []) → ⊥) }
+        ensures kept { OnErr result ((a : agreement.Agreed) (before : ℕ) (items : List Numbered) → Resumed self.old a before items → Resumed self.new a before items) }
         // Exactly after a request for TLS, until `tls_established` says that what comes is decrypted: except for an error that the server sends
         // in clear.
         ensures encrypted { (result ≡ Err refusal.Encrypted) ↔ observed.IsHidden self.old from payload.now }
@@ -122,12 +183,15 @@ impl Observer {
         ensures err { OnErr result ((items : List Numbered) → Observed self.old items → Observed self.new items) }
         ensures same { OnErr result (observed.tracked self.new ≡ observed.tracked self.old) }
         ensures unchanged { OnErr result (observed.IsSame self.old self.new) }
+        ensures limit { observed.limit self.new ≡ observed.limit self.old }
     {
         let is_between = self.session.is_idle();
         match self.session.next(from, payload) {
-            Ok((kind, exchange)) => {
+            Ok((kind, number)) => {
                 let is_early = is_early(is_between, from, kind, payload);
-                self.count = count_after(kind, self.count);
+                let exchange = self.exchange_of(number);
+                self.last = self.last.max(exchange);
+                self.latest = self.latest.after(kind, number);
                 let agreed = self.session.agreed();
                 let is_kept = self.keep(agreed, is_early, kind, exchange, payload);
                 let is_defined = self.define(agreed, kind, payload);
@@ -142,6 +206,15 @@ impl Observer {
         }
     }
 
+    /// The number of an exchange of this session, counted on.
+    #[inline(always)]
+    fn exchange_of(&self, number: u64) -> u64
+        ensures value { result ≡ observed.exchange_from self.now.before number }
+        ensures whole { self.now.before ≡ 0 → result ≡ number }
+    {
+        self.before.saturating_add(number)
+    }
+
     /// Keeps what a packet says of later ones. Whether there was memory for it.
     #[inline(always)]
     fn keep(
@@ -152,8 +225,7 @@ impl Observer {
         exchange: u64,
         payload: &[u8],
     ) -> bool
-        ensures session { self.new.session ≡ self.old.session }
-        ensures count { self.new.count ≡ self.old.count }
+        ensures same { observed.IsPlaced self.old self.new }
         ensures columns { self.new.columns ≡ self.old.columns }
         ensures tracked { spec.KeptIn agreed is_early kind exchange payload.now result self.old.tracked self.new.tracked }
     {
@@ -176,8 +248,7 @@ impl Observer {
         kind: PacketKind,
         payload: &[u8],
     ) -> bool
-        ensures session { self.new.session ≡ self.old.session }
-        ensures count { self.new.count ≡ self.old.count }
+        ensures same { observed.IsPlaced self.old self.new }
         ensures tracked { self.new.tracked ≡ self.old.tracked }
         ensures columns { context.DefinedIn agreed kind payload.now result self.old.columns self.new.columns }
     {
@@ -211,8 +282,12 @@ impl Observer {
         kind: PacketKind,
         payload: &'a [u8],
     ) -> Result<ServerPacket<'a, 'o, RowColumn>, FaultOf<'s>>
-        ensures packet { IfOk result (λ p. (items : List Numbered) → Observed self.now items → records.IsServerPacket items (observed.tracked self.now) kind payload.now p) }
-        ensures fault { IfErr result (λ e. (items : List Numbered) → Observed self.now items → records.IsServerFault items (observed.tracked self.now) kind payload.now e) }
+        ensures packet { IfOk result (λ p. (items : List Numbered) → Observed self.now items → records.IsServerPacket (context.IsAgreed items) items (observed.tracked self.now) (observed.result_columns self.now) kind payload.now p) }
+        ensures fault { IfErr result (λ e. (items : List Numbered) → Observed self.now items → records.IsServerFault (context.IsAgreed items) items (observed.tracked self.now) (observed.result_columns self.now) kind payload.now e) }
+        ensures resumed { IfOk result (λ p. (a : agreement.Agreed) (before : ℕ) (items : List Numbered) → Resumed self.now a before items
+            → records.IsServerPacket (records.Are a) items (observed.tracked self.now) (observed.result_columns self.now) kind payload.now p) }
+        ensures resumed_fault { IfErr result (λ e. (a : agreement.Agreed) (before : ℕ) (items : List Numbered) → Resumed self.now a before items
+            → records.IsServerFault (records.Are a) items (observed.tracked self.now) (observed.result_columns self.now) kind payload.now e) }
     {
         let context = self.context(kind, payload);
         server_packet(self.alloc, &context, kind, payload)
@@ -221,14 +296,15 @@ impl Observer {
     /// The context from the packets so far.
     #[inline(always)]
     fn context(&self, kind: PacketKind, payload: &[u8]) -> ReadContext<'_, RowColumn>
-        ensures agreed { (items : List Numbered) → sessions.SessionTaken self.now.session items → context.IsAgreed items result.agreed }
-        ensures count { result.column_count ≡ self.now.count }
-        ensures columns { option_copied result.columns ≡ context.columns_for kind (tables.columns_of_rows (observed.tracked self.now).table) }
+        ensures session { (items : List Numbered) → sessions.SessionTaken self.now.session items → context.IsAgreed items result.agreed }
+        ensures resumed { (a : agreement.Agreed) (items : List Numbered) → SessionResumed self.now.session a items → result.agreed ≡ Some a }
+        ensures count { result.column_count ≡ self.now.latest.column_count }
+        ensures columns { option_copied result.columns ≡ context.columns_for kind (context.columns_of_binary self.now.latest (observed.tracked self.now) (observed.result_columns self.now)) }
         ensures semi_sync { result.semi_sync ≡ (context.is_event kind && events.has_header payload.now) }
     {
         ReadContext {
             agreed: self.agreed_in_session(),
-            column_count: self.count as usize,
+            column_count: self.latest.column_count as usize,
             columns: self.columns(kind),
             semi_sync: is_event(kind) && has_header(self.alloc, payload),
         }
@@ -237,7 +313,8 @@ impl Observer {
     /// The agreed capabilities, by the session.
     #[inline(always)]
     fn agreed_in_session(&self) -> Option<SessionCapabilities>
-        ensures { (items : List Numbered) → sessions.SessionTaken self.now.session items → context.IsAgreed items result }
+        ensures session { (items : List Numbered) → sessions.SessionTaken self.now.session items → context.IsAgreed items result }
+        ensures resumed { (a : agreement.Agreed) (items : List Numbered) → SessionResumed self.now.session a items → result ≡ Some a }
     {
         self.session.agreed()
     }
@@ -245,12 +322,25 @@ impl Observer {
     /// The columns of a packet of this kind, which is a binary row, where they are known.
     #[inline(always)]
     fn columns(&self, kind: PacketKind) -> Option<&[RowColumn]>
-        ensures { option_copied result ≡ context.columns_for kind (tables.columns_of_rows (observed.tracked self.now).table) }
+        ensures { option_copied result ≡ context.columns_for kind (context.columns_of_binary self.now.latest (observed.tracked self.now) (observed.result_columns self.now)) }
     {
         match kind {
-            PacketKind::Row(RowFormat::Binary) => self.tracked.columns(),
+            PacketKind::Row(RowFormat::Binary) => self.columns_of_binary(),
             _ => None,
         }
+    }
+
+    /// The columns of the binary rows of this exchange, where they are known.
+    #[inline(always)]
+    fn columns_of_binary(&self) -> Option<&[RowColumn]>
+        ensures { option_copied result ≡ context.columns_of_binary self.now.latest (observed.tracked self.now) (observed.result_columns self.now) }
+    {
+        if self.latest.is_of_result() {
+            if let Some(columns) = self.columns.columns() {
+                return Some(columns);
+            }
+        }
+        self.tracked.columns()
     }
 
     /// Returns the record of the client's packet that was passed last, of the kind that [`next`](Self::next) returned.
@@ -266,6 +356,10 @@ impl Observer {
             × records.IsClientRecord agreed (records.known_params agreed (observed.tracked self.now).params kind) kind payload.now r) }
         ensures fault { IfErr result (λ e. (items : List Numbered) → Observed self.now items → (agreed : Option agreement.Agreed) × context.IsAgreed items agreed
             × records.IsClientFault agreed (records.known_params agreed (observed.tracked self.now).params kind) kind payload.now e) }
+        ensures resumed { IfOk result (λ r. (a : agreement.Agreed) (before : ℕ) (items : List Numbered) → Resumed self.now a before items
+            → records.IsClientRecord (Some a) (records.known_params (Some a) (observed.tracked self.now).params kind) kind payload.now r) }
+        ensures resumed_fault { IfErr result (λ e. (a : agreement.Agreed) (before : ℕ) (items : List Numbered) → Resumed self.now a before items
+            → records.IsClientFault (Some a) (records.known_params (Some a) (observed.tracked self.now).params kind) kind payload.now e) }
     {
         let agreed = self.agreed_in_session();
         read_client(

@@ -2,6 +2,7 @@
 
 ghost use Rattle.std.specs.Prelude.{◌≡◌, ◌&&◌, not, false};
 ghost use Rattle.mysql_wire.specs.Reading.{Answers};
+ghost use Rattle.mysql_conversation.specs.Conversation.{code_of as first_byte};
 ghost use Rattle.mysql_conversation.specs.Pipelined.{is_command as is_command_packet};
 ghost use Rattle.mysql_conversation.specs.Taken.{packet};
 ghost use Rattle.mysql_statements.specs.Packets as packets;
@@ -36,6 +37,29 @@ pub(crate) fn number_at(alloc: Global, payload: &[u8]) -> Option<u32>
     }
 }
 
+/// The first byte of a command: 0 of an empty packet, which a server takes for COM_SLEEP.
+pub(crate) fn code_of(payload: &[u8]) -> u8
+    ensures { result ≡ first_byte payload.now }
+{
+    match payload {
+        [code, ..] => *code,
+        [] => 0,
+    }
+}
+
+/// The bytes of a pipelined command that say what it does with a statement: all of an execution, since its types may be
+/// anywhere, and of another command those before the data of `COM_STMT_SEND_LONG_DATA`.
+pub(crate) fn front_of(payload: &[u8]) -> &[u8]
+    ensures { result.now ≡ spec.front payload.now }
+{
+    let code = code_of(payload);
+    if code == 0x17 || code == 0xfa {
+        payload
+    } else {
+        &payload[..payload.len().min(7)]
+    }
+}
+
 /// Whether it is an execution.
 pub(crate) fn is_execution(kind: PacketKind) -> bool
     ensures { result ≡ spec.is_execution kind }
@@ -63,17 +87,6 @@ pub(crate) fn is_early(is_between: bool, from: Side, kind: PacketKind, payload: 
     ensures { result ≡ not is_between && is_command_packet (packet from payload.now kind) }
 {
     !is_between && is_command(from, kind, payload)
-}
-
-/// The number of columns of a text row after a packet.
-#[inline(always)]
-pub(crate) fn count_after(kind: PacketKind, count: u64) -> u64
-    ensures { result ≡ context.count_after kind count }
-{
-    match kind {
-        PacketKind::ColumnCount(count, _) => count,
-        _ => count,
-    }
 }
 
 /// Whether a packet has parameters, which are known where those of its statement are: it is an execution, after the login.

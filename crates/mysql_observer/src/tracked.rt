@@ -8,7 +8,7 @@ ghost use Rattle.mysql_observer.specs.Records as records;
 
 use crate::execution::Known;
 use crate::limits::ObserverLimits;
-use crate::packets::{is_execution, is_row, number_at};
+use crate::packets::{code_of, front_of, is_execution, is_row, number_at};
 use crate::params::Params;
 use mysql_conversation::PacketKind;
 use mysql_replies::SessionCapabilities;
@@ -38,13 +38,8 @@ impl Model for Tracked {
 fn take_command(statements: &mut Statements, agreed: SessionCapabilities, payload: &[u8])
     ensures { statements.new ≡ spec.command_taken agreed payload.now statements.old }
 {
-    // (a server takes an empty packet for COM_SLEEP)
-    let code = match payload {
-        [code, ..] => *code,
-        [] => 0,
-    };
     // (a command has no memory taken)
-    let _taken = statements.take(agreed, PacketKind::Command(code), payload);
+    let _taken = statements.take(agreed, PacketKind::Command(code_of(payload)), payload);
 }
 
 /// Whether nothing is known of statements up to this exchange.
@@ -94,6 +89,23 @@ impl Tracked {
         self.params.forget();
     }
 
+    /// Forgets all statements.
+    fn forget_statements(&mut self)
+        ensures { self.new ≡ record self.old { table = tables.cleared self.old.table } }
+    {
+        self.statements.clear();
+    }
+
+    /// Forgets everything.
+    pub(crate) fn forget(&mut self)
+        ensures { self.new ≡ spec.forgotten self.old }
+    {
+        self.forget_statements();
+        self.early.clear();
+        self.lost = None;
+        self.params.forget();
+    }
+
     /// Takes the commands that waited, up to an exchange.
     fn serve(&mut self, agreed: SessionCapabilities, exchange: u64)
         ensures { self.new ≡ spec.served agreed exchange self.old }
@@ -107,10 +119,10 @@ impl Tracked {
     #[inline(never)]
     pub(crate) fn hold(&mut self, number: u64, payload: &[u8]) -> bool
         ensures held { self.new ≡ spec.held result number payload.now self.old }
-        ensures asked { result ≡ false → IsTrue (early.has_place self.old.early payload.now) }
+        ensures asked { result ≡ false → IsTrue (early.has_place self.old.early (spec.front payload.now)) }
     {
         self.params.forget();
-        match self.early.hold(number, payload) {
+        match self.early.hold(number, front_of(payload)) {
             Ok(true) => true,
             Ok(false) => {
                 self.lose(number);
@@ -127,7 +139,7 @@ impl Tracked {
     fn lose(&mut self, number: u64)
         ensures { self.new ≡ record { table = tables.cleared self.old.table; early = self.old.early; lost = Some number; params = self.old.params } }
     {
-        self.statements.clear();
+        self.forget_statements();
         self.lost = Some(number);
     }
 

@@ -143,6 +143,7 @@ pub use Rattle.mysql_prepared.specs.SentTypes
 pub use Rattle.mysql_prepared.specs.Row
 pub use Rattle.mysql_prepared.specs.RowForm
 pub use Rattle.mysql_prepared.specs.RowView
+pub use Rattle.mysql_prepared.specs.StoredRow
 pub use Rattle.mysql_prepared.specs.Stmt
 pub use Rattle.mysql_prepared.specs.StmtWithMetadata
 pub use Rattle.mysql_prepared.specs.TextRow
@@ -262,6 +263,7 @@ pub use Rattle.mysql_observer.specs.Context as ReadContext
 pub use Rattle.mysql_observer.specs.Server as ServerPacket
 pub use Rattle.mysql_observer.specs.Read as PacketRead
 pub use Rattle.mysql_observer.specs.Event as ObservedEvent
+pub use Rattle.mysql_observer.specs.Latest as ObservedResult
 pub use Rattle.mysql_observer.specs.Observed
 pub use Rattle.mysql_observer.specs.Order as ObservedOrder
 pub use Rattle.mysql_observer.specs.PacketContext

@@ -1,4 +1,6 @@
+pub mod CheckedParams
 pub mod Codes
+pub mod ExecutionNames
 pub mod Conversations
 pub mod FilledRows
 pub mod Answers

@@ -1,4 +1,4 @@
--- Further data of an authentication, as C has it.
+-- More data of an authentication, in C.
 use Rattle.std.specs.Prelude.{◌≡◌, ℕ, List}
 use Rattle.mysql_auth.specs.AuthMoreData.{more_data}
 use Rattle.mysql_auth.specs.declared.auth_more_data.AuthMoreData.{AuthMoreData}

@@ -6,7 +6,7 @@ use Rattle.mysql_packets_c.specs.Value.{value_content, is_value}
 use Rattle.mysql_packets_c.specs.declared.rows.CColumnType.{CColumnType}
 use Rattle.mysql_packets_c.specs.declared.value.CValue.{CValue}
 
--- it is a value, which the column takes
+-- it is a value that the column can contain
 abbrev pub takes_value : CColumnType → CValue → Bool
 takes_value column value = is_value value && takes (type_of column) (unsigned_of column) (value_content value)
 

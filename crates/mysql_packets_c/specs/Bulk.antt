@@ -1,4 +1,4 @@
--- A bulk request, as C asks for it.
+-- A bulk request, as C requests it.
 use Rattle.std.specs.Prelude.{◌≡◌, ◌≢◌, ◌⊎◌, ℕ, ◌++◌, ◌+◌, ◌*◌, ◌-◌, ◌%◌, ◌==◌, ◌&&◌, ◌||◌, ◌≤◌, Bool, true, false, if◌then◌else◌, not, nat_le, List, [], ◌∷◌, length, map, take, drop, All, Option, Some, None, position}
 use Rattle.std.specs.List.{flat_map, list_all}
 use Rattle.mysql_cuts.specs.Cut.{PartFits, request_size}
@@ -21,33 +21,33 @@ use Rattle.mysql_packets_c.specs.declared.bulk.BulkCall.{BulkCall}
 use Rattle.mysql_packets_c.specs.declared.rows.CColumnType.{CColumnType}
 use Rattle.mysql_packets_c.specs.declared.value.CValue.{CValue}
 
--- ---- what may be asked for
+-- ---- arguments
 
--- the type that is declared for a column
+-- the declared type of a column
 abbrev pub declared_type : CColumnType → ParamType
 declared_type c = typed (type_of c) (unsigned_of c)
 
 abbrev pub declared_types : List CColumnType → List ParamType
 declared_types types = map declared_type types
 
--- the first type that may not be declared
+-- the first type that can't be declared
 abbrev pub first_undeclared : List ParamType → Option ℕ
 first_undeclared types = position (λ kind. not (is_declarable kind)) types
 
 abbrev pub first_refused : List CColumnType → Option ℕ
 first_refused types = first_undeclared (declared_types types)
 
--- 64 asks for the results of each row
+-- 64 requests the results of each row
 abbrev pub may_ask : ℕ → ℕ → ℕ → ℕ → Bool
 may_ask flags max_allowed_packet columns values =
     (flags == 0 || flags == 64) && (nat_le 4 max_allowed_packet && (nat_le 1 columns && (values % columns == 0)))
 
--- such a call may be made, and the types may be declared
+-- such a call is allowed, and the types can be declared
 abbrev pub IsCall : ℕ → ℕ → List CColumnType → List CValue → Type 0
 IsCall flags max_allowed_packet types values =
     (may_ask flags max_allowed_packet (length types) (length values) ≡ true) × (first_refused types ≡ None)
 
--- the library's builder with these settings, in which no row waits
+-- the library's builder with these settings, without waiting rows
 abbrev pub builder_with : ℕ → ℕ → ℕ → List ParamType → BuilderState
 builder_with statement_id flags max_allowed_packet types = record (new_builder statement_id (max_allowed_packet - 4)) {
   results = flags == 64;
@@ -58,7 +58,7 @@ builder_with statement_id flags max_allowed_packet types = record (new_builder s
 abbrev pub builder_of : ℕ → ℕ → ℕ → List CColumnType → BuilderState
 builder_of statement_id flags max_allowed_packet types = builder_with statement_id flags max_allowed_packet (declared_types types)
 
--- ---- rows of values that stand row after row
+-- ---- rows of values in one array
 
 -- the first rows
 abbrev pub first_rows : ℕ → ℕ → List CValue → List (List Content)
@@ -72,9 +72,9 @@ row_at columns count values = take columns (drop (count * columns) values)
 abbrev pub waits : BuilderState → ℕ → ℕ → List CValue → BuilderState
 waits s columns count values = record s { waiting = first_rows columns count values }
 
--- ---- what is answered
+-- ---- answers
 
--- there is a row after the first ones, all values, which the types spell, and it doesn't fit with them
+-- the row after the first ones exists, contains only values, which the types can encode, and doesn't fit with them
 pub record NextIsFull (s : BuilderState) (columns count : ℕ) (values : List CValue) : Type 0 where
   pub are_values : list_all is_value (row_at columns count values) ≡ true
   pub taken : TakesRow (waits s columns count values) (values_contents (row_at columns count values))
@@ -84,20 +84,20 @@ pub record NextIsFull (s : BuilderState) (columns count : ℕ) (values : List CV
 abbrev pub IsFull : BuilderState → ℕ → ℕ → List CValue → Type 0
 IsFull s columns count values = (count * columns ≡ length values) ⊎ NextIsFull s columns count values
 
--- the first rows are values
+-- the first rows contain only values
 pub record AreRows (columns count : ℕ) (values : List CValue) : Type 0 where
   pub within : count * columns ≤ length values
   pub are_values : list_all is_value (take (count * columns) values) ≡ true
 
--- why the row after the first ones is refused: 3 where one of it is no value, or its type doesn't spell it; 6 where it is the
--- first row and doesn't fit
+-- why the row after the first ones is refused: 3 if one of its values is invalid, or its type can't encode it; 6 if it is the first row and
+-- doesn't fit
 abbrev pub WhyRefused : BuilderState → ℕ → ℕ → List CValue → ℕ → Type 0
 WhyRefused s columns count values code =
     ((code ≡ 3) × (list_all is_value (row_at columns count values) ≡ false))
     ⊎ (((code ≡ 3) × (list_all is_value (row_at columns count values) ≡ true) × (TakesTypes s.columns (values_contents (row_at columns count values)) → ⊥))
     ⊎ ((code ≡ 6) × (count ≡ 0) × NextIsFull s columns count values))
 
--- the row after the first ones, which may be one request, is there and is refused
+-- the row after the first ones, which fit in one request, exists and is refused
 pub record Refuses (s : BuilderState) (columns count : ℕ) (values : List CValue) (code : ℕ) : Type 0 where
   pub rows : AreRows columns count values
   pub there : count * columns + columns ≤ length values
@@ -105,7 +105,7 @@ pub record Refuses (s : BuilderState) (columns count : ℕ) (values : List CValu
   pub fit : first_rows columns count values ≢ [] → PartFits (packing s columns) s.types_due (first_rows columns count values)
   pub why : WhyRefused s columns count values code
 
--- the request of the rows that wait is written, and how many they are is answered
+-- the request of the waiting rows is written, and their number is returned
 pub record WritesBuilt (s : BuilderState) (count code : ℕ) (old new : List ℕ) (written rows : ℕ) : Type 0 where
   pub request : List ℕ
   pub built : IsBuilt s request
@@ -113,8 +113,8 @@ pub record WritesBuilt (s : BuilderState) (count code : ℕ) (old new : List ℕ
   pub done : code ≡ 0 → rows ≡ count
   pub small : code ≢ 0 → rows ≡ 0
 
--- The request of the first rows is written, as many as fit, and how many is answered. One that the buffer doesn't hold is not
--- written: 5, and no row.
+-- The request of the first rows is written, as many as fit, and their number is returned. If the buffer is too small, nothing is written:
+-- code 5, and no row.
 pub record Writes (s : BuilderState) (columns : ℕ) (values : List CValue) (code : ℕ) (old new : List ℕ) (written rows : ℕ) : Type 0 where
   pub count : ℕ
   pub are_rows : AreRows columns count values
@@ -134,21 +134,21 @@ abbrev pub Bulk : BuilderState → ℕ → List CValue → ℕ → List ℕ → 
 Bulk s columns values code old new written rows =
     Writes s columns values code old new written rows ⊎ (RefusesAny s columns values code × WritesNothing old new written rows)
 
--- ---- how the rows are counted
+-- ---- how rows are counted
 
--- what a caller asks for, as the library's builder
+-- the caller's settings, as the library's builder
 abbrev pub builder_for : BulkCall → BuilderState
 builder_for call = builder_of call.statement_id call.flags call.max_allowed_packet call.columns.now
 
--- it is a value, which the type of its column spells
+-- it is a value that the type of its column can encode
 abbrev pub takes_value : CColumnType → CValue → Bool
 takes_value column value = is_value value && can_encode (declared_type column) (value_content value)
 
--- the row is of values, which the types of their columns spell
+-- the row contains only values that the types of their columns can encode
 abbrev pub takes_row : List CColumnType → List CValue → Bool
 takes_row columns row = list_all is_value row && spell_row (declared_types columns) (values_contents row)
 
--- the first rows may be a request, which takes a given number of bytes
+-- the first rows fit in a request, with a given size
 pub record HasRows (s : BuilderState) (columns count len : ℕ) (values : List CValue) : Type 0 where
   pub are_rows : AreRows columns count values
   pub taken : All (TakesTypes s.columns) (first_rows columns count values)
@@ -161,7 +161,7 @@ pub record Counted (s : BuilderState) (columns count len : ℕ) (values : List C
   pub full : IsFull s columns count values
   pub some : count ≡ 0 → values ≡ []
 
--- ---- what is written of the rows
+-- ---- the bytes of the rows
 
 -- a parameter after its indicator
 abbrev pub param_cell : Param → List ℕ
@@ -170,7 +170,7 @@ param_cell p = if is_null (value_of p) then 1 ∷ [] else 0 ∷ param_bytes fals
 abbrev pub cell_bytes : CValue → List ℕ
 cell_bytes value = param_cell (param value)
 
--- what stands before the values
+-- what precedes the values
 abbrev pub head_bytes : ℕ → ℕ → List CColumnType → List ℕ
 head_bytes statement_id flags types = head.bytes (record { stmt_id = statement_id; bulk_flags = request_flags true (flags == 64); types = declared_types types })
 

@@ -1,4 +1,4 @@
--- The head of a bulk execution, as C has it.
+-- The head of a bulk execution, in C.
 use Rattle.std.specs.Prelude.{◌≡◌, ℕ, List}
 use Rattle.mysql_commands.specs.BulkExecute as bulk
 use Rattle.mysql_commands.specs.declared.bulk_execute.ComStmtBulkExecuteRef.{ComStmtBulkExecuteRef}

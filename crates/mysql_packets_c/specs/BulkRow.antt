@@ -1,4 +1,4 @@
--- The types and the rows of a bulk execution, as C reads them.
+-- The types and rows of a bulk execution, as C reads them.
 use Rattle.std.specs.Prelude.{◌≡◌, ℕ, List, drop, map, take, Result, Ok, Err, false}
 use Rattle.mysql_wire.specs.Form.{Form}
 use Rattle.mysql_wire.specs.MariadbBulkIndicator.{mariadb_bulk_indicator_code}
@@ -27,17 +27,17 @@ use Rattle.mysql_packets_c.specs.declared.value.CValue.{CValue}
 abbrev pub types_held : List ParamType → List CColumnType
 types_held types = map type_held types
 
--- the places hold the types that reading gives; or reading gives the fault
+-- the array contains the types that are read; or reading has the fault
 abbrev pub ReadsTypes : Result (Unit {0}) FaultOf → List CColumnType → (rest : List ℕ) → Reading (List ParamType) → Type 0
 ReadsTypes (Ok done) places rest read = (types : List ParamType) × (read ≡ Ok (types, rest)) × (places ≡ types_held types)
 ReadsTypes (Err e) places rest read = Faults false e read
 
--- 0, the types, and the bytes after them are left; or the code of the first fault, and the bytes are as they were
+-- 0, the types, and the rest of the bytes; or the code of the first fault, and the bytes are unchanged
 abbrev pub TypesInto : Reading (List ParamType) → ℕ → (old new : CBytes) → List CColumnType → Type 0
 TypesInto (Ok x) code old new places = (code ≡ 0) × (places ≡ types_held x.0) × (new.bytes.now ≡ x.1)
 TypesInto (Err k) code old new places = (code ≡ kind_code k) × (new ≡ old)
 
--- The types that the front of the bytes spells stand in the first places, as many as were read; the other places are as they were.
+-- The types at the front of the bytes are in the first elements, as many as were read; the other elements are unchanged.
 pub record FillsTypes (bytes : List ℕ) (before after : List CColumnType) : Type 0 where
   pub count : ℕ
   pub types : List ParamType
@@ -48,7 +48,7 @@ pub record FillsTypes (bytes : List ℕ) (before after : List CColumnType) : Typ
 
 -- ---- rows
 
--- the column that a type tells of
+-- the column that a type describes
 abbrev pub column_of : CColumnType → BulkColumn
 column_of c = column_of_type (declared_type c)
 
@@ -63,26 +63,26 @@ abbrev pub param_read : Result (MariadbBulkIndicator × ValueRef) FaultOf → Re
 param_read (Ok x) = Ok (param_held x.0 x.1)
 param_read (Err e) = Err e
 
--- how each value is given
+-- how each value is sent
 abbrev pub indicators_of : List ParamValue → List ℕ
 indicators_of row = map (λ v. mariadb_bulk_indicator_code v.indicator) row
 
--- the places hold the values of the row, and how each is given
+-- the arrays contain the values of the row, and how each is sent
 pub record HoldsRow (row : List ParamValue) (values : List CValue) (indicators : List ℕ) : Type 0 where
   pub values_are : values_contents values ≡ contents row
   pub indicators_are : indicators ≡ indicators_of row
 
--- the places hold the row that reading gives; or reading gives the fault
+-- the arrays contain the row that is read; or reading has the fault
 abbrev pub ReadsRow : Result (Unit {0}) FaultOf → List CValue → (indicators : List ℕ) → (rest : List ℕ) → Reading (List ParamValue) → Type 0
 ReadsRow (Ok done) values indicators rest read = (row : List ParamValue) × (read ≡ Ok (row, rest)) × HoldsRow row values indicators
 ReadsRow (Err e) values indicators rest read = Faults false e read
 
--- 0, the row, and the bytes after it are left; or the code of the first fault, and the bytes are as they were
+-- 0, the row, and the rest of the bytes; or the code of the first fault, and the bytes are unchanged
 abbrev pub RowInto : Reading (List ParamValue) → ℕ → (old new : CBytes) → List CValue → (indicators : List ℕ) → Type 0
 RowInto (Ok x) code old new values indicators = (code ≡ 0) × HoldsRow x.0 values indicators × (new.bytes.now ≡ x.1)
 RowInto (Err k) code old new values indicators = (code ≡ kind_code k) × (new ≡ old)
 
--- the same of the values alone, as the library's reader of whole requests has them
+-- the same for the values alone, as the library's reader of whole requests has them
 abbrev pub ContentsInto : Reading (List Content) → ℕ → List CValue → (rest : List ℕ) → Type 0
 ContentsInto (Ok x) code values rest = (code ≡ 0) × (values_contents values ≡ x.0) × (rest ≡ x.1)
 ContentsInto (Err k) code values rest = code ≡ kind_code k

@@ -1,4 +1,4 @@
--- The change of a session's user, as C has it.
+-- The change of a session's user, in C.
 use Rattle.std.specs.Prelude.{Some, ◌≡◌, ◌<◌, ℕ, Bool, not, ◌&&◌, ◌||◌, ◌==◌, List, Option, None, if◌then◌else◌, option_map}
 use Rattle.mysql_wire.specs.FlagMasks.{CLIENT_CONNECT_ATTRS, CLIENT_PLUGIN_AUTH}
 use Rattle.mysql_wire.specs.Flags.{has}
@@ -19,7 +19,7 @@ use Rattle.mysql_packets_c.specs.declared.change_user.CChangeUser.{CChangeUser}
 abbrev pub named_plugin : ℕ → CChangeUser → Option AuthPlugin
 named_plugin capabilities c = if has capabilities CLIENT_PLUGIN_AUTH then Some (plugin_of c.auth_plugin_name.now) else None
 
--- the attributes are sent: a session with CLIENT_CONNECT_ATTRS has them, after the character set
+-- attributes are sent: in a session with CLIENT_CONNECT_ATTRS, after the character set
 abbrev pub sends_attributes : ℕ → CChangeUser → Bool
 sends_attributes capabilities c = not (c.has_character_set == 0) && has capabilities CLIENT_CONNECT_ATTRS
 
@@ -28,12 +28,12 @@ abbrev pub more_data_with : ℕ → CChangeUser → Option (List Attribute) → 
 more_data_with capabilities c attributes =
     if c.has_character_set == 0 then None else Some (change.more_data_of c.character_set (named_plugin capabilities c) attributes)
 
--- the packet of these with such attributes
+-- the packet with these fields and such attributes
 abbrev pub change_with : ℕ → CChangeUser → Option (List Attribute) → ComChangeUser
 change_with capabilities c attributes =
     change.change_of c.user.now c.auth_response.now c.database.now (more_data_with capabilities c attributes)
 
--- the packet of these and the attributes, by the flags of both sides
+-- the packet with these fields and attributes, by the flags of both sides
 abbrev pub change_of : ℕ → List CAttribute → CChangeUser → ComChangeUser
 change_of capabilities given c = change_with capabilities c (if sends_attributes capabilities c then Some (merged_pairs given) else None)
 
@@ -41,25 +41,25 @@ change_of capabilities given c = change_with capabilities c (if sends_attributes
 abbrev pub change_texts : ℕ → List CAttribute → CChangeUser → Bool
 change_texts capabilities given c = not (sends_attributes capabilities c) || are_texts given
 
--- the character set, the plugin and the attributes, where they were sent
+-- the character set, the plugin and the attributes, if they were sent
 abbrev pub more_held : CChangeUser → Option ComChangeUserMoreData
 more_held out =
     if out.has_character_set == 0 then None
     else Some (change.more_data_of out.character_set (option_map plugin_of (if_set out.has_auth_plugin_name out.auth_plugin_name.now)) (option_map pairs_in (if_set out.has_attributes out.attributes.now)))
 
--- the bytes of the plugin's name, where one was sent
+-- the bytes of the plugin's name, if one was sent
 abbrev pub name_sent : Option ComChangeUserMoreData → Option (List ℕ)
 name_sent None = None
 name_sent (Some more) = option_map plugin_name (change.auth_plugin more)
 
--- 1 beside what was sent; or 0, beside nothing
+-- 1 if it was sent, otherwise 0
 pub record SaysMore (out : CChangeUser) : Type 0 where
   pub flag : out.has_character_set < 2
   pub none : out.has_character_set ≡ 0 → (out.character_set ≡ 0) × (out.has_auth_plugin_name ≡ 0) × (out.has_attributes ≡ 0)
   pub auth_plugin_name : SaysSent out.has_auth_plugin_name out.auth_plugin_name.now
   pub attributes : SaysSent out.has_attributes out.attributes.now
 
--- except for these the struct is as it was
+-- the other fields of the struct are unchanged
 pub record KeepsOthers (old new : CChangeUser) : Type 0 where
   pub user : new.user.now ≡ old.user.now
   pub auth_response : new.auth_response.now ≡ old.auth_response.now

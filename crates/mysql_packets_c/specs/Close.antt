@@ -1,4 +1,4 @@
--- The end of a prepared statement, as C has it.
+-- The end of a prepared statement, in C.
 use Rattle.std.specs.Prelude.{◌≡◌, ℕ, List}
 use Rattle.mysql_prepared.specs.declared.close.ComStmtClose.{ComStmtClose}
 

@@ -1,4 +1,4 @@
--- What calls answer.
+-- The codes that calls return.
 use Rattle.std.specs.Prelude.{◌≡◌, ℕ, ◌==◌, List, Option, Some, None, Ok, Err, codes, if◌then◌else◌}
 use Rattle.mysql_wire.specs.declared.fault.FaultKind.{FaultKind}
 use Rattle.mysql_wire.specs.declared.fault.FaultKind.TheVariants as kind
@@ -20,8 +20,7 @@ kind_code kind.InvalidData = 2
 kind_code kind.InvalidInput = 3
 kind_code kind.Memory = 4
 
--- 0 where the bytes spell a value, of which the struct holds the fields; else the code of the first fault, and the struct is as
--- it was
+-- 0 if the bytes encode a value, whose fields are in the struct; otherwise the code of the first fault, and the struct is unchanged
 abbrev pub ReadsInto : {A S : Type 0} → (A → List ℕ → S → Type 0) → Reading A → ℕ → S → S → Type 0
 ReadsInto Holds (Ok x) code old new = (code ≡ 0) × Holds x.0 x.1 new
 ReadsInto Holds (Err k) code old new = (code ≡ kind_code k) × (new ≡ old)
@@ -41,7 +40,7 @@ code_text code =
     else if code == 9 then Some (codes "both sides agreed on compression")
     else None
 
--- 0 and the text of a code; or 3, and the place is as it was
+-- 0 and the text of a code; or 3, and the output is unchanged
 abbrev pub TextInto : Option (List ℕ) → ℕ → CBytes → CBytes → Type 0
 TextInto (Some text) answer old new = (answer ≡ 0) × (new.bytes.now ≡ text)
 TextInto None answer old new = (answer ≡ 3) × (new ≡ old)

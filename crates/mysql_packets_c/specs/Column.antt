@@ -1,4 +1,4 @@
--- The definition of a column, as C has it.
+-- The definition of a column, in C.
 use Rattle.std.specs.Prelude.{◌≡◌, ◌<◌, ℕ, List, Option}
 use Rattle.mysql_replies.specs.Column as column
 use Rattle.mysql_replies.specs.ExtendedColumn as extended
@@ -10,11 +10,11 @@ use Rattle.mysql_packets_c.specs.Given.{if_set}
 use Rattle.mysql_packets_c.specs.Input.{used_of}
 use Rattle.mysql_packets_c.specs.declared.column.CColumn.{CColumn}
 
--- the metadata of a struct, where there are any
+-- the metadata of a struct, if there are any
 abbrev pub metadata_given : CColumn → Option (List ℕ)
 metadata_given c = if_set c.has_metadata c.metadata.now
 
--- the fields of a column of which a given number of bytes were read; where no metadata was sent there is no byte of it
+-- the fields of a column, after a given number of bytes; without metadata that pointer is empty
 pub record HoldsColumn (c : ExtendedColumn) (taken : ℕ) (out : CColumn) : Type 0 where
   pub schema : out.schema.now ≡ column.schema (extended.column_of c)
   pub table : out.table.now ≡ column.table (extended.column_of c)
@@ -34,7 +34,7 @@ pub record HoldsColumn (c : ExtendedColumn) (taken : ℕ) (out : CColumn) : Type
 abbrev pub IsColumn : List ℕ → ExtendedColumn → List ℕ → CColumn → Type 0
 IsColumn packet c rest out = HoldsColumn c (used_of packet rest) out
 
--- the column of this type, and of the other fields
+-- the column with this type, and with the other fields
 abbrev pub column_given : ColumnType → CColumn → ExtendedColumn
 column_given column_type c =
     extended.extended

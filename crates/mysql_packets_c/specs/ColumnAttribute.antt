@@ -1,4 +1,4 @@
--- An attribute in the extended metadata of a column, as C has it.
+-- An attribute in a column's extended metadata, in C.
 use Rattle.std.specs.Prelude.{◌≡◌}
 use Rattle.mysql_replies.specs.ColumnAttribute.{attribute_code, attribute_text}
 use Rattle.mysql_replies.specs.declared.column_attribute.ColumnAttribute.{ColumnAttribute}

@@ -1,4 +1,4 @@
--- The count of columns that a result begins with, as C has it.
+-- The column count at the beginning of a result, in C.
 use Rattle.std.specs.Prelude.{◌≡◌, if◌then◌else◌, ℕ, List}
 use Rattle.mysql_replies.specs.ColumnCount.{columns, count, metadata_follows, says_follow, with_metadata_follows}
 use Rattle.mysql_replies.specs.declared.column_count.ColumnCount.{ColumnCount}
@@ -16,6 +16,6 @@ pub record IsCount (packet : List ℕ) (c : ColumnCount) (rest : List ℕ) (out 
 abbrev pub session_of : ℕ → ℕ → SessionCapabilities
 session_of capabilities mariadb = record { mysql = record { 0 = capabilities; 1 = record {} }; mariadb = record { 0 = mariadb; 1 = record {} } }
 
--- the count of these fields: where a byte says it, 1 says that definitions follow, and 0 that none do
+-- the count with these fields: if a byte says it, 1 means that definitions follow, and 0 that none do
 abbrev pub count_given : SessionCapabilities → CColumnCount → ColumnCount
 count_given capabilities c = if says_follow capabilities then with_metadata_follows (is_set c.metadata_follows) (columns c.count) else columns c.count

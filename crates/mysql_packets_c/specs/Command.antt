@@ -1,4 +1,4 @@
--- A command, as C has it.
+-- A command, in C.
 use Rattle.std.specs.Prelude.{◌≡◌, ◌==◌, ℕ, List, [], nat_lt, Option, Some, None, if◌then◌else◌}
 use Rattle.std.specs.Option.{unwrap_or}
 use Rattle.mysql_commands.specs.FieldList as field_list
@@ -9,7 +9,7 @@ use Rattle.mysql_commands.specs.declared.command.Command.TheVariants as variant
 use Rattle.mysql_packets_c.specs.Input.{used_of}
 use Rattle.mysql_packets_c.specs.declared.command.CCommand.{CCommand}
 
--- the code, the text, the pattern of columns, the number, and how many rows
+-- the code, the text, the pattern for columns, the number, and the number of rows
 pub record Fields : Type 0 where
   pub code : ℕ
   pub text : List ℕ
@@ -17,7 +17,7 @@ pub record Fields : Type 0 where
   pub number : ℕ
   pub rows : ℕ
 
--- a command that is its code alone, or that another call reads
+-- a command that consists of its code, or that another call reads
 abbrev pub alone : ℕ → Fields
 alone code = record { code = code; text = []; wildcard = []; number = 0; rows = 0 }
 
@@ -27,7 +27,7 @@ with_text code text = record { code = code; text = text; wildcard = []; number =
 abbrev pub with_number : ℕ → ℕ → Fields
 with_number code number = record { code = code; text = []; wildcard = []; number = number; rows = 0 }
 
--- what a command says
+-- the fields of a command
 abbrev pub fields_of : Command → Fields
 fields_of variant.Quit = alone 1
 fields_of (variant.InitDb schema) = with_text 2 schema
@@ -70,7 +70,7 @@ pub record IsCommand (packet : List ℕ) (c : Command) (rest : List ℕ) (out : 
   pub fields : Holds (fields_of c) out
   pub used : out.used ≡ used_of packet rest
 
--- ---- what is written
+-- ---- writing
 
 abbrev pub alone_given : ℕ → Option Command
 alone_given code =
@@ -93,7 +93,7 @@ text_given code text wildcard =
     else if code == 22 then Some (variant.StmtPrepare text)
     else None
 
--- a number that its bytes can tell
+-- a number that fits in its bytes
 abbrev pub below : ℕ → ℕ → Command → Option Command
 below limit number command = if nat_lt number limit then Some command else None
 
@@ -112,6 +112,6 @@ abbrev pub or_else : Option Command → Option Command → Option Command
 or_else (Some command) other = Some command
 or_else None other = other
 
--- the command of these fields; of a command that another call writes, none
+-- the command with these fields; none for a command that another call writes
 abbrev pub command_given : CCommand → Option Command
 command_given c = or_else (alone_given c.code) (or_else (text_given c.code c.text.now c.wildcard.now) (number_given c.code c.number c.rows))

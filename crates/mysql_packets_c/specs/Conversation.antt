@@ -1,4 +1,4 @@
--- Which packet comes next, as C has it.
+-- Which packet comes next, in C.
 use Rattle.std.specs.Prelude.{◌≡◌, ℕ, ◌<◌, ◌==◌, List, [], ◌∷◌, ◌++◌, ◌⊎◌, Bool, false, Option, Some, None, if◌then◌else◌}
 use Rattle.mysql_conversation.specs.Agreements.{Agreed}
 use Rattle.mysql_conversation.specs.Conversation.{Packet, IsBeginning, IsConversation}
@@ -28,7 +28,7 @@ use Rattle.mysql_packets_c.specs.declared.conversation.CPacket.{CPacket}
 
 -- ---- numbers
 
--- zeroed memory has none
+-- zeroed memory is no conversation
 abbrev pub IsOpening : ℕ → Type 0
 IsOpening n = (0 < n) × (n < 3)
 
@@ -54,11 +54,11 @@ state_of c o = record { opening = o; place = c.place; request = c.request; after
 
 -- ---- what was taken
 
--- these packets, of these kinds, are what it has taken
+-- these packets, with these kinds, are those it has taken
 abbrev pub Taken : CConversation → List Packet → Type 0
 Taken c items = (o : InitialPhase) × (opening_of c.opening ≡ Some o) × TakenAt (agreed_of c) (state_of c o) items
 
--- the numbers are of an opening, and of a state, which is the same from each
+-- the numbers are those of an initial phase and of a state, which is the same for each
 abbrev pub IsState : CConversation → Type 0
 IsState c = IsOpening c.opening × stands.IsState (state_of c Login)
 
@@ -66,11 +66,11 @@ IsState c = IsOpening c.opening × stands.IsState (state_of c Login)
 abbrev pub IsNone : CConversation → Type 0
 IsNone c = (items : List Packet) → Taken c items → ⊥
 
--- under what it goes on, and where it began
+-- what both sides agreed on, and the initial phase
 abbrev pub IsUnder : Agreed → Option InitialPhase → CConversation → Type 0
 IsUnder agreed opening c = (agreed_of c ≡ agreed) × (opening_of c.opening ≡ opening)
 
--- the conversation of these numbers
+-- the conversation with these numbers
 pub record IsOf (c : CConversation) (conversation : Conversation) : Type 0 where
   pub taken : (items : List Packet) → Taken c items → history.Taken conversation items
   pub agreed : history.agreed conversation ≡ agreed_of c
@@ -80,9 +80,9 @@ pub record IsOf (c : CConversation) (conversation : Conversation) : Type 0 where
 abbrev pub IsWhole : CConversation → List Packet → Type 0
 IsWhole c items = (o : InitialPhase) × (opening_of c.opening ≡ Some o) × IsConversation (agreed_of c) o items
 
--- ---- what comes
+-- ---- the next packet
 
--- what a kind says of its packet
+-- what a kind says about its packet
 abbrev pub columns_of : PacketKind → ℕ
 columns_of (kinds.ColumnCount count follow) = count
 columns_of (kinds.PrepareOk columns params follow) = columns
@@ -104,7 +104,7 @@ follow_of _ = false
 abbrev pub packet_of : PacketKind → CPacket
 packet_of k = record { columns = columns_of k; params = params_of k; kind = index (name_of k); command = command_of k; metadata_follows = if follow_of k then 1 else 0 }
 
--- the packet goes on with what was taken, and this is what it is
+-- the packet continues what was taken, and this is its kind
 abbrev pub Leads : CConversation → Side → List ℕ → CConversation → CPacket → Type 0
 Leads before side payload after out =
     (kind : PacketKind) × (out ≡ packet_of kind) × IsUnder (agreed_of before) (opening_of before.opening) after
@@ -113,7 +113,7 @@ Leads before side payload after out =
 abbrev pub Goes : CConversation → ℕ → List ℕ → CConversation → CPacket → Type 0
 Goes before from payload after out = (side : Side) × (side_of from ≡ Some side) × Leads before side payload after out
 
--- of no kind does it go on with what was taken
+-- with no kind does it continue what was taken
 abbrev pub IsNotNext : CConversation → Side → List ℕ → Type 0
 IsNotNext c side payload =
     (items : List Packet) (kind : PacketKind) (o : InitialPhase) → Taken c items → opening_of c.opening ≡ Some o → IsBeginning (agreed_of c) o (items ++ packet side payload kind ∷ []) → ⊥
@@ -123,7 +123,7 @@ ComesNot c from payload = (side : Side) × (side_of from ≡ Some side) × IsNot
 
 -- ---- before the conversation
 
--- a session before its conversation: the capabilities are the server's
+-- a session before its conversation; the capabilities are the server's
 abbrev pub IsLogin : CConversation → Type 0
 IsLogin c = c.opening ≡ 3
 
@@ -133,23 +133,23 @@ login_state_of c = record { place = c.place; server = agreed_of c }
 abbrev pub IsLoginState : CConversation → Type 0
 IsLoginState c = login.IsState (login_state_of c)
 
--- these packets, of these kinds and numbers, are what it has taken
+-- these packets, with these kinds and numbers, are those it has taken
 abbrev pub LoginTaken : CConversation → List Numbered → Type 0
 LoginTaken c items = IsLogin c × login.LoginTaken (login_state_of c) items
 
--- the numbers are of a session before its conversation, or of a conversation
+-- the numbers are those of a session before its conversation, or of a conversation
 abbrev pub IsBegun : CConversation → Type 0
 IsBegun c = (IsLogin c × IsLoginState c) ⊎ IsState c
 
--- the session has no conversation yet, and goes on in clear or is deciphered
+-- the session has no conversation yet, and is in clear or decrypted
 abbrev pub IsOpen : Session → Type 0
 IsOpen s = (IsEncrypted s → ⊥) × ((p : Pipeline) → Continues s p → ⊥)
 
--- the client has logged in among these packets: both sides agree on this, and nothing of the conversation has come
+-- the client has logged in among these packets: both sides agree on this, and the conversation has no packet yet
 abbrev pub LogsIn : CConversation → List Numbered → Type 0
 LogsIn c items = Taken c [] × (opening_of c.opening ≡ Some Login) × IsLoggedInAmong (agreed_of c) items
 
--- the packet goes on with what was taken, and this is what it is; by a login the conversation begins
+-- the packet continues what was taken, and this is its kind; a login begins the conversation
 abbrev pub LoginLeads : CConversation → Side → List ℕ → CConversation → CPacket → Type 0
 LoginLeads before side payload after out =
     (kind : PacketKind) × (number : ℕ) × (out ≡ packet_of kind)
@@ -159,7 +159,7 @@ LoginLeads before side payload after out =
 abbrev pub LoginGoes : CConversation → ℕ → List ℕ → CConversation → CPacket → Type 0
 LoginGoes before from payload after out = (side : Side) × (side_of from ≡ Some side) × LoginLeads before side payload after out
 
--- of no kind does it go on with what was taken
+-- with no kind does it continue what was taken
 abbrev pub IsRefused : CConversation → Side → List ℕ → Type 0
 IsRefused c side payload = (items : List Numbered) (kind : PacketKind) (number : ℕ) → LoginTaken c items → IsSessionBeginning (items ++ place side payload kind number ∷ []) → ⊥
 

@@ -1,10 +1,10 @@
--- The request for a binary log from a position, as C has it.
+-- The request for a binary log from a position, in C.
 use Rattle.std.specs.Prelude.{◌≡◌, ℕ, List}
 use Rattle.mysql_repl.specs.BinlogDump as dump
 use Rattle.mysql_repl.specs.declared.binlog_dump.ComBinlogDump.{ComBinlogDump}
 use Rattle.mysql_packets_c.specs.declared.dump.CDump.{CDump}
 
--- the request of these fields
+-- the request with these fields
 abbrev pub request_of : CDump → ComBinlogDump
 request_of c = dump.dump_of c.server_id c.position c.flags c.file_name.now
 

@@ -1,4 +1,4 @@
--- Errors and progress reports, as C has them.
+-- Errors and progress reports, in C.
 use Rattle.std.specs.Option.{unwrap_or}
 use Rattle.std.specs.Prelude.{◌≡◌, ℕ, List, [], option_map, Option}
 use Rattle.mysql_replies.specs.ProgressReport as report
@@ -14,7 +14,7 @@ use Rattle.mysql_replies.specs.declared.sql_state.SqlState.{SqlState}
 use Rattle.mysql_packets_c.specs.Input.{used_of}
 use Rattle.mysql_packets_c.specs.declared.err_packet.CError.{CError}
 
--- no SQL state is an empty one
+-- an empty text stands for no SQL state
 pub record HoldsError (e : ServerError) (taken : ℕ) (out : CError) : Type 0 where
   pub is_progress : out.is_progress ≡ 0
   pub code : out.code ≡ error.error_code e
@@ -42,10 +42,10 @@ HoldsAnswer (err.Progress r) used out = HoldsReport r used out
 abbrev pub IsAnswer : List ℕ → ErrPacket → List ℕ → CError → Type 0
 IsAnswer packet p rest out = HoldsAnswer p (used_of packet rest) out
 
--- the error with this SQL state, and with the fields' code and message
+-- the error with this SQL state, and with the code and message of the fields
 abbrev pub error_given : Option SqlState → CError → ErrPacket
 error_given state c = err.Error (error_of c.code state c.message.now)
 
--- the report of these fields
+-- the report with these fields
 abbrev pub report_given : CError → ErrPacket
 report_given c = err.Progress (report_of c.stage c.max_stage c.progress c.message.now)

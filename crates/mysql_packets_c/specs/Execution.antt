@@ -1,4 +1,4 @@
--- An execution, as C has it.
+-- An execution, in C.
 use Rattle.std.specs.List.{AllZip}
 use Rattle.std.specs.Option.{unwrap_or}
 use Rattle.std.specs.Prelude.{◌≡◌, ℕ, ◌-◌, ◌==◌, ◌++◌, Bool, false, not, if◌then◌else◌, List, drop, length, map, take, Result, Ok, Err}
@@ -38,12 +38,12 @@ pub record IsHead (packet : List ℕ) (h : ComStmtExecuteHead) (rest : List ℕ)
   pub flags : out.flags ≡ head.cursor_flags h
   pub used : out.used ≡ used_of packet rest
 
--- ---- what the server knows before
+-- ---- what the server knows
 
 abbrev pub is_set : ℕ → Bool
 is_set n = not (n == 0)
 
--- the parameter; a code that is no type is that of a type which no value has
+-- the parameter; a code that is no type stands for a type that no value has
 abbrev pub bound_of : CBoundParam → BoundParam
 bound_of p = record {
   param_type = typed (unwrap_or (column_type_of p.column_type) column_type.MYSQL_TYPE_CODE_14) (is_set p.is_unsigned);
@@ -53,13 +53,13 @@ bound_of p = record {
 abbrev pub bound_list : List CBoundParam → List BoundParam
 bound_list params = map bound_of params
 
--- what is left of an execution of these parameters, of which the last ones are left
+-- the rest of an execution of these parameters, of which the last ones remain
 abbrev pub last_left : ParamsBytes → List CBoundParam → ParamsLeft
 last_left sent params = left_of sent (bound_list (drop (length params - sent.left) params))
 
--- ---- what is answered
+-- ---- answers
 
--- what was sent ahead is answered as NULL, and bytes as they were sent, which this library reads no parameter as, as a byte string
+-- long data is returned as NULL, and raw bytes, which this library never reads for a parameter, as a byte string
 abbrev pub content_of : Param → ParamContent
 content_of (Sent content) = content
 content_of SentAhead = Plain NULL
@@ -74,12 +74,12 @@ contents_of params = map (λ p. content_of p.param) params
 abbrev pub types_of : List TypedParam → List CColumnType
 types_of params = map (λ p. type_held p.named_type.param_type) params
 
--- what follows the parameters that are left is as it was
+-- what follows the remaining parameters is unchanged
 pub record KeepsRest (old new : ParamsLeft) : Type 0 where
   pub end : new.end ≡ old.end
   pub attributes : new.attributes ≡ old.attributes
 
--- the parameters that were read stand in the first places, and the types that they have; the other places are as they were
+-- the parameters that were read are in the first elements, with their types; the other elements are unchanged
 pub record FillsParams (old new : ParamsLeft) (values_before value_places : List CValue) (types_before type_places : List CColumnType) : Type 0 where
   pub contents : contents_of old.params ≡ map param_content (take (old.left - new.left) value_places) ++ contents_of new.params
   pub types : types_of old.params ≡ take (old.left - new.left) type_places ++ types_of new.params
@@ -93,7 +93,7 @@ abbrev pub sends_types : Reading BindFront → ℕ
 sends_types (Ok f) = if f.0.sends_types then 1 else 0
 sends_types (Err k) = 0
 
--- the parameters and their types, which the first places hold
+-- the parameters and their types, in the first elements
 pub record HoldsParams (params : List TypedParam) (value_places : List CValue) (type_places : List CColumnType) : Type 0 where
   pub contents : map param_content value_places ≡ contents_of params
   pub types : type_places ≡ types_of params
@@ -105,19 +105,19 @@ pub record HoldsExecution (packet : List ℕ) (h : ComStmtExecuteHead) (types_se
   pub attributes : out.attributes ≡ length list
   pub used : out.used ≡ used_of packet rest
 
--- the parameters and their types, of which the first places hold these, and what else is answered; or the code of the first fault
+-- the parameters and their types, which are in the first elements, and the rest of the answer; or the code of the first fault
 abbrev pub ParamsInto : Reading (List TypedParam × List Attribute) → List CValue → List CColumnType → (List Attribute → List ℕ → CExecution → Type 0) → (code : ℕ) (old new : CExecution) → Type 0
 ParamsInto (Ok x) values types Holds code old new = (code ≡ 0) × HoldsParams x.0.0 values types × Holds x.0.1 x.1 new
 ParamsInto (Err k) values types Holds code old new = (code ≡ kind_code k) × (new ≡ old)
 
--- the head, and after it the parameters and the attributes
+-- the head, followed by the parameters and the attributes
 abbrev pub ExecutionInto : CapabilityFlags → List ℕ → List BoundParam → Reading ComStmtExecuteHead → List CValue → List CColumnType → (code : ℕ) (old new : CExecution) → Type 0
 ExecutionInto capabilities packet params (Ok h) values types code old new =
     ParamsInto ((execution capabilities (head.cursor_flags h.0) params).reads h.1) values types
     (HoldsExecution packet h.0 (sends_types ((execution_front capabilities (head.cursor_flags h.0) (length params)).reads h.1))) code old new
 ExecutionInto capabilities packet params (Err k) values types code old new = (code ≡ kind_code k) × (new ≡ old)
 
--- the parameters are what reading gives, a given number of attributes follow, and these bytes are left; or reading gives the fault
+-- the parameters are those that are read, a number of attributes follow, and these bytes are left; or reading has the fault
 abbrev pub TakesParams : CapabilityFlags → (flags : ℕ) → List BoundParam → Result (Bool × ℕ × List ℕ) FaultOf → List CValue → List CColumnType → (bytes : List ℕ) → Type 0
 TakesParams capabilities flags params (Ok x) values types bytes =
     (list : List TypedParam) × (attributes : List Attribute) × ((execution capabilities flags params).reads bytes ≡ Ok ((list, attributes), x.2))
@@ -125,9 +125,9 @@ TakesParams capabilities flags params (Ok x) values types bytes =
     × (sends_types ((execution_front capabilities flags (length params)).reads bytes) ≡ (if x.0 then 1 else 0))
 TakesParams capabilities flags params (Err e) values types bytes = Faults false e ((execution capabilities flags params).reads bytes)
 
--- ---- what is written
+-- ---- writing
 
--- the parameter that a value is. What is none would be sent as NULL, and is refused before
+-- the parameter of a value. An invalid one would be sent as NULL, and is refused before.
 abbrev pub param : CValue → Param
 param v = Sent (if is_value v then Plain (value_content v) else if is_offset_date v then WithOffset (date_with_offset_of v) else Plain NULL)
 

@@ -1,4 +1,4 @@
--- The attributes of an execution, as C has them.
+-- The attributes of an execution, in C.
 use Rattle.std.specs.Prelude.{ℕ, List, Ok}
 use Rattle.mysql_wire.specs.Flags.{CapabilityFlags}
 use Rattle.mysql_wire.specs.Reading.{Reading, then_read}
@@ -7,7 +7,7 @@ use Rattle.mysql_prepared.specs.ExecuteHead.{cursor_flags, execute_head}
 use Rattle.mysql_prepared.specs.ExecuteRead.{execution}
 use Rattle.mysql_prepared.specs.declared.execute_view.BoundParam.{BoundParam}
 
--- the attributes that stand after the parameters
+-- the attributes after the parameters
 abbrev pub attributes_after : CapabilityFlags → (flags : ℕ) → List BoundParam → List ℕ → Reading (List Attribute)
 attributes_after capabilities flags params bytes = then_read ((execution capabilities flags params).reads bytes) (λ x rest. Ok (x.1, rest))
 

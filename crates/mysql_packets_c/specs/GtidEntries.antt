@@ -1,4 +1,4 @@
--- The sids of a dump, as the text of a GTID set spells them one after another.
+-- The sids of a dump, from the text of a GTID set, one after another.
 use Rattle.std.specs.Prelude.{ℕ, ◌+◌, List, [], ◌∷◌, ◌++◌, length, min, Option, is_some, Ok, Err, Bool, true, false}
 use Rattle.std.specs.List.{flat_map}
 use Rattle.mysql_wire.specs.CountedBytes.{u32_string_bytes}
@@ -29,13 +29,13 @@ entries_content tagged count list = le_bytes 8 (head_for tagged count) ++ flat_m
 abbrev pub entries_block : (tagged : Bool) (count : ℕ) → List Entry → List ℕ
 entries_block tagged count list = le_bytes 4 (min (length (entries_content tagged count list)) 4294967295) ++ entries_content tagged count list
 
--- the flags have BINLOG_THROUGH_GTID exactly if there is some sid
+-- the flags with BINLOG_THROUGH_GTID exactly if there is a sid
 abbrev pub entries_dump : CGtidDump → (some tagged : Bool) (count : ℕ) → List Entry → List ℕ
 entries_dump c some tagged count list =
     30 ∷ (le_bytes 2 (switched 16 some BINLOG_THROUGH_GTID (through_gtid [] c.flags)) ++ (le_bytes 4 c.server_id
     ++ (u32_string_bytes c.file_name.now ++ (le_bytes 8 c.position ++ entries_block tagged count list))))
 
--- ---- how it is written
+-- ---- writing
 
 abbrev pub is_refused : Entry → Bool
 is_refused (Err e) = true
@@ -51,7 +51,7 @@ one_if_head (Err e) = 0
 one_if_head (Ok (entry.Sid s)) = 1
 one_if_head (Ok (entry.Interval i)) = 0
 
--- how many sids there are
+-- the number of sids
 abbrev pub heads : List Entry → ℕ
 heads [] = 0
 heads (e ∷ list) = one_if_head e + heads list

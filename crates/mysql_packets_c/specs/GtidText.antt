@@ -1,4 +1,4 @@
--- The text of a GTID set, as C has it.
+-- The text of a GTID set, in C.
 use Rattle.std.specs.Prelude.{◌≡◌, ℕ, List, Result, Ok, Err}
 use Rattle.mysql_repl.specs.BinlogDumpGtid.{gtid_dump, sids}
 use Rattle.mysql_repl.specs.GtidSetWritten.{set_text}
@@ -15,7 +15,7 @@ pub record Refuses (number answer : ℕ) (old new : List ℕ) (written : ℕ) : 
   pub buffer : new ≡ old
   pub none : written ≡ 0
 
--- the request of the sids that a text spells; 2 of another text
+-- the request with the sids of a text; 2 for an invalid text
 abbrev pub PutsSpelled : Result (List Sid) InvalidSid → (List Sid → ComBinlogDumpGtid) → (code : ℕ) (old new : List ℕ) (written : ℕ) → Type 0
 PutsSpelled (Ok list) dump_of code old new written = PutsUnlessTooLong (gtid_dump.bytes (dump_of list)) code old new written
 PutsSpelled (Err e) dump_of code old new written = Refuses 2 code old new written

@@ -1,4 +1,4 @@
--- The initial handshake, as C has it.
+-- The initial handshake, in C.
 use Rattle.std.specs.Option.{unwrap_or}
 use Rattle.std.specs.Prelude.{◌≡◌, ℕ, List, [], ◌∷◌, length, Option, Some, None, Bool, true, false, if◌then◌else◌, not, ◌&&◌, ◌||◌, ◌==◌, nat_le}
 use Rattle.mysql_auth.specs.Handshake as handshake
@@ -8,12 +8,12 @@ use Rattle.mysql_packets_c.specs.Input.{used_of}
 use Rattle.mysql_packets_c.specs.Output.{PutsUnlessTooLong}
 use Rattle.mysql_packets_c.specs.declared.handshake.CHandshake.{CHandshake}
 
--- the first byte is a version of the protocol: an error in its place begins with ff
+-- the first byte is a version of the protocol; an error in its place begins with ff
 abbrev pub is_greeting : List ℕ → Bool
 is_greeting [] = true
 is_greeting (version ∷ bytes) = version == 10 || version == 9
 
--- what is absent is empty
+-- an absent text is empty
 pub record IsHandshake (packet : List ℕ) (p : HandshakePacket) (rest : List ℕ) (out : CHandshake) : Type 0 where
   pub server_version : out.server_version.now ≡ handshake.server_version p
   pub scramble_1 : out.scramble_1.now ≡ handshake.scramble_1 p
@@ -27,22 +27,22 @@ pub record IsHandshake (packet : List ℕ) (p : HandshakePacket) (rest : List �
   pub default_collation : out.default_collation ≡ handshake.default_collation p
   pub used : out.used ≡ used_of packet rest
 
--- whether the second scramble is sent, and the plugin's name
+-- whether the second scramble is sent, and whether the plugin name is
 abbrev pub sends_scramble : CHandshake → Bool
 sends_scramble c = handshake.has_scramble c.capabilities
 
 abbrev pub sends_name : CHandshake → Bool
 sends_name c = handshake.has_name c.capabilities
 
--- the second scramble has 13 bytes, or with plugins up to 247; none where it is not sent
+-- the second scramble has 13 bytes, or with plugins up to 247; none if it is not sent
 abbrev pub scramble_fits : (sent named : Bool) → ℕ → Bool
 scramble_fits sent named len = if sent then nat_le 13 len && nat_le len (if named then 247 else 13) else len == 0
 
--- the name has no zero; none where it is not sent
+-- the name contains no zero; none if it is not sent
 abbrev pub name_fits : (sent : Bool) → List ℕ → Bool
 name_fits sent name = if sent then not (has_zero name) else length name == 0
 
--- what makes a handshake be read again as these fields
+-- when a handshake is read back with these fields
 abbrev pub handshake_fits : CHandshake → Bool
 handshake_fits c =
     not (has_zero c.server_version.now)
@@ -50,12 +50,12 @@ handshake_fits c =
     && (scramble_fits (sends_scramble c) (sends_name c) (length c.scramble_2.now)
     && name_fits (sends_name c) c.auth_plugin_name.now))
 
--- the bytes, where they are sent
+-- the bytes, if they are sent
 abbrev pub if_sent : Bool → List ℕ → Option (List ℕ)
 if_sent true bytes = Some bytes
 if_sent false bytes = None
 
--- the handshake of these fields
+-- the handshake with these fields
 pub record IsSent (c : CHandshake) (p : HandshakePacket) : Type 0 where
   pub protocol_version : handshake.protocol_version p ≡ c.protocol_version
   pub server_version : handshake.server_version p ≡ c.server_version.now
@@ -69,7 +69,7 @@ pub record IsSent (c : CHandshake) (p : HandshakePacket) : Type 0 where
   pub auth_plugin_name : handshake.auth_plugin_name p ≡ if_sent (sends_name c) c.auth_plugin_name.now
   pub mariadb_capabilities : (handshake.mariadb_ext_capabilities p).0 ≡ c.mariadb_capabilities
 
--- the handshake of these fields is put, and is read again
+-- the handshake with these fields is written, and is read back
 abbrev pub PutsHandshake : CHandshake → ℕ → (old new : List ℕ) → ℕ → Type 0
 PutsHandshake c code old new written =
     (p : HandshakePacket) × IsSent c p × handshake.HandshakePartsFit p [] × PutsUnlessTooLong (handshake.handshake.bytes p) code old new written

@@ -1,10 +1,10 @@
--- What stands before a payload.
+-- The header of a frame.
 use Rattle.std.specs.Prelude.{◌≡◌, ℕ, List, refl}
 use Rattle.mysql_wire.specs.Codecs.{Codec, Fields, ◌>>=◌, give, field, block, packet, u8, u24, raw_int}
 use Rattle.mysql_packets_c.specs.declared.header.CHeader.{CHeader}
 use Rattle.mysql_packets_c.specs.declared.header.PacketHeader.{PacketHeader}
 
--- the length of the payload, and the packet's place in the exchange
+-- the length of the payload, and the sequence number
 abbrev pub packet_header_fields : Fields (Unit {0}) PacketHeader PacketHeader
 packet_header_fields = do
   payload_length ← field (λ h. h.payload_length) u24

@@ -9,6 +9,8 @@ pub mod BulkHead
 pub mod BulkRow
 pub mod BulkSizes
 pub mod ChangeUser
+pub mod CheckedExecution
+pub mod CheckedParams
 pub mod Close
 pub mod Code
 pub mod Column
@@ -21,6 +23,7 @@ pub mod Dump
 pub mod ErrPacket
 pub mod Execution
 pub mod ExecutionAttribute
+pub mod ExecutionNames
 pub mod FieldListColumn
 pub mod Given
 pub mod GtidDump

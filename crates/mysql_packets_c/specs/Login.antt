@@ -1,4 +1,4 @@
--- The login of a client, as C has it.
+-- The login of a client, in C.
 use Rattle.std.specs.Int.{bit_at}
 use Rattle.std.specs.Prelude.{◌≡◌, ◌≢◌, ◌<◌, ℕ, Bool, ◌==◌, ◌||◌, List, option_map}
 use Rattle.mysql_auth.specs.AuthPlugin.{plugin_name, plugin_of}
@@ -17,7 +17,7 @@ use Rattle.mysql_packets_c.specs.declared.login.CLogin.{CLogin}
 abbrev pub login_texts : CLogin → List CAttribute → Bool
 login_texts c given = (c.has_attributes == 0) || are_texts given
 
--- the login of these fields and attributes: the flags of what is there are set by what is there, and the others are as they are handed in
+-- the login with these fields and attributes: the flags of optional fields are set if these are present, and the others are the caller's
 pub record IsLogin (c : CLogin) (given : List CAttribute) (p : HandshakeResponse) : Type 0 where
   pub user : response.user p ≡ c.user.now
   pub auth_response : response.scramble_buf p ≡ c.auth_response.now
@@ -33,12 +33,12 @@ pub record IsLogin (c : CLogin) (given : List CAttribute) (p : HandshakeResponse
   pub attributes_flag : has (response.capabilities p).0 CLIENT_CONNECT_ATTRS ≡ is_set c.has_attributes
   pub other_flags : (i : ℕ) → i < 32 → i ≢ 3 → i ≢ 19 → i ≢ 20 → bit_at (response.capabilities p).0 i ≡ bit_at c.capabilities i
 
--- the response with the attributes, where some are sent
+-- the response with the attributes, if there are any
 abbrev pub with_attributes : CLogin → List CAttribute → HandshakeResponse → HandshakeResponse
 with_attributes c given p = record p { connect_attributes = if_set c.has_attributes (merged_pairs given) }
 
--- What was not sent is empty. The name of the plugin has no zero that was not sent, and the bytes of the attributes are whole pairs: each
--- that was sent, also one whose name comes again.
+-- Fields that were not sent are empty. The plugin's name contains no zero that was not sent, and the bytes of the attributes are complete
+-- pairs: each that was sent, also if its name is repeated.
 pub record HoldsLogin (packet : List ℕ) (p : HandshakeResponse) (rest : List ℕ) (out : CLogin) : Type 0 where
   pub user : out.user.now ≡ response.user p
   pub auth_response : out.auth_response.now ≡ response.scramble_buf p

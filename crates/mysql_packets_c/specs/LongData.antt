@@ -1,10 +1,10 @@
--- Data that is sent ahead of an execution, as C has it.
+-- Long data for an execution, in C.
 use Rattle.std.specs.Prelude.{◌≡◌, ℕ, List}
 use Rattle.mysql_prepared.specs.LongData as long
 use Rattle.mysql_prepared.specs.declared.long_data.ComStmtSendLongData.{ComStmtSendLongData}
 use Rattle.mysql_packets_c.specs.declared.long_data.CLongData.{CLongData}
 
--- the packet of these fields
+-- the packet with these fields
 abbrev pub packet_of : CLongData → ComStmtSendLongData
 packet_of c = long.long_data_of c.statement_id c.param_index c.content.now
 

@@ -1,4 +1,4 @@
--- An OK packet, as C has it.
+-- An OK packet, in C.
 use Rattle.std.specs.Option.{unwrap_or}
 use Rattle.std.specs.Prelude.{◌≡◌, ℕ, Bool, not, ◌&&◌, nat_lt, List, length}
 use Rattle.mysql_wire.specs.FlagMasks.{CLIENT_SESSION_TRACK, SERVER_SESSION_STATE_CHANGED}
@@ -29,7 +29,7 @@ old_eof capabilities = ok.ok_packet 0xfe (old_eof_body capabilities)
 abbrev pub stream_end : CapabilityFlags → Form (OkPacketDeserializer NetworkStreamTerminator)
 stream_end capabilities = ok.ok_packet 0xfe (old_eof_body capabilities)
 
--- what is absent is 0 or empty
+-- absent fields are 0 or empty
 pub record HoldsOk (p : OkPacket) (taken : ℕ) (out : COk) : Type 0 where
   pub affected_rows : out.affected_rows ≡ ok.affected_rows p
   pub last_insert_id : out.last_insert_id ≡ unwrap_or (ok.last_insert_id p) 0
@@ -42,11 +42,11 @@ pub record HoldsOk (p : OkPacket) (taken : ℕ) (out : COk) : Type 0 where
 abbrev pub IsOk : {T : Type 0} → List ℕ → OkPacketDeserializer T → List ℕ → COk → Type 0
 IsOk packet d rest out = HoldsOk (ok.packet d) (used_of packet rest) out
 
--- A state is given, and the kind and the flags have a place for it, but the status does not say that one follows.
+-- A session state is given, and the kind and the flags have a place for it, but the status does not say that it follows.
 abbrev pub loses_state : ℕ → ℕ → COk → Bool
 loses_state kind capabilities c =
     nat_lt kind 2 && has capabilities CLIENT_SESSION_TRACK && not (has c.status_flags SERVER_SESSION_STATE_CHANGED) && nat_lt 0 (length c.session_state.now)
 
--- the packet of these fields: an insert id of 0, an empty info and an empty state are absent
+-- the packet with these fields: a last insert id of 0, an empty info and an empty session state count as absent
 abbrev pub ok_of : COk → OkPacket
 ok_of c = packet_of (body_of c.affected_rows c.last_insert_id (record { 0 = c.status_flags; 1 = record {} }) c.warnings c.info.now c.session_state.now)

@@ -1,4 +1,4 @@
--- A parameter of an execution, or an attribute of a query or an execution, as C has it.
+-- A parameter of an execution, or an attribute of a query or an execution, in C.
 use Rattle.std.specs.Prelude.{ℕ, Bool, ◌&&◌, ◌||◌, not, is_some, if◌then◌else◌, List, [], Option, Some, None}
 use Rattle.std.specs.List.{list_all}
 use Rattle.mysql_prepared.specs.ExecuteParam.{Param, SentAhead}
@@ -14,7 +14,7 @@ use Rattle.mysql_packets_c.specs.Given.{is_set}
 use Rattle.mysql_packets_c.specs.Value.{is_param}
 use Rattle.mysql_packets_c.specs.declared.parameter.CParameter.{CParameter}
 
--- its value, unless that was sent ahead
+-- its value, unless it was sent as long data
 abbrev pub param_given : CParameter → Param
 param_given p = if is_set p.is_sent_ahead then SentAhead else param p.value
 
@@ -27,11 +27,11 @@ named_type p = record {
   name = p.name.now;
 }
 
--- the caller's type is one
+-- the caller's type is valid
 abbrev pub has_valid_type : CParameter → Bool
 has_valid_type p = not (is_set p.has_type) || is_some (column_type_of p.column_type)
 
--- it was sent ahead, or its value is one of a parameter; and its type is one
+-- it was sent as long data, or its value is one of a parameter; and its type is valid
 abbrev pub is_parameter : CParameter → Bool
 is_parameter p = (is_set p.is_sent_ahead || is_param p.value) && has_valid_type p
 

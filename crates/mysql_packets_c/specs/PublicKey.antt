@@ -1,4 +1,4 @@
--- The server's public key, as C has it.
+-- The server's public key, in C.
 use Rattle.std.specs.Prelude.{◌≡◌, ℕ, List}
 use Rattle.mysql_auth.specs.PublicKeyResponse.{rsa_key}
 use Rattle.mysql_auth.specs.declared.public_key_response.PublicKeyResponse.{PublicKeyResponse}

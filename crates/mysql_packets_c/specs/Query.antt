@@ -1,4 +1,4 @@
--- A query that is written, as C asks for it.
+-- Writing a query, in C.
 use Rattle.std.specs.Prelude.{ℕ, Bool, ◌&&◌, ◌||◌, not, is_some, List, Option}
 use Rattle.std.specs.Option.{option_map}
 use Rattle.mysql_prepared.specs.SentParam.{first_unspelled}
@@ -17,6 +17,6 @@ query_of attributes text = record {
 abbrev pub are_encoded : List CParameter → Bool
 are_encoded attributes = not (is_some (first_unspelled (sent attributes)))
 
--- each attribute is one, and if it is written its type can encode its value
+-- each attribute is valid, and if it is written its type can encode its value
 abbrev pub may_write : ℕ → List CParameter → Bool
 may_write capabilities attributes = are_parameters attributes && (not (are_agreed capabilities) || are_encoded attributes)

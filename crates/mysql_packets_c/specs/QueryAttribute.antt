@@ -1,4 +1,4 @@
--- An attribute of a query or an execution, as C has it.
+-- An attribute of a query or an execution, in C.
 use Rattle.std.specs.Prelude.{◌≡◌, ℕ, zero, suc, List, [], ◌∷◌, Option, Some, None, Result, Ok, Err, false, if◌then◌else◌}
 use Rattle.mysql_commands.specs.WithRawBytes as sent
 use Rattle.mysql_commands.specs.Query.{sent_attributes}
@@ -14,7 +14,7 @@ use Rattle.mysql_packets_c.specs.Code.{kind_code}
 use Rattle.mysql_packets_c.specs.Value.{SetsParam, param_content}
 use Rattle.mysql_packets_c.specs.declared.parameter.CParameter.{CParameter}
 
--- the item at a place, the first being 0
+-- the item at an index, the first being 0
 abbrev pub at : {A : Type 0} → List A → ℕ → Option A
 at [] i = None
 at (x ∷ xs) zero = Some x
@@ -24,7 +24,7 @@ abbrev pub listed : Option (WithRawBytes (List Attribute)) → List Attribute
 listed None = []
 listed (Some attributes) = sent.value attributes
 
--- the attributes of a query; none where none are sent
+-- the attributes of a query; none if none are sent
 abbrev pub attributes_of : ComQueryRef → List Attribute
 attributes_of q = listed (sent_attributes q)
 
@@ -37,22 +37,22 @@ pub record IsQueryAttribute (a : Attribute) (old new : CParameter) : Type 0 wher
   pub is_unsigned : new.is_unsigned ≡ (if has a.named_type.param_type.flags.0 UNSIGNED then 1 else 0)
   pub is_sent_ahead : new.is_sent_ahead ≡ 0
 
--- 0 and that attribute; or 7, and the struct is as it was
+-- 0 and that attribute; or 7, and the struct is unchanged
 abbrev pub Gives : Option Attribute → ℕ → (old new : CParameter) → Type 0
 Gives (Some a) code old new = (code ≡ 0) × IsQueryAttribute a old new
 Gives None code old new = (code ≡ 7) × (new ≡ old)
 
--- the attribute at a place of those that were read; or the code of the first fault, and the struct is as it was
+-- the attribute at an index of those that were read; or the code of the first fault, and the struct is unchanged
 abbrev pub AttributeInto : {A : Type 0} → (attributes : A → List Attribute) → ℕ → Reading A → ℕ → (old new : CParameter) → Type 0
 AttributeInto attributes i (Ok x) code old new = Gives (at (attributes x.0) i) code old new
 AttributeInto attributes i (Err k) code old new = (code ≡ kind_code k) × (new ≡ old)
 
--- the first of what is left; or nothing is left
+-- the first of the rest; or nothing is left
 abbrev pub TakesFirst : AttributesLeft → Option Attribute → AttributesLeft → Type 0
 TakesFirst old (Some a) new = attributes_read old.all ≡ a ∷ attributes_read new.all
 TakesFirst old None new = attributes_read old.all ≡ []
 
--- the attributes that reading gives, all of them good; or its fault
+-- the attributes that are read, without a fault; or the fault
 abbrev pub AttributesAre : Reading (List Attribute) → Result AttributesLeft FaultOf → Type 0
 AttributesAre read (Ok view) = IsGood view × (rest : List ℕ) × (read ≡ Ok (attributes_read view.all, rest))
 AttributesAre read (Err e) = Faults false e read

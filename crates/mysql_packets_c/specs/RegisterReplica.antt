@@ -1,11 +1,11 @@
--- What a replica says of itself, as C has it.
+-- A replica's registration, in C.
 use Rattle.std.specs.Prelude.{◌≡◌, ℕ, List}
 use Rattle.mysql_repl.specs.RegisterSlave as slave
 use Rattle.mysql_repl.specs.declared.register_slave.ComRegisterSlave.{ComRegisterSlave}
 use Rattle.mysql_packets_c.specs.Input.{used_of}
 use Rattle.mysql_packets_c.specs.declared.register_replica.CReplica.{CReplica}
 
--- the registration that has the fields of the struct; `used` is not looked at
+-- the registration with the struct's fields; `used` is ignored
 abbrev pub registration_of : CReplica → ComRegisterSlave
 registration_of r =
     let names : ComRegisterSlave = slave.with_password r.password.now (slave.with_user r.user.now (slave.with_hostname r.hostname.now (slave.registration r.server_id))) in

@@ -1,4 +1,4 @@
--- Rows, as C has them.
+-- Rows in C.
 use Rattle.std.specs.List.{AllZip, list_all}
 use Rattle.std.specs.Prelude.{◌≡◌, ◌≤◌, ◌-◌, ◌++◌, ℕ, List, [], length, take, drop, map, Option, Some, Result, Ok, Err, false, None, Bool, if◌then◌else◌, ◌==◌, ◌&&◌, nat_lt}
 use Rattle.mysql_prepared.specs.BinaryRow.{IsRowBytes, row_len, takes_row}
@@ -18,7 +18,7 @@ use Rattle.mysql_packets_c.specs.declared.value.CValue.{CValue}
 abbrev pub values_held : List CValue → List (Option Content)
 values_held values = map Some (map value_content values)
 
--- the values that were read stand in the first places, and the other places are as they were
+-- the values that were read are in the first elements, and the other elements are unchanged
 pub record Fills (old new : RowLeft) (before after : List CValue) : Type 0 where
   pub fewer : new.left ≤ old.left
   pub values : old.values ≡ map value_content (take (old.left - new.left) after) ++ new.values
@@ -27,14 +27,14 @@ pub record Fills (old new : RowLeft) (before after : List CValue) : Type 0 where
   pub others : drop (old.left - new.left) after ≡ drop (old.left - new.left) before
   pub len : length after ≡ length before
 
--- All places of the columns are set where the row is read, and after a fault some of the first ones. The others are as they were.
+-- All elements for the columns are set if the row is read, and after a fault some of the first ones. The others are unchanged.
 pub record FillsPlaces (columns : ℕ) (is_read : Type 0) (before after : List CValue) : Type 0 where
   pub count : ℕ
   pub few : count ≤ columns
   pub all : is_read → count ≡ columns
   pub places : SetsFirst count before after
 
--- As many places of two arrays are set, and the others of both are as they were.
+-- The same number of elements of two arrays are set, and the others of both are unchanged.
 pub record FillsBoth {X : Type 0} (columns : ℕ) (is_read : Type 0) (before after : List CValue) (others_before others_after : List X) : Type 0 where
   pub count : ℕ
   pub few : count ≤ columns
@@ -42,7 +42,7 @@ pub record FillsBoth {X : Type 0} (columns : ℕ) (is_read : Type 0) (before aft
   pub places : SetsFirst count before after
   pub other_places : drop count others_after ≡ drop count others_before
 
--- the values of a row before its first fault: all of them if there is none
+-- the values of a row before its first fault: all of them without one
 abbrev pub good_text : ℕ → List ℕ → List Content
 good_text columns packet = (text_row_left columns packet).values
 
@@ -53,17 +53,17 @@ good_after columns (Err k) = []
 abbrev pub good_binary : List CColumnType → List ℕ → List Content
 good_binary columns packet = good_after columns ((row_front type_of unsigned_of 2 columns).reads packet)
 
--- these values stand in the first places, and the other places are as they were
+-- these values are in the first elements, and the other elements are unchanged
 pub record FillsGood (good : List Content) (before after : List CValue) : Type 0 where
   pub held : map value_content (take (length good) after) ≡ good
   pub places : SetsFirst (length good) before after
 
--- the values are what reading gives, and a given number of bytes are used; or reading gives the fault
+-- the values are those that are read, and a number of bytes are consumed; or reading has the fault
 abbrev pub TakesRow : List ℕ → Result ℕ FaultOf → List CValue → Reading (List (Option Content)) → Type 0
 TakesRow packet (Ok used) values read = (rest : List ℕ) × (read ≡ Ok (values_held values, rest)) × (used ≡ used_of packet rest)
 TakesRow packet (Err e) values read = Faults false e read
 
--- 0 where the bytes spell a row, whose values these are; else the code of the first fault
+-- 0 if the bytes encode a row with these values; otherwise the code of the first fault
 abbrev pub RowInto : List ℕ → List CValue → Reading (List (Option Content)) → ℕ → ℕ → ℕ → Type 0
 RowInto packet values (Ok x) code old new = (code ≡ 0) × (values_held values ≡ x.0) × (new ≡ used_of packet x.1)
 RowInto packet values (Err k) code old new = (code ≡ kind_code k) × (new ≡ old)
@@ -72,18 +72,18 @@ RowInto packet values (Err k) code old new = (code ≡ kind_code k) × (new ≡ 
 abbrev pub is_cell : CValue → Bool
 is_cell v = nat_lt v.kind 2
 
--- the bytes, none of NULL
+-- the bytes; none for NULL
 abbrev pub cell_of : CValue → Option (List ℕ)
 cell_of v = if v.kind == 0 then None else Some v.bytes.now
 
 abbrev pub cells_of : List CValue → List (Option (List ℕ))
 cells_of values = map cell_of values
 
--- each is a value, and there is one for each column, which takes it
+-- each is valid, and there is one for each column, which can contain it
 abbrev pub row_fits : List CColumnType → List CValue → Bool
 row_fits columns values = list_all is_value values && takes_row type_of unsigned_of columns (values_contents values)
 
--- the bytes of the row are put
+-- the bytes of the row are written
 abbrev pub PutsRow : List CColumnType → List CValue → ℕ → (old new : List ℕ) → ℕ → Type 0
 PutsRow columns values code old new written =
     PutsSuchUnlessTooLong (IsRowBytes type_of unsigned_of columns (values_contents values)) (row_len type_of unsigned_of columns (values_contents values)) code old new written

@@ -1,4 +1,4 @@
--- A change of the session and a system variable, as C has them.
+-- A session change and a system variable, in C.
 use Rattle.std.specs.Prelude.{◌≡◌, ℕ, List, [], if◌then◌else◌, Ok, Err}
 use Rattle.mysql_wire.specs.Reading.{Reading}
 use Rattle.mysql_wire.specs.SessionStateType.{session_state_type_code}
@@ -16,13 +16,13 @@ use Rattle.mysql_packets_c.specs.Code.{kind_code}
 use Rattle.mysql_packets_c.specs.declared.session_change.CChange.{CChange}
 use Rattle.mysql_packets_c.specs.declared.text.CBytes.{CBytes}
 
--- 0 where the bytes begin with a value, of which the place holds the fields, and what follows it is left; else the code of the
--- first fault, and both are as they were
+-- 0 if the bytes begin with a value, whose fields are in the output, and the rest is left; otherwise the code of the first fault, and both
+-- are unchanged
 abbrev pub NextInto : {A S : Type 0} → (A → S → Type 0) → Reading A → ℕ → CBytes → CBytes → S → S → Type 0
 NextInto Holds (Ok x) code rest_old rest old new = (code ≡ 0) × (rest.bytes.now ≡ x.1) × Holds x.0 new
 NextInto Holds (Err k) code rest_old rest old new = (code ≡ kind_code k) × (rest ≡ rest_old) × (new ≡ old)
 
--- an entry, and the change that its data is
+-- an entry, and the change in its data
 abbrev pub Entry : Type 0
 Entry = SessionStateInfo × SessionStateChange
 
@@ -35,11 +35,11 @@ abbrev pub entry_of : Reading SessionStateInfo → Reading Entry
 entry_of (Ok x) = with_change x.0 x.1 (decoded_as_sent x.0)
 entry_of (Err k) = Err k
 
--- the entry that the bytes begin with, and its change in the layouts that servers send; the first fault of both
+-- the entry at the beginning of the bytes, and its change in the layouts that servers send; the first fault of both
 abbrev pub entry_in : List ℕ → Reading Entry
 entry_in bytes = entry_of ((session_state_info.form tt).reads bytes)
 
--- what a change says in a text: nothing where it has none
+-- the text of a change: empty if it has none
 abbrev pub change_text : SessionStateChange → List ℕ
 change_text (change.IsTracked b) = []
 change_text (change.Schema s) = text_bytes s
@@ -59,7 +59,7 @@ tracked (change.TransactionCharacteristics c) = 0
 tracked (change.TransactionState s) = 0
 tracked (change.Unsupported u) = 0
 
--- the data where it is a list of variables
+-- the data if it is a list of variables
 abbrev pub variables_of : SessionStateType → List ℕ → List ℕ
 variables_of type.SESSION_TRACK_SYSTEM_VARIABLES bytes = bytes
 variables_of type.SESSION_TRACK_SCHEMA bytes = []

@@ -6,14 +6,14 @@ use Rattle.mysql_repl.specs.declared.sid.Sid.{Sid}
 use Rattle.mysql_repl.specs.declared.sid_text.InvalidSid.{InvalidSid}
 use Rattle.mysql_packets_c.specs.declared.sid_text.SidText.{SidText}
 
--- the uuid, the tag, the intervals and how many they are
+-- the uuid, the tag, the intervals and their number
 pub record Tells (found : SidText) (s : Sid) : Type 0 where
   pub uuid : found.parts.uuid ≡ lib.uuid s
   pub tag : found.parts.tag ≡ lib.tag s
   pub intervals : all_read found.parts.intervals ≡ Ok (lib.intervals s)
   pub count : found.count ≡ length (lib.intervals s)
 
--- the parts of the sid that is read; none of another text
+-- the parts of the sid that is read; none for an invalid text
 abbrev pub Found : Option SidText → Result Sid InvalidSid → Type 0
 Found (Some found) (Ok s) = Tells found s
 Found None (Err e) = Unit {0}

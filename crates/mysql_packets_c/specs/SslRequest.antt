@@ -1,4 +1,4 @@
--- The request for TLS, as C has it.
+-- The request for TLS, in C.
 use Rattle.std.specs.Prelude.{◌≡◌, ℕ, List}
 use Rattle.mysql_auth.specs.SslRequest as ssl
 use Rattle.mysql_auth.specs.declared.ssl_request.SslRequest.{SslRequest}

@@ -1,4 +1,4 @@
--- The answer to a preparation, as C has it.
+-- The answer to a preparation, in C.
 use Rattle.std.specs.Prelude.{◌≡◌, ℕ, List, Bool, ◌||◌, Option, Some, None, if◌then◌else◌}
 use Rattle.std.specs.Option.{unwrap_or}
 use Rattle.mysql_prepared.specs.Stmt as stmt
@@ -9,7 +9,7 @@ use Rattle.mysql_packets_c.specs.Given.{is_set}
 use Rattle.mysql_packets_c.specs.Input.{used_of}
 use Rattle.mysql_packets_c.specs.declared.statement.CStatement.{CStatement}
 
--- definitions follow where no byte says whether they do
+-- definitions follow unless a byte says otherwise
 pub record IsStatement (packet : List ℕ) (p : StmtPacketWithMetadata) (rest : List ℕ) (out : CStatement) : Type 0 where
   pub statement_id : out.statement_id ≡ stmt.statement_id (with_metadata.packet_of p)
   pub num_columns : out.num_columns ≡ stmt.num_columns (with_metadata.packet_of p)
@@ -26,7 +26,7 @@ byte_of capabilities follows = if with_metadata.sends_metadata capabilities then
 abbrev pub is_sayable : CapabilityFlags → CStatement → Bool
 is_sayable capabilities c = with_metadata.sends_metadata capabilities || is_set c.metadata_follows
 
--- the packet of these fields
+-- the packet with these fields
 pub record IsGivenStatement (capabilities : CapabilityFlags) (c : CStatement) (p : StmtPacketWithMetadata) : Type 0 where
   pub packet : with_metadata.packet_of p ≡ stmt.stmt_packet_of c.statement_id c.num_columns c.num_params c.warning_count
   pub metadata : with_metadata.metadata_of p ≡ byte_of capabilities c.metadata_follows

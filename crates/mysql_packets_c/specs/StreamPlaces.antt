@@ -1,4 +1,4 @@
--- A packet of a stream, where it lies.
+-- A borrowed packet of a stream.
 use Rattle.mysql_repl.specs.BinlogStreamEvent.{event_of}
 use Rattle.mysql_repl.specs.declared.binlog_stream_packet.BinlogStreamPacket.{BinlogStreamPacket}
 use Rattle.mysql_repl.specs.declared.binlog_stream_packet.BinlogStreamPacket.TheVariants.{Event, End, Error}

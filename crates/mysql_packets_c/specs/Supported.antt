@@ -1,4 +1,4 @@
--- The flags under which some call reads and some writes each packet of a session: all that there are but compression.
+-- The flags under which each packet of a session can be read and written: all except for compression.
 use Rattle.std.specs.Prelude.{ℕ}
 use Rattle.bitflags.specs.Sets.{without}
 use Rattle.mysql_wire.specs.FlagMasks.{CLIENT_COMPRESS, CLIENT_ZSTD_COMPRESSION_ALGORITHM, MARIADB_CLIENT_COM_MULTI}

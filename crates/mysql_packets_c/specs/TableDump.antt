@@ -1,11 +1,11 @@
--- The request for the rows of a table, as C has it.
+-- The request for the rows of a table, in C.
 use Rattle.std.specs.Prelude.{◌≡◌, ℕ, List}
 use Rattle.mysql_repl.specs.TableDump as dump
 use Rattle.mysql_repl.specs.declared.table_dump.ComTableDump.{ComTableDump}
 use Rattle.mysql_packets_c.specs.Input.{used_of}
 use Rattle.mysql_packets_c.specs.declared.table_dump.CTableDump.{CTableDump}
 
--- the request of these fields
+-- the request with these fields
 abbrev pub request_of : CTableDump → ComTableDump
 request_of c = dump.dump_of c.database.now c.table.now
 

@@ -6,7 +6,7 @@ use Rattle.mysql_repl.specs.declared.gtid_set_entries.GtidSetEntry.{GtidSetEntry
 use Rattle.mysql_packets_c.specs.GtidEntries.{has_tag, heads, is_refused, one_if_head}
 use Rattle.mysql_packets_c.specs.declared.text_dump.Layout.{Layout}
 
--- the text is not refused: whether there is a sid, whether one has a tag, and how many there are
+-- the text is valid: whether there is a sid, whether one has a tag, and how many there are
 pub record IsLayout (l : Layout) (list : List Entry) : Type 0 where
   pub read : list_any is_refused list ≡ false
   pub some : l.some ≡ nat_lt 0 (heads list)

@@ -1,4 +1,4 @@
--- Values as C has them.
+-- Values in C.
 use Rattle.std.specs.Prelude.{◌≡◌, ◌<◌, ◌^◌, ℕ, Bool, ◌==◌, ◌-◌, ◌&&◌, ◌||◌, not, nat_le, nat_lt, List, [], map, take, drop, if◌then◌else◌}
 use Rattle.std.specs.List.{AllZip}
 use Rattle.std.specs.Int.{w64, cast_signed}
@@ -7,7 +7,7 @@ use Rattle.mysql_values.specs.ParamValue.{ParamContent, Plain, WithOffset}
 use Rattle.mysql_values.specs.declared.date_time_with_offset.DateTimeWithOffset.{DateTimeWithOffset}
 use Rattle.mysql_packets_c.specs.declared.value.CValue.{CValue}
 
--- what the value holds; a kind that is none holds nothing
+-- what the value contains; an invalid kind contains nothing
 unfoldable pub value_content : CValue → Content
 value_content v =
     if v.kind == 1 then Bytes v.bytes.now
@@ -19,7 +19,7 @@ value_content v =
     else if v.kind == 7 then Time (time_of (not (v.is_negative == 0)) v.days v.hour v.minute v.second v.micros)
     else NULL
 
--- the date of a value, with its offset from UTC, which is the number
+-- the date of a value, with its UTC offset in the number
 abbrev pub date_with_offset_of : CValue → DateTimeWithOffset
 date_with_offset_of v = record {
   year = v.days;
@@ -32,11 +32,11 @@ date_with_offset_of v = record {
   offset_minutes = cast_signed w64 v.number;
 }
 
--- what the value holds as a parameter, which may be a date with an offset
+-- what the value contains as a parameter, which may be a date with an offset
 unfoldable pub param_content : CValue → ParamContent
 param_content v = if v.kind == 8 then WithOffset (date_with_offset_of v) else Plain (value_content v)
 
--- its kind is one, and its number fits the kind: 4 bytes of a float, 2 of a year
+-- its kind is valid, and its number fits: 4 bytes for a float, 2 for a year
 abbrev pub is_value : CValue → Bool
 is_value v =
     if v.kind == 4 then nat_lt v.number (2 ^ 32)
@@ -47,7 +47,7 @@ is_value v =
 abbrev pub is_offset : ℕ → Bool
 is_offset number = nat_lt number (2 ^ 15) || nat_le (2 ^ 64 - 2 ^ 15) number
 
--- it is a date with an offset, whose year and offset fit 16 bits
+-- it is a date with an offset, whose year and offset fit in 16 bits
 abbrev pub is_offset_date : CValue → Bool
 is_offset_date v = v.kind == 8 && (nat_lt v.days (2 ^ 16) && is_offset v.number)
 
@@ -58,7 +58,7 @@ is_param v = is_value v || is_offset_date v
 abbrev pub values_contents : List CValue → List Content
 values_contents values = map value_content values
 
--- ---- what a place of the caller's holds once a value is put into it
+-- ---- the caller's struct after a value is stored in it
 
 abbrev pub kind_of : Content → ℕ
 kind_of NULL = 0
@@ -74,7 +74,7 @@ abbrev pub bytes_of : Content → List ℕ
 bytes_of (Bytes bytes) = bytes
 bytes_of content = []
 
--- the fields of dates and of spans of time are as they were
+-- the fields of dates and times are unchanged
 pub record KeepsDate (old new : CValue) : Type 0 where
   pub is_negative : new.is_negative ≡ old.is_negative
   pub month : new.month ≡ old.month
@@ -85,7 +85,7 @@ pub record KeepsDate (old new : CValue) : Type 0 where
   pub micros : new.micros ≡ old.micros
   pub days : new.days ≡ old.days
 
--- the fields that the value does not need: those of its kind that are 0, and the others as they were
+-- the fields that the value doesn't need: those of its kind that are 0, and the others unchanged
 abbrev pub KeepsOthers : Content → (old new : CValue) → Type 0
 KeepsOthers NULL old new = (new.number ≡ 0) × KeepsDate old new
 KeepsOthers (Bytes bytes) old new = (new.number ≡ old.number) × KeepsDate old new
@@ -96,7 +96,7 @@ KeepsOthers (Double bits) old new = KeepsDate old new
 KeepsOthers (Date fields) old new = (new.number ≡ 0) × (new.is_negative ≡ 0)
 KeepsOthers (Time fields) old new = (new.number ≡ 0) × (new.month ≡ 0) × (new.day ≡ 0) × (new.is_negative < 2)
 
--- its fields are those of a value of this content, as the header's table has them
+-- its fields are those of a value with this content, as in the header's table
 pub record Sets (content : Content) (old new : CValue) : Type 0 where
   pub kind : new.kind ≡ kind_of content
   pub bytes : new.bytes.now ≡ bytes_of content
@@ -110,7 +110,7 @@ pub record SetsDate (old new : CValue) : Type 0 where
   pub is_negative : new.is_negative ≡ 0
   pub reserved : new.reserved ≡ old.reserved
 
--- its fields are those of a parameter of this content
+-- its fields are those of a parameter with this content
 abbrev pub SetsParam : ParamContent → (old new : CValue) → Type 0
 SetsParam (Plain content) old new = Sets content old new
 SetsParam (WithOffset date) old new = SetsDate old new
@@ -118,7 +118,7 @@ SetsParam (WithOffset date) old new = SetsDate old new
 abbrev pub IsSet : (old new : CValue) → Type 0
 IsSet old new = SetsParam (param_content new) old new
 
--- the first places are set, and the others are as they were
+-- the first elements are set, and the others are unchanged
 pub record SetsFirst (count : ℕ) (before after : List CValue) : Type 0 where
   pub set : AllZip IsSet (take count before) (take count after)
   pub others : drop count after ≡ drop count before

@@ -1,4 +1,4 @@
--- An execution that is written, as C asks for it.
+-- Writing an execution, in C.
 use Rattle.std.specs.Prelude.{◌≡◌, ℕ, ◌==◌, ◌&&◌, Bool, false, if◌then◌else◌, List, Option, is_some, not}
 use Rattle.std.specs.Option.{option_map}
 use Rattle.mysql_prepared.specs.ExecuteWithOptions.{IsAsLong, asked, counted}
@@ -10,17 +10,17 @@ use Rattle.mysql_packets_c.specs.Parameter.{are_agreed, are_parameters, if_agree
 use Rattle.mysql_packets_c.specs.declared.parameter.CParameter.{CParameter}
 use Rattle.mysql_packets_c.specs.declared.written_execution.CExecutionOptions.{CExecutionOptions}
 
--- ---- what is asked for
+-- ---- arguments
 
 -- a count of parameters follows under CLIENT_QUERY_ATTRIBUTES
 abbrev pub flags_sent : ℕ → ℕ → ℕ
 flags_sent capabilities flags = if are_agreed capabilities then counted flags else flags
 
--- one iteration where no count is given
+-- one iteration if no count is given
 abbrev pub iterations_sent : ℕ → ℕ
 iterations_sent count = if count == 0 then 1 else count
 
--- a builder with attributes of C's, wherever they are
+-- a builder with C's attributes, wherever they are
 abbrev pub builder : (statement_id flags iteration_count : ℕ) → (sends_types : Bool) → Option (List CParameter) → ComStmtExecuteOptionsBuilder CParameter
 builder statement_id flags iteration_count sends_types attributes = record {
   stmt_id = statement_id;
@@ -36,7 +36,7 @@ execution_of statement_id params attributes options capabilities =
     (builder statement_id (flags_sent capabilities options.flags) (iterations_sent options.iteration_count) (options.omits_types == 0) (if_agreed capabilities attributes))
     (sent params)
 
--- ---- what may be written
+-- ---- what can be written
 
 -- the types of all parameters and attributes can encode their values
 abbrev pub is_spelled : (asked : Bool → Execution) → Bool
@@ -45,9 +45,9 @@ is_spelled asked = not (is_some (first_unspelled (asked false).params)) && not (
 abbrev pub may_write : (asked : Bool → Execution) → List CParameter → List CParameter → Bool
 may_write asked params attributes = are_parameters params && (are_parameters attributes && is_spelled asked)
 
--- ---- what is answered
+-- ---- answers
 
--- the execution is written; byte strings are left out where the request with them is past one packet
+-- the execution is written; byte strings are left out if the request with them exceeds one packet
 pub record PutsExecution (asked : Bool → Execution) (code : ℕ) (old new : List ℕ) (written as_long_data : ℕ) : Type 0 where
   pub is_long : Bool
   pub where_long : IsAsLong asked is_long

@@ -175,18 +175,17 @@ fn append_any<O: Buffer>(column: &CColumnType, value: &CValue<'_>, out: &mut O)
     value.append_cell(column.value_type(), out);
 }
 
-/// Writes an integer of eight bytes, for which there is capacity.
-// (with the buffer in a variable of its own, so that its bytes are one store)
+/// Writes a value of any kind by a call, with the buffer in a variable of its own: so the caller's stays in registers.
 #[inline(always)]
-fn append_eight<O: Buffer>(n: i64, out: &mut O)
-    requires { length (O.held out.old) + length (bin_in ColumnType.MYSQL_TYPE_LONGLONG (Int n)) ≤ O.capacity out.old }
-    ensures items { O.held out.new ≡ O.held out.old ++ bin_in ColumnType.MYSQL_TYPE_LONGLONG (Int n) }
-    ensures after { O.after out.new ≡ drop (length (bin_in ColumnType.MYSQL_TYPE_LONGLONG (Int n))) (O.after out.old) }
+fn append_apart<O: Buffer>(column: &CColumnType, value: &CValue<'_>, out: &mut O)
+    requires { length (O.held out.old) + length (bin_in (type_of column.now) (value_of (param value.now))) ≤ O.capacity out.old }
+    ensures items { O.held out.new ≡ O.held out.old ++ bin_in (type_of column.now) (value_of (param value.now)) }
+    ensures after { O.after out.new ≡ drop (length (bin_in (type_of column.now) (value_of (param value.now)))) (O.after out.old) }
     ensures capacity { O.capacity out.old ≤ O.capacity out.new }
     ensures kept { O.kept out.new ≡ O.kept out.old }
 {
     let mut taken = out.taken();
-    ValueRef::Int(n).append_cell(ColumnType::MYSQL_TYPE_LONGLONG, &mut taken);
+    append_any(column, value, &mut taken);
     *out = taken;
 }
 
@@ -202,8 +201,11 @@ fn append_integer<O: Buffer>(column: &CColumnType, value: &CValue<'_>, out: &mut
     ensures kept { O.kept out.new ≡ O.kept out.old }
 {
     match column.value_type() {
-        ColumnType::MYSQL_TYPE_LONGLONG => append_eight(value.number.cast_signed(), out),
-        _ => append_any(column, value, out),
+        ColumnType::MYSQL_TYPE_LONGLONG => ValueRef::Int(value.number.cast_signed()).append_cell(
+            ColumnType::MYSQL_TYPE_LONGLONG,
+            out,
+        ),
+        _ => append_apart(column, value, out),
     }
 }
 
@@ -220,7 +222,7 @@ fn append_cell<O: Buffer>(column: &CColumnType, value: &CValue<'_>, out: &mut O)
     match value.kind {
         1 => ValueRef::Bytes(value.bytes).append(out),
         2 => append_integer(column, value, out),
-        _ => append_any(column, value, out),
+        _ => append_apart(column, value, out),
     }
 }
 

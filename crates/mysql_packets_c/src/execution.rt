@@ -95,6 +95,7 @@ pub(crate) fn bound_of(param: &CBoundParam) -> BoundParam
 }
 
 /// Stores a parameter in the caller's value. One that was sent ahead is NULL.
+#[inline(always)]
 pub(crate) fn put_param<'a>(place: &mut CValue<'a>, param: ExecuteParam<'a>)
     ensures content { param_content place.new ≡ spec.content_of (param_of param.entry) }
     ensures set { SetsParam (spec.content_of (param_of param.entry)) place.old place.new }

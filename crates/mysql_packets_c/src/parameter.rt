@@ -2,8 +2,9 @@
 #![tactic(auto, using(mysql_prepared::proofs::SentBytes::plain))]
 
 ghost use Rattle.std.specs.List.{list_all};
-ghost use Rattle.std.specs.Prelude.{◌≡◌};
+ghost use Rattle.std.specs.Prelude.{◌≡◌, ◌≤◌, ◌+◌, ◌++◌, drop, length};
 ghost use Rattle.mysql_prepared.specs.ExecuteParam.{param_of};
+ghost use Rattle.mysql_prepared.specs.SentParam.{bytes_under};
 ghost use Rattle.mysql_packets_c.specs.Parameter as spec;
 
 use crate::bulk::declared_type;
@@ -38,6 +39,33 @@ fn typed<'r>(parameter: &'r CParameter<'_>) -> TypedExecuteParam<'r>
         name: parameter.name,
         param: parameter.as_execute_param(),
     }
+}
+
+/// Writes a parameter under its type, for which there is capacity.
+// (by a call, so that what writes plain ones stays small enough to be in line)
+#[inline(never)]
+fn append_typed<O: Buffer>(parameter: &CParameter<'_>, as_long_data: bool, out: &mut O)
+    requires { length (O.held out.old) + length (bytes_under as_long_data (spec.named_type parameter.now).param_type (spec.param_given parameter.now)) ≤ O.capacity out.old }
+    ensures items { O.held out.new ≡ O.held out.old ++ bytes_under as_long_data (spec.named_type parameter.now).param_type (spec.param_given parameter.now) }
+    ensures after { O.after out.new ≡ drop (length (bytes_under as_long_data (spec.named_type parameter.now).param_type (spec.param_given parameter.now))) (O.after out.old) }
+    ensures capacity { O.capacity out.old ≤ O.capacity out.new }
+    ensures kept { O.kept out.new ≡ O.kept out.old }
+{
+    typed(parameter).append_sent(as_long_data, out);
+}
+
+/// Writes a parameter under its type by a call, with the buffer in a variable of its own: so the caller's stays in registers.
+#[inline(always)]
+fn append_apart<O: Buffer>(parameter: &CParameter<'_>, as_long_data: bool, out: &mut O)
+    requires { length (O.held out.old) + length (bytes_under as_long_data (spec.named_type parameter.now).param_type (spec.param_given parameter.now)) ≤ O.capacity out.old }
+    ensures items { O.held out.new ≡ O.held out.old ++ bytes_under as_long_data (spec.named_type parameter.now).param_type (spec.param_given parameter.now) }
+    ensures after { O.after out.new ≡ drop (length (bytes_under as_long_data (spec.named_type parameter.now).param_type (spec.param_given parameter.now))) (O.after out.old) }
+    ensures capacity { O.capacity out.old ≤ O.capacity out.new }
+    ensures kept { O.kept out.new ≡ O.kept out.old }
+{
+    let mut taken = out.taken();
+    append_typed(parameter, as_long_data, &mut taken);
+    *out = taken;
 }
 
 impl AsExecuteParam for CParameter<'_> {
@@ -99,7 +127,7 @@ impl AsExecuteParam for CParameter<'_> {
             self.value.append_sent(as_long_data, out);
             return;
         }
-        typed(self).append_sent(as_long_data, out);
+        append_apart(self, as_long_data, out);
     }
 }
 
@@ -111,7 +139,7 @@ fn has_valid_type(parameter: &CParameter<'_>) -> bool
 }
 
 /// Whether it was sent ahead, or its value is one of a parameter; and its type is one.
-fn is_parameter(parameter: &CParameter<'_>) -> bool
+pub(crate) fn is_parameter(parameter: &CParameter<'_>) -> bool
     ensures { result ≡ spec.is_parameter parameter.now }
 {
     (parameter.is_sent_ahead != 0 || is_param(&parameter.value)) && has_valid_type(parameter)

@@ -5,9 +5,7 @@
 
 ghost use Rattle.std.specs.Prelude.{◌≡◌, ◌≤◌, ◌⊎◌, ◌+◌, ◌++◌, drop, length};
 ghost use Rattle.mysql_prepared.specs.BinaryRow.{bin_in};
-ghost use Rattle.mysql_prepared.specs.ExecuteParam.{Sent, param_bytes, value_of};
-ghost use Rattle.mysql_values.specs.ParamValue.{Plain};
-ghost use Rattle.mysql_values.specs.Value.{Bytes};
+ghost use Rattle.mysql_prepared.specs.ExecuteParam.{param_bytes, value_of};
 ghost use Rattle.mysql_values.specs.ValueRef.{ref_content};
 ghost use Rattle.mysql_packets_c.specs.Execution as spec;
 ghost use Rattle.mysql_packets_c.specs.Value.{value_content};
@@ -31,21 +29,6 @@ fn number<'a>(value: &CValue<'a>) -> ValueRef<'a>
     }
 }
 
-/// Writes a number with the buffer in a variable of its own, so that its bytes are one store.
-#[inline(always)]
-#[tactic(auto, using(mysql_prepared::proofs::SentBytes::plain))]
-fn append_number<O: Buffer>(number: ValueRef<'_>, as_long_data: bool, out: &mut O)
-    requires { length (O.held out.old) + length (param_bytes as_long_data (Sent (Plain (ref_content number)))) ≤ O.capacity out.old }
-    ensures items { O.held out.new ≡ O.held out.old ++ param_bytes as_long_data (Sent (Plain (ref_content number.entry))) }
-    ensures after { O.after out.new ≡ drop (length (param_bytes as_long_data (Sent (Plain (ref_content number.entry))))) (O.after out.old) }
-    ensures capacity { O.capacity out.old ≤ O.capacity out.new }
-    ensures kept { O.kept out.new ≡ O.kept out.old }
-{
-    let mut taken = out.taken();
-    number.append_sent(as_long_data, &mut taken);
-    *out = taken;
-}
-
 /// The value in a column of a binary row.
 #[inline(always)]
 fn append_number_cell<O: Buffer>(number: ValueRef<'_>, column_type: ColumnType, out: &mut O)
@@ -60,22 +43,8 @@ fn append_number_cell<O: Buffer>(number: ValueRef<'_>, column_type: ColumnType, 
     *out = taken;
 }
 
-/// Writes a string, for which there is capacity.
-// (by a call too)
-#[inline(never)]
-#[tactic(auto, using(mysql_prepared::proofs::SentBytes::plain))]
-fn append_string<O: Buffer>(string: &[u8], as_long_data: bool, out: &mut O)
-    requires { length (O.held out.old) + length (param_bytes as_long_data (Sent (Plain (Bytes string.now)))) ≤ O.capacity out.old }
-    ensures items { O.held out.new ≡ O.held out.old ++ param_bytes as_long_data (Sent (Plain (Bytes string.now))) }
-    ensures after { O.after out.new ≡ drop (length (param_bytes as_long_data (Sent (Plain (Bytes string.now))))) (O.after out.old) }
-    ensures capacity { O.capacity out.old ≤ O.capacity out.new }
-    ensures kept { O.kept out.new ≡ O.kept out.old }
-{
-    ValueRef::Bytes(string).append_sent(as_long_data, out);
-}
-
 /// Writes a value of any kind, for which there is capacity.
-// (by a call, so that what writes numbers stays small enough to be in line)
+// (by a call, so that what writes numbers and strings stays small enough to be in line)
 #[inline(never)]
 #[tactic(auto, using(mysql_prepared::proofs::SentBytes::plain), unfolding(crate::specs::Value::value_content))]
 fn append_any<O: Buffer>(value: &CValue<'_>, as_long_data: bool, out: &mut O)
@@ -86,6 +55,21 @@ fn append_any<O: Buffer>(value: &CValue<'_>, as_long_data: bool, out: &mut O)
     ensures kept { O.kept out.new ≡ O.kept out.old }
 {
     value.as_execute_param().append_sent(as_long_data, out);
+}
+
+/// Writes a value of any kind by a call, with the buffer in a variable of its own.
+#[inline(always)]
+#[tactic(auto, using(mysql_prepared::proofs::SentBytes::plain), unfolding(crate::specs::Value::value_content))]
+fn append_apart<O: Buffer>(value: &CValue<'_>, as_long_data: bool, out: &mut O)
+    requires { length (O.held out.old) + length (param_bytes as_long_data (spec.param value.now)) ≤ O.capacity out.old }
+    ensures items { O.held out.new ≡ O.held out.old ++ param_bytes as_long_data (spec.param value.now) }
+    ensures after { O.after out.new ≡ drop (length (param_bytes as_long_data (spec.param value.now))) (O.after out.old) }
+    ensures capacity { O.capacity out.old ≤ O.capacity out.new }
+    ensures kept { O.kept out.new ≡ O.kept out.old }
+{
+    let mut taken = out.taken();
+    append_any(value, as_long_data, &mut taken);
+    *out = taken;
 }
 
 /// The length of a value in a column of a binary row.
@@ -171,15 +155,16 @@ impl AsExecuteParam for CValue<'_> {
         }
     }
 
+    // (what is called has a buffer of its own, so that the caller's stays in registers)
     #[inline(always)]
     fn append_sent<O: Buffer>(&self, as_long_data: bool, out: &mut O) {
         match self.kind {
-            2 | 3 => append_number(number(self), as_long_data, out),
+            2 | 3 => number(self).append_sent(as_long_data, out),
             _ => match self.kind {
                 0 => {}
-                1 => append_string(self.bytes, as_long_data, out),
-                5 => append_number(ValueRef::Double(self.number), as_long_data, out),
-                _ => append_any(self, as_long_data, out),
+                1 => ValueRef::Bytes(self.bytes).append_sent(as_long_data, out),
+                5 => ValueRef::Double(self.number).append_sent(as_long_data, out),
+                _ => append_apart(self, as_long_data, out),
             },
         }
     }

@@ -2,18 +2,25 @@
 #![tactic(auto, using(crate::proofs::WrittenExecutions::written_executions))]
 
 ghost use Rattle.std.specs.Option.{option_copied};
-ghost use Rattle.std.specs.Prelude.{◌≡◌, false, true};
+ghost use Rattle.std.specs.Prelude.{◌≡◌, ◌≤◌, ◌-◌, ◌^◌, ◌&&◌, None, false, length, true};
+ghost use Rattle.mysql_prepared.specs.Execution.{execution_bytes};
+ghost use Rattle.mysql_wire.specs.Writing.{saturated};
+ghost use Rattle.mysql_packets_c.specs.CheckedParams.{may_send};
+ghost use Rattle.mysql_packets_c.specs.CheckedExecution.{plain_of};
+ghost use Rattle.mysql_packets_c.specs.Output.{PutsUnlessTooLong};
 ghost use Rattle.mysql_prepared.specs.ExecuteWithOptions as library;
-ghost use Rattle.mysql_packets_c.specs.Parameter.{if_agreed, named_type, param_given, sent};
+ghost use Rattle.mysql_packets_c.specs.Parameter.{are_parameters, if_agreed, named_type, param_given, sent};
 ghost use Rattle.mysql_packets_c.specs.WrittenExecution as spec;
 ghost use Rattle.mysql_packets_c.specs.WrittenExecution.{IsRefused, PutsExecution};
 
-use crate::code::INVALID_INPUT;
+use crate::checked_execution::{CheckedExecution, put_over};
+use crate::checked_params::checked;
+use crate::code::{BUFFER_TOO_SMALL, INVALID_INPUT, OK};
 use crate::output::answer_count;
 use crate::parameter::{CParameter, are_agreed, are_parameters};
 use bitflags::Flags;
-use mysql_prepared::ComStmtExecuteOptionsBuilder;
-use mysql_wire::CursorType;
+use mysql_prepared::{ComStmtExecuteHead, ComStmtExecuteOptionsBuilder};
+use mysql_wire::{CursorType, MySerialize};
 
 /// `myp_execution_options`: all zero without a cursor, and with types.
 #[repr(C)]
@@ -58,7 +65,7 @@ fn iterations_sent(count: u32) -> u32
 }
 
 /// Writes the execution that the builder makes of these parameters, or nothing if a type can't encode its value.
-#[inline(always)]
+#[inline(never)]
 #[tactic(auto, using(crate::proofs::WrittenExecutions::written_executions), unfolding(mysql_wire::specs::Writing::saturated))]
 fn put_execution(
     builder: ComStmtExecuteOptionsBuilder<'_, CParameter<'_>>,
@@ -82,6 +89,98 @@ fn put_execution(
     }
 }
 
+/// The longest payload of one frame.
+const MAX_PAYLOAD_LEN: usize = 0xff_ffff;
+
+/// Writes an execution whose bytes were counted.
+#[inline(always)]
+#[tactic(auto, using(crate::proofs::CheckedParams::puts))]
+fn put_counted(
+    execution: &CheckedExecution<'_, '_>,
+    len: usize,
+    out: &mut [u8],
+    written: &mut usize,
+) -> u32
+    requires counted { len ≡ saturated (length (execution_bytes (plain_of execution.now))) }
+    requires short { len ≤ 2 ^ 24 - 1 }
+    ensures { PutsUnlessTooLong (execution_bytes (plain_of execution.now)) result out.old out.new written.new }
+{
+    *written = len;
+    if out.len() < len {
+        return BUFFER_TOO_SMALL;
+    }
+    put_over(execution, &mut out[..len]);
+    OK
+}
+
+/// Writes an execution without names and attributes; one that is too long for a frame by the library's builder, which leaves
+/// byte strings out.
+#[inline(always)]
+fn put_plain(
+    builder: ComStmtExecuteOptionsBuilder<'_, CParameter<'_>>,
+    params: &[CParameter<'_>],
+    out: &mut [u8],
+    written: &mut usize,
+    as_long_data: &mut u8,
+) -> u32
+    requires { option_copied builder.attributes ≡ None }
+    ensures spelled { may_send params.now ≡ true → PutsExecution (library.asked param_given named_type builder.entry (sent params.now)) result out.old out.new written.new as_long_data.new }
+    ensures refused { may_send params.now ≡ false → IsRefused result out.old out.new written.new as_long_data.old as_long_data.new }
+{
+    let Some(checked) = checked(params) else {
+        *written = 0;
+        return INVALID_INPUT;
+    };
+    let head = ComStmtExecuteHead::new(builder.stmt_id, builder.flags);
+    let execution = CheckedExecution {
+        head: head.with_iteration_count(builder.iteration_count),
+        params: checked,
+        sends_types: builder.sends_types,
+    };
+    let len = execution.defined_len();
+    if len > MAX_PAYLOAD_LEN {
+        return put_execution(builder, params, out, written, as_long_data);
+    }
+    *as_long_data = 0;
+    put_counted(&execution, len, out, written)
+}
+
+/// Writes an execution with names, and with attributes if there are any.
+fn put_named(
+    builder: ComStmtExecuteOptionsBuilder<'_, CParameter<'_>>,
+    params: &[CParameter<'_>],
+    out: &mut [u8],
+    written: &mut usize,
+    as_long_data: &mut u8,
+) -> u32
+    ensures spelled { (are_parameters params.now && spec.is_spelled (library.asked param_given named_type builder.entry (sent params.now))) ≡ true → PutsExecution (library.asked param_given named_type builder.entry (sent params.now)) result out.old out.new written.new as_long_data.new }
+    ensures refused { (are_parameters params.now && spec.is_spelled (library.asked param_given named_type builder.entry (sent params.now))) ≡ false → IsRefused result out.old out.new written.new as_long_data.old as_long_data.new }
+{
+    if !are_parameters(params) {
+        *written = 0;
+        return INVALID_INPUT;
+    }
+    put_execution(builder, params, out, written, as_long_data)
+}
+
+/// Writes the execution that the builder makes of these parameters, if all may be sent.
+fn put_asked(
+    builder: ComStmtExecuteOptionsBuilder<'_, CParameter<'_>>,
+    params: &[CParameter<'_>],
+    out: &mut [u8],
+    written: &mut usize,
+    as_long_data: &mut u8,
+) -> u32
+    ensures spelled { (are_parameters params.now && spec.is_spelled (library.asked param_given named_type builder.entry (sent params.now))) ≡ true → PutsExecution (library.asked param_given named_type builder.entry (sent params.now)) result out.old out.new written.new as_long_data.new }
+    ensures refused { (are_parameters params.now && spec.is_spelled (library.asked param_given named_type builder.entry (sent params.now))) ≡ false → IsRefused result out.old out.new written.new as_long_data.old as_long_data.new }
+{
+    if builder.attributes.is_some() {
+        put_named(builder, params, out, written, as_long_data)
+    } else {
+        put_plain(builder, params, out, written, as_long_data)
+    }
+}
+
 /// Writes `COM_STMT_EXECUTE` with these parameters, and with attributes if both sides agreed on them.
 ///
 /// Errors: 5 if the buffer is too small, with the length needed; 4 if the length overflows; 3 if a parameter or an attribute
@@ -100,7 +199,7 @@ pub extern "C" fn myp_write_execution(
     ensures refused { spec.may_write (spec.execution_of statement_id params.now attributes.now options.now capabilities) params.now attributes.now ≡ false → IsRefused result out.old out.new written.new as_long_data.old as_long_data.new }
     ensures value { spec.may_write (spec.execution_of statement_id params.now attributes.now options.now capabilities) params.now attributes.now ≡ true → PutsExecution (spec.execution_of statement_id params.now attributes.now options.now capabilities) result out.old out.new written.new as_long_data.new }
 {
-    if !are_parameters(params) || !are_parameters(attributes) {
+    if !are_parameters(attributes) {
         *written = 0;
         return INVALID_INPUT;
     }
@@ -111,5 +210,5 @@ pub extern "C" fn myp_write_execution(
         sends_types: options.omits_types == 0,
         attributes: if_agreed(capabilities, attributes),
     };
-    put_execution(builder, params, out, written, as_long_data)
+    put_asked(builder, params, out, written, as_long_data)
 }

@@ -17,6 +17,9 @@ pub mod EqualRows
 pub mod StmtAgain
 pub mod PutCells
 pub mod RowViews
+pub mod StoredRows
+pub mod FilledBlocks
+pub mod StoredForms
 pub mod TextRowAgain
 pub mod RowBytes
 pub mod BinaryRowAgain

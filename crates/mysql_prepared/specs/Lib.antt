@@ -16,6 +16,7 @@ pub mod Row
 pub mod RowForm
 pub mod RowEq
 pub mod RowView
+pub mod StoredRow
 pub mod StmtWithMetadata
 pub mod TextRow
 pub mod BinaryRow

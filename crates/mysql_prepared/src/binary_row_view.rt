@@ -2,15 +2,21 @@
 
 ghost use Rattle.std.specs.Prelude.{false, ◌≡◌, ◌<◌, ◌≤◌, Ok, Some, length, IfOk, IfErr, OnOk, OnErr};
 ghost use Rattle.mysql_wire.specs.Reading.{Answers, Faults};
-ghost use Rattle.mysql_values.specs.ValueDeserializer.{bin_value};
+ghost use Rattle.mysql_values.specs.ValueDeserializer.{bin_value, value_of_kind};
 ghost use Rattle.mysql_values.specs.ValueRef.{refs_contents};
 ghost use Rattle.mysql_prepared.specs.RowView.{Fills, GivesOne, IsBinaryRow, IsDone, PutsValue, RefusesNext, bin_row_of, read_of, ref_unless, row_front};
+ghost use Rattle.mysql_prepared.specs.StoredRow.{ChecksRow, PassesValue};
 
 use crate::null_bitmap::NullBitmap;
 use crate::row_values::is_null_at;
+use crate::row_view::RowView;
+use crate::stored_form::StoredForm;
 use crate::typed_column::TypedColumn;
-use mysql_values::{SerializationSide, ValueRef, read_bin_ref, string_type};
+use mysql_values::{
+    SerializationSide, ValueKind, ValueRef, read_bin_ref, read_kind_ref, string_type,
+};
 use mysql_wire::{ColumnType, FaultOf, MyDeserialize, ParseBuf, Skip};
+use std::borrow::CowSlice;
 use std::marker::Model;
 
 /// The value of a column: NULL where it is that, which takes no bytes.
@@ -100,6 +106,80 @@ fn put_unless<'s, 'de, C: TypedColumn>(
     put_by_type!(column.value_type(), column.is_unsigned(), buf, place;
         MYSQL_TYPE_TINY, MYSQL_TYPE_SHORT | MYSQL_TYPE_YEAR, MYSQL_TYPE_LONG | MYSQL_TYPE_INT24, MYSQL_TYPE_LONGLONG,
         MYSQL_TYPE_DOUBLE,)
+}
+
+/// Reads a value of this kind, and returns how it is encoded.
+#[inline(always)]
+fn pass_kind<'s, 'de>(
+    kind: ValueKind,
+    is_unsigned: bool,
+    buf: &mut ParseBuf<'de>,
+) -> Result<StoredForm, FaultOf<'s>>
+    ensures value { PassesValue (value_of_kind kind is_unsigned) result buf.old buf.new }
+{
+    let _value = read_kind_ref(kind, is_unsigned, buf)?;
+    Ok(StoredForm::of(kind, is_unsigned))
+}
+
+/// Reads a value of a less frequent kind.
+#[inline(never)]
+fn pass_seldom<'s, 'de>(
+    kind: ValueKind,
+    is_unsigned: bool,
+    buf: &mut ParseBuf<'de>,
+) -> Result<StoredForm, FaultOf<'s>>
+    ensures value { PassesValue (value_of_kind kind is_unsigned) result buf.old buf.new }
+{
+    pass_kind(kind, is_unsigned, buf)
+}
+
+/// Reads a value through a buffer of its own, so that the caller's stays in registers.
+#[inline(always)]
+fn pass_apart<'s, 'de>(
+    kind: ValueKind,
+    is_unsigned: bool,
+    buf: &mut ParseBuf<'de>,
+) -> Result<StoredForm, FaultOf<'s>>
+    ensures value { PassesValue (value_of_kind kind is_unsigned) result buf.old buf.new }
+{
+    let mut rest = buf.rest();
+    let form = pass_seldom(kind, is_unsigned, &mut rest)?;
+    *buf = rest;
+    Ok(form)
+}
+
+/// Reads a value in the form of the type, by code for the types that rows mostly have.
+#[inline(always)]
+fn pass_value<'s, 'de>(
+    column_type: ColumnType,
+    is_unsigned: bool,
+    buf: &mut ParseBuf<'de>,
+) -> Result<StoredForm, FaultOf<'s>>
+    ensures value { PassesValue (bin_value column_type is_unsigned) result buf.old buf.new }
+{
+    match column_type {
+        string_type!() => pass_kind(ValueKind::String, false, buf),
+        ColumnType::MYSQL_TYPE_LONG | ColumnType::MYSQL_TYPE_INT24 => {
+            pass_kind(ValueKind::Long, is_unsigned, buf)
+        }
+        ColumnType::MYSQL_TYPE_LONGLONG => pass_kind(ValueKind::LongLong, is_unsigned, buf),
+        other => pass_apart(ValueKind::of(other), is_unsigned, buf),
+    }
+}
+
+/// Reads the value of a column: NULL where it is that, which takes no bytes.
+#[inline(always)]
+fn pass_unless<'s, 'de, C: TypedColumn>(
+    is_null: bool,
+    column: &C,
+    buf: &mut ParseBuf<'de>,
+) -> Result<StoredForm, FaultOf<'s>>
+    ensures value { PassesValue (ref_unless C.type_of C.unsigned is_null column.now) result buf.old buf.new }
+{
+    if is_null {
+        return Ok(StoredForm::Null);
+    }
+    pass_value(column.value_type(), column.is_unsigned(), buf)
 }
 
 /// A binary row (`ProtocolBinary::ResultsetRow`) that is read value by value, of the columns `C` and written by the side `S`.
@@ -237,5 +317,57 @@ impl<'a, 'c, S: SerializationSide, C: TypedColumn> BinaryRowView<'a, 'c, S, C> {
             place += 1;
         }
         Ok(())
+    }
+}
+
+/// Reads all values that are left, up to the first fault.
+fn read_through<'s, S: SerializationSide, C: TypedColumn>(
+    row: BinaryRowView<'_, '_, S, C>,
+) -> Result<(), FaultOf<'s>>
+    ensures value { ChecksRow result row.entry }
+{
+    let mut row = row;
+    'values: while let Some(_value) = row.next_value()? {}
+    row.rest();
+    Ok(())
+}
+
+/// Each value is stored in the form of its column's type, or as NULL.
+impl<'a, 'c, S: SerializationSide, C: TypedColumn> RowView<'a> for BinaryRowView<'a, 'c, S, C> {
+    ghost remains = { λ row. row };
+
+    #[inline(always)]
+    fn left(&self) -> usize {
+        self.left()
+    }
+
+    #[inline(always)]
+    fn rest(&self) -> ParseBuf<'a> {
+        self.rest()
+    }
+
+    fn check<'s>(&self) -> Result<(), FaultOf<'s>> {
+        let row: BinaryRowView<'_, 'c, S, C> = BinaryRowView {
+            buf: self.buf.rest(),
+            nulls: NullBitmap::from_bytes(CowSlice::Borrowed(self.nulls.as_bytes())),
+            none: self.none,
+            place: self.place,
+            columns: self.columns,
+        };
+        read_through(row)
+    }
+
+    #[inline(always)]
+    fn next_form<'s>(&mut self) -> Result<Option<StoredForm>, FaultOf<'s>> {
+        let Some((column, columns)) = self.columns.split_first() else {
+            return Ok(None);
+        };
+        let is_null = is_null_at(&self.nulls, self.none, self.place);
+        let mut rest = self.buf.rest();
+        let form = pass_unless(is_null, column, &mut rest)?;
+        self.buf = rest;
+        self.columns = columns;
+        self.place += 1;
+        Ok(Some(form))
     }
 }

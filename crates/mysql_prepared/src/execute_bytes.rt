@@ -226,7 +226,7 @@ impl<'a> ExecuteParamsBytes<'a> {
     /// changed.
     ///
     /// A server keeps the types for executions that send none.
-    #[inline]
+    #[inline(always)]
     pub fn next_param<'s>(
         &mut self,
         bound: BoundParam,

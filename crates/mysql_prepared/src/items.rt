@@ -71,6 +71,7 @@ impl<T, F: ItemForm<T>> MySerialize for Items<'_, T, F> {
 
     ghost bytes = { λ l. flat_map (F.item_bytes l.form) l.items.now };
 
+    #[inline(always)]
     #[tactic(auto, unfolding(mysql_wire::specs::Writing::saturated))]
     fn defined_len(&self) -> usize {
         let mut total: usize = 0;

@@ -1,8 +1,13 @@
 //! Text rows that are read value by value, without memory.
 
-ghost use Rattle.std.specs.Prelude.{◌≡◌, ◌≤◌, Ok, length, IfErr, OnOk};
+ghost use Rattle.std.specs.Prelude.{◌≡◌, ◌≤◌, ℕ, List, Ok, length, IfErr, OnOk};
+ghost use Rattle.mysql_values.specs.ValueDeserializer.{text_value};
+ghost use Rattle.mysql_values.specs.ValueRef.{ref_content};
 ghost use Rattle.mysql_prepared.specs.RowView.{Fills, GivesOne, IsDone, RefusesNext, read_of, text_row_left, text_row_of};
+ghost use Rattle.mysql_prepared.specs.StoredRow.{ChecksRow, ReadsAs};
 
+use crate::row_view::RowView;
+use crate::stored_form::StoredForm;
 use mysql_values::{ValueRef, read_text_ref};
 use mysql_wire::{FaultOf, ParseBuf};
 use std::marker::Model;
@@ -95,5 +100,60 @@ impl<'a> TextRowView<'a> {
             place += 1;
         }
         Ok(())
+    }
+}
+
+/// The form of a value of a text row.
+#[inline(always)]
+fn text_form(value: ValueRef<'_>) -> StoredForm
+    ensures value { (bytes rest : List ℕ) → text_value.reads bytes ≡ Ok (ref_content value.entry, rest) → ReadsAs result bytes (ref_content value.entry) }
+{
+    match value {
+        ValueRef::NULL => StoredForm::Null,
+        _other => StoredForm::String,
+    }
+}
+
+/// Reads all values that are left, up to the first fault.
+fn read_through<'s>(row: TextRowView<'_>) -> Result<(), FaultOf<'s>>
+    ensures value { ChecksRow result row.entry }
+{
+    let mut row = row;
+    'values: while let Some(_value) = row.next_value()? {}
+    row.rest();
+    Ok(())
+}
+
+/// Each value is stored as a string, or as NULL.
+impl<'a> RowView<'a> for TextRowView<'a> {
+    ghost remains = { λ row. row };
+
+    #[inline(always)]
+    fn left(&self) -> usize {
+        self.left()
+    }
+
+    #[inline(always)]
+    fn rest(&self) -> ParseBuf<'a> {
+        self.rest()
+    }
+
+    fn check<'s>(&self) -> Result<(), FaultOf<'s>> {
+        read_through(TextRowView {
+            buf: self.buf.rest(),
+            left: self.left,
+        })
+    }
+
+    #[inline(always)]
+    fn next_form<'s>(&mut self) -> Result<Option<StoredForm>, FaultOf<'s>> {
+        let Some(left) = self.left.checked_sub(1) else {
+            return Ok(None);
+        };
+        let mut rest = self.buf.rest();
+        let value = read_text_ref(&mut rest)?;
+        self.buf = rest;
+        self.left = left;
+        Ok(Some(text_form(value)))
     }
 }

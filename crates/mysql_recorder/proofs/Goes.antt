@@ -3,7 +3,7 @@ use Rattle.std.proofs.Common.{◌≡◌, ◌⊎◌, inl, inr, ℕ, ◌+◌, ◌<
 use Rattle.std.proofs.lemmas.List.{take_more}
 use Rattle.mysql_conversation.specs.declared.packet_kind.Side.{Side}
 use Rattle.mysql_conversation.specs.declared.packet_kind.Side.TheVariants as side
-use Rattle.mysql_recorder.specs.Followed.{IsFollowed}
+use Rattle.mysql_observer.specs.Observed.{Observed}
 use Rattle.mysql_recorder.specs.Frames.{Piece, joined, AreFrames, NoneComes, IsNumbered, ComeIn}
 use Rattle.mysql_recorder.specs.Lines.{Heard, heard, IsRead, Stands, Passes}
 use Rattle.mysql_recorder.specs.Recorded as recorded
@@ -66,7 +66,7 @@ pub read_client : (old new : Sides) (bytes before after : List ℕ)
     → (IsNumbered old.client.reader → NoneComes new.client.reader.held)
     → new.client.passed ≡ old.client.passed → new.server ≡ old.server → new.has_lost ≡ old.has_lost → new.longest ≡ old.longest → sides.GoesOn (piece side.Client bytes ∷ []) old new before after
 read_client old new bytes before after reads none passed server lost longest pieces items h =
-    let r = reads items (h.client.numbered, h.followed) in
+    let r = reads items (h.client.numbered, h.observed) in
     let last = none h.client.numbered in
     inr (
       r.0,
@@ -76,7 +76,7 @@ read_client old new bytes before after reads none passed server lost longest pie
             (subst (λ left. AreFrames r.0 (old.client.reader.held ++ bytes) left) (append-nil new.client.reader.held) r.1.frames) last);
         client = read_step side.Client bytes items r.0 old.client new.client old.packets new.packets before after old.longest new.longest r.1 last passed longest h.client;
         server = other_step old.server new.server old.longest new.longest server longest h.server;
-        followed = r.1.followed;
+        observed = r.1.observed;
         nothing_lost = lost ∙ h.nothing_lost;
       },
       r.1.written,
@@ -87,7 +87,7 @@ pub read_server : (old new : Sides) (bytes before after : List ℕ)
     → (IsNumbered old.server.reader → NoneComes new.server.reader.held)
     → new.server.passed ≡ old.server.passed → new.client ≡ old.client → new.has_lost ≡ old.has_lost → new.longest ≡ old.longest → sides.GoesOn (piece side.Server bytes ∷ []) old new before after
 read_server old new bytes before after reads none passed client lost longest pieces items h =
-    let r = reads items (h.server.numbered, h.followed) in
+    let r = reads items (h.server.numbered, h.observed) in
     let last = none h.server.numbered in
     inr (
       r.0,
@@ -97,7 +97,7 @@ read_server old new bytes before after reads none passed client lost longest pie
             (subst (λ left. AreFrames r.0 (old.server.reader.held ++ bytes) left) (append-nil new.server.reader.held) r.1.frames) last);
         client = other_step old.client new.client old.longest new.longest client longest h.client;
         server = read_step side.Server bytes items r.0 old.server new.server old.packets new.packets before after old.longest new.longest r.1 last passed longest h.server;
-        followed = r.1.followed;
+        observed = r.1.observed;
         nothing_lost = lost ∙ h.nothing_lost;
       },
       r.1.written,
@@ -127,7 +127,7 @@ summed_stand old new pieces items e h = record {
   come = subst (λ c. ComeIn [] [] pieces items c.reader.held new.server.reader.held) (sym e.client) (subst (λ s. ComeIn [] [] pieces items old.client.reader.held s.reader.held) (sym e.server) h.come);
   client = other_step old.client new.client old.longest new.longest e.client e.longest h.client;
   server = other_step old.server new.server old.longest new.longest e.server e.longest h.server;
-  followed = subst (λ f. IsFollowed f (placed items)) (sym e.followed) h.followed;
+  observed = subst (λ f. Observed f (placed items)) (sym e.observer) h.observed;
   nothing_lost = e.has_lost ∙ h.nothing_lost;
 }
 
@@ -135,7 +135,7 @@ summed_stand old new pieces items e h = record {
 same_stand : (old new : Sides) (pieces : List Piece) (items : List Item) → sides.IsSame old new → Stand old pieces items → Stand new pieces items
 same_stand old new pieces items e h =
     summed_stand old new pieces items
-    (record { client = e.client; server = e.server; has_lost = e.has_lost; longest = e.longest; followed = ap (λ p. p.followed) e.packets; layout = ap (λ p. p.layout) e.packets }) h
+    (record { client = e.client; server = e.server; has_lost = e.has_lost; longest = e.longest; observer = ap (λ p. p.observer) e.packets; deciphered = ap (λ p. p.is_deciphered) e.packets; layout = ap (λ p. p.layout) e.packets }) h
 
 pub goes_same : (more : List Piece) (old mid new : Sides) (before after : List ℕ) → sides.GoesOn more old mid before after → sides.IsSame mid new → sides.GoesOn more old new before after
 goes_same more old mid new before after g e pieces items h =

@@ -11,7 +11,7 @@ use Rattle.mysql_recorder.specs.declared.entry.Layout.{Layout}
 use Rattle.mysql_frames.specs.FrameReader.{HandsOut, NoneWhole, AllLonger}
 use Rattle.mysql_frames.specs.declared.error.FrameError.{FrameError}
 use Rattle.mysql_frames.specs.declared.error.FrameError.TheVariants as frame
-use Rattle.mysql_recorder.specs.Followed.{IsFollowed}
+use Rattle.mysql_observer.specs.Observed.{Observed}
 use Rattle.mysql_recorder.specs.Frames.{joined}
 use Rattle.mysql_recorder.specs.Lines.{Heard, text_of, said_by, Stands, Passes}
 use Rattle.mysql_recorder.specs.Losses.{IsNumberOf, AreNoFrames, AreTooLong, LosesIn, PieceLosesIn, PieceLoses, LineLoses, LineEndLoses, EndsInMark, IsLost, TextLoses, IsAtFeed, Loses}
@@ -36,7 +36,7 @@ use Rattle.mysql_recorder.proofs.Frames.{numbered_sent, sent-held, sent-limit}
 use Rattle.mysql_recorder.proofs.Stays.{on_ok_then}
 use Rattle.mysql_recorder.proofs.Stopped.{stops_in}
 use Rattle.mysql_recorder.proofs.Texts.{shown_of}
-use Rattle.mysql_recorder.proofs.Wholes.{followed_session}
+use Rattle.mysql_recorder.proofs.Wholes.{observed_session}
 
 -- ---- one side
 
@@ -45,10 +45,10 @@ pub loses_packet : (all : List PacketKindTag) (side : Side) (bytes input rest : 
     → Reads side bytes input items here s old p po a b
     → HandsOut (as_sent old.reader input) input payload new.reader rest → sequence ≡ (as_sent old.reader input).number
     → po.layout ≡ p.layout
-    → ((xs : List Numbered) → IsFollowed po.followed xs → (why : SessionError) × ShowsRefused all po.layout side sequence payload xs why b c)
+    → ((xs : List Numbered) → Observed po.observer xs → (why : SessionError) × ShowsRefused all po.layout side sequence payload xs why b c)
     → LosesIn all p.layout s.reader.limit side (s.reader.held ++ bytes) items a c
 loses_packet all side bytes input rest items here s old new p po a b c sequence payload r h n l shows =
-    let shown = shows (placed (items ++ here)) r.followed in
+    let shown = shows (placed (items ++ here)) r.observed in
     inr (shown.0, stops_in all side bytes input rest items here s old new p po a b c sequence payload shown.0 r h n l shown.1)
 
 module _ (all : List PacketKindTag) (side : Side) (bytes input : List ℕ) (items here : List Item) (s old : Stream) (p po : Packets) (a b : List ℕ) (r : Reads side bytes input items here s old p po a b) where
@@ -56,7 +56,7 @@ module _ (all : List PacketKindTag) (side : Side) (bytes input : List ℕ) (item
   number_of long = numbered_sent old.reader input r.numbered long
 
   breaks : AreNoFrames (old.reader.held ++ input) ⊎ AreTooLong s.reader.limit (old.reader.held ++ input) → LosesIn all p.layout s.reader.limit side (s.reader.held ++ bytes) items a b
-  breaks h = inl (here, old.reader.held ++ input, r.from, r.frames, r.written, followed_session po.followed (placed (items ++ here)) r.followed, h)
+  breaks h = inl (here, old.reader.held ++ input, r.from, r.frames, r.written, observed_session po.observer (placed (items ++ here)) r.observed, h)
 
   out_of_order : ((more : List ℕ) → NoneWhole (as_sent old.reader input).number ((as_sent old.reader input).held ++ input ++ more)) → LosesIn all p.layout s.reader.limit side (s.reader.held ++ bytes) items a b
   out_of_order h = breaks (inl (
@@ -90,7 +90,7 @@ pub client_loses : (r : Result Came RecordingError) (all : List PacketKindTag) (
     → LosesIn all s.packets.layout s.client.reader.limit side.Client (s.client.reader.held ++ bytes) items before after)
     → IfOk r (λ came. came ≢ came_as.Whole → PieceLosesIn all side.Client bytes s before after)
 client_loses (Ok came) all s bytes before after h = λ w pieces items k.
-    subst (λ limit. LosesIn all s.packets.layout limit side.Client (s.client.reader.held ++ bytes) items before after) k.client.limit (h w items (k.client.numbered, k.followed))
+    subst (λ limit. LosesIn all s.packets.layout limit side.Client (s.client.reader.held ++ bytes) items before after) k.client.limit (h w items (k.client.numbered, k.observed))
 client_loses (Err e) all s bytes before after h = tt
 
 pub server_loses : (r : Result Came RecordingError) (all : List PacketKindTag) (s : Sides) (bytes before after : List ℕ)
@@ -98,7 +98,7 @@ pub server_loses : (r : Result Came RecordingError) (all : List PacketKindTag) (
     → LosesIn all s.packets.layout s.server.reader.limit side.Server (s.server.reader.held ++ bytes) items before after)
     → IfOk r (λ came. came ≢ came_as.Whole → PieceLosesIn all side.Server bytes s before after)
 server_loses (Ok came) all s bytes before after h = λ w pieces items k.
-    subst (λ limit. LosesIn all s.packets.layout limit side.Server (s.server.reader.held ++ bytes) items before after) k.server.limit (h w items (k.server.numbered, k.followed))
+    subst (λ limit. LosesIn all s.packets.layout limit side.Server (s.server.reader.held ++ bytes) items before after) k.server.limit (h w items (k.server.numbered, k.observed))
 server_loses (Err e) all s bytes before after h = tt
 
 -- nothing more is lost

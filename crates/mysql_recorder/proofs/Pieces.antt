@@ -4,7 +4,7 @@ use Rattle.mysql_conversation.specs.declared.packet_kind.Side.{Side}
 use Rattle.mysql_conversation.specs.Pipelined.{Numbered}
 use Rattle.mysql_frames.specs.FrameReader.{ReaderState, HandsOut, HoldsAll}
 use Rattle.mysql_frames.specs.Frames.{Framed}
-use Rattle.mysql_recorder.specs.Followed.{IsFollowed}
+use Rattle.mysql_observer.specs.Observed.{Observed}
 use Rattle.mysql_recorder.specs.Frames.{AreFrames, NoneComes, IsNumbered}
 use Rattle.mysql_recorder.specs.Shown.{Item, item, placed, Appends, entry_of}
 use Rattle.mysql_recorder.specs.Sides.{Reads}
@@ -19,10 +19,10 @@ pub reads_packet : (side : Side) (bytes input rest : List ℕ) (items here : Lis
     → Reads side bytes input items here s old p po a b
     → HandsOut (as_sent old.reader input) input payload new.reader rest → sequence ≡ (as_sent old.reader input).number
     → po.layout ≡ p.layout
-    → ((xs : List Numbered) → IsFollowed po.followed xs → ShowsPacket po.layout side sequence payload xs pn.followed b c)
+    → ((xs : List Numbered) → Observed po.observer xs → ShowsPacket po.layout side sequence payload xs pn.observer b c)
     → (more : List Item) × Reads side bytes rest items more s new p pn a c
 reads_packet side bytes input rest items here s old new p po pn a b c sequence payload r h e l shows =
-    let shown = shows (placed (items ++ here)) r.followed in
+    let shown = shows (placed (items ++ here)) r.observed in
     let x : Item = item sequence side payload shown.0 shown.1 in
     let out = handed_out old.reader new.reader input payload rest h in
     let whole : placed (items ++ (here ++ x ∷ [])) ≡ placed (items ++ here) ++ x.placed ∷ [] =
@@ -35,7 +35,7 @@ reads_packet side bytes input rest items here s old new p po pn a b c sequence p
             (subst (λ n. Framed n payload new.reader.number (old.reader.held ++ input) rest) (sym e) out));
         numbered = handed_numbered old.reader new.reader input payload rest h;
         limit = h.limit ∙ sent-limit old.reader input ∙ r.limit;
-        followed = subst (λ xs. IsFollowed pn.followed xs) (sym whole) shown.2;
+        observed = subst (λ xs. Observed pn.observer xs) (sym whole) shown.2;
         written = writes_one p.layout here x a b c r.written (subst (λ y. Appends y (entry_of x) b c) l shown.3);
       },
     )
@@ -48,7 +48,7 @@ reads_all side bytes input rest items here s old new p q a b r h = record {
   frames = subst (λ held. AreFrames here (s.reader.held ++ bytes) held) (sym (held_all old.reader new.reader input rest h) ∙ sym (append-nil new.reader.held)) r.frames;
   numbered = held_numbered old.reader new.reader input rest r.numbered h;
   limit = h.limit ∙ sent-limit old.reader input ∙ r.limit;
-  followed = r.followed;
+  observed = r.observed;
   written = r.written;
 }
 

@@ -10,37 +10,35 @@ use Rattle.mysql_conversation.specs.declared.pipeline.SessionError.{SessionError
 use Rattle.mysql_conversation.specs.declared.pipeline.SessionError.TheVariants as refusal
 use Rattle.mysql_show.specs.Appended.{Stays}
 use Rattle.mysql_recorder.specs.declared.entry.Layout.{Layout}
-use Rattle.mysql_recorder.specs.Followed.{IsFollowed}
-use Rattle.mysql_recorder.specs.Reasons.{IsReasonOf}
-use Rattle.mysql_recorder.proofs.Reasons.{refused_for}
+use Rattle.mysql_observer.specs.Observed.{Observed, last_exchange}
+use Rattle.mysql_recorder.specs.Reasons.{IsReason}
 use Rattle.mysql_recorder.specs.Refused.{ShowsRefused, refused_entry, refused_fields}
 use Rattle.mysql_recorder.specs.Refusals.{Refuses, IfRefused}
 use Rattle.mysql_recorder.specs.Entries.{entry_text}
 use Rattle.mysql_recorder.specs.declared.error.RecordingError.{RecordingError}
 use Rattle.mysql_recorder.specs.declared.error.RecordingError.TheVariants as error
-use Rattle.mysql_recorder.specs.declared.followed.Followed.{Followed}
+use Rattle.mysql_observer.specs.declared.observer.Observer.{Observer}
 use Rattle.mysql_recorder.specs.declared.packets.Taken.{Taken}
 use Rattle.mysql_recorder.specs.declared.packets.Taken.TheVariants as taken_as
 
-module _ (all : List PacketKindTag) (layout : Layout) (old new : Followed) (side : Side) (sequence : ℕ) (payload : List ℕ) (why : SessionError) (before after : List ℕ)
-    (stays : (items : List Numbered) → IsFollowed old items → IsFollowed new items)
-    (unasked : (items : List Numbered) (kind : PacketKind) (number : ℕ) → why ≡ refusal.UnexpectedPacket → IsFollowed old items → IsSessionBeginning (items ++ place side payload kind number ∷ []) → ⊥)
-    (reason : IsReasonOf old.connection side payload why) where
-  shows : (items : List Numbered) → IsFollowed old items → Refuses all layout new side sequence payload why before after → ShowsRefused all layout side sequence payload items why before after
+module _ (all : List PacketKindTag) (layout : Layout) (old new : Observer) (side : Side) (sequence : ℕ) (payload : List ℕ) (why : SessionError) (before after : List ℕ)
+    (stays : (items : List Numbered) → Observed old items → Observed new items)
+    (unasked : (items : List Numbered) (kind : PacketKind) (number : ℕ) → why ≡ refusal.UnexpectedPacket → Observed old items → IsSessionBeginning (items ++ place side payload kind number ∷ []) → ⊥)
+    (reason : IsReason old side payload why) where
+  shows : (items : List Numbered) → Observed old items → Refuses all layout new side sequence payload why before after → ShowsRefused all layout side sequence payload items why before after
   shows items h r =
-      let f = stays items h in
-      let for = refused_for old.connection items side payload why h.0 reason in
-      (new.last, r.0, r.1 items f, r.2, λ e kind number. unasked items kind number e h, f.2, for)
+      let o = stays items h in
+      (last_exchange new, r.0, r.1 items o, r.2, λ e kind number. unasked items kind number e h, o.3, (old, h, reason))
 
   pub refused_ok : (r : Result Taken RecordingError)
       → IfOk r (λ taken. (taken ≢ taken_as.Shown) × Refuses all layout new side sequence payload why before after)
-      → IfOk r (λ taken. taken ≢ taken_as.Shown → (items : List Numbered) → IsFollowed old items → (reason : SessionError) × ShowsRefused all layout side sequence payload items reason before after)
+      → IfOk r (λ taken. taken ≢ taken_as.Shown → (items : List Numbered) → Observed old items → (reason : SessionError) × ShowsRefused all layout side sequence payload items reason before after)
   refused_ok (Ok taken) h = λ e items f. (why, shows items f h.1)
   refused_ok (Err e) h = tt
 
   pub refused_err : (r : Result Taken RecordingError)
       → IfErr r (λ e. IfRefused e (λ shown. (shown ≡ why) × Refuses all layout new side sequence payload why before after))
-      → IfErr r (λ e. (items : List Numbered) → IsFollowed old items → IfRefused e (λ reason. ShowsRefused all layout side sequence payload items reason before after))
+      → IfErr r (λ e. (items : List Numbered) → Observed old items → IfRefused e (λ reason. ShowsRefused all layout side sequence payload items reason before after))
   refused_err (Ok taken) h = tt
   refused_err (Err (error.Refused shown)) h = λ items f. subst (λ reason. ShowsRefused all layout side sequence payload items reason before after) (sym h.0) (shows items f h.1)
   refused_err (Err error.Memory) h = λ items f. tt
@@ -50,8 +48,8 @@ module _ (all : List PacketKindTag) (layout : Layout) (old new : Followed) (side
   refused_err (Err error.Missing) h = λ items f. tt
 
 -- what is shown of it stands after what stood before
-pub refused_stays : {E : Type 0} (r : Result Taken E) (all : List PacketKindTag) (layout : Layout) (f : Followed) (side : Side) (sequence : ℕ) (payload : List ℕ) (why : SessionError) (before after : List ℕ)
+pub refused_stays : {E : Type 0} (r : Result Taken E) (all : List PacketKindTag) (layout : Layout) (f : Observer) (side : Side) (sequence : ℕ) (payload : List ℕ) (why : SessionError) (before after : List ℕ)
     → IfOk r (λ taken. (taken ≢ taken_as.Shown) × Refuses all layout f side sequence payload why before after) → IfOk r (λ taken. Stays before after)
 refused_stays (Ok taken) all layout f side sequence payload why before after h =
-    (entry_text layout (refused_entry side sequence f.last payload) (refused_fields payload why h.1.0), h.1.2)
+    (entry_text layout (refused_entry side sequence (last_exchange f) payload) (refused_fields payload why h.1.0), h.1.2)
 refused_stays (Err e) all layout f side sequence payload why before after h = tt

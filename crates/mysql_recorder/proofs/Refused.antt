@@ -11,7 +11,7 @@ use Rattle.mysql_recorder.specs.Refused.{expected_fields, refused_fields, refusa
 use Rattle.mysql_recorder.specs.Refusals.{AppendsRefused, Expects}
 use Rattle.mysql_recorder.specs.Entries.{AppendsEntry, entry_as, entry_text}
 use Rattle.mysql_recorder.specs.Shown.{Appends}
-use Rattle.mysql_recorder.specs.declared.followed.Followed.{Followed}
+use Rattle.mysql_observer.specs.declared.observer.Observer.{Observer}
 
 pub expected-append : (a b : List PacketKindTag) → expected_fields (a ++ b) ≡ expected_fields a ++ expected_fields b
 expected-append [] b = refl
@@ -59,7 +59,7 @@ appends (Ok u) layouts.Lines p fields before after ok shown = (fields, ok, shown
 appends (Ok u) layouts.Json p fields before after ok shown = (fields, ok, shown)
 appends (Err e) layout p fields before after ok shown = tt
 
-pub appends_refused : {E : Type 0} (r : Result (Unit {0}) E) (all : List PacketKindTag) (layout : Layout) (f : Followed) (p : Packet) (why : SessionError) (before after : List ℕ) (fields : List Said) (names : List PacketKindTag)
+pub appends_refused : {E : Type 0} (r : Result (Unit {0}) E) (all : List PacketKindTag) (layout : Layout) (f : Observer) (p : Packet) (why : SessionError) (before after : List ℕ) (fields : List Said) (names : List PacketKindTag)
     → fields ≡ refused_fields p.payload.now why names → Expects f all names
     → OnOk r (have_float fields ≡ false → after ≡ before ++ entry_text layout (entry_as p) fields) → OnOk r (AppendsRefused all layout f (entry_as p) why before after)
 appends_refused (Ok u) all layout f p why before after fields names are may_receive ok = (

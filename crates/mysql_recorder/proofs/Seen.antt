@@ -11,13 +11,13 @@ use Rattle.mysql_recorder.specs.declared.recording.Recording.{Recording}
 use Rattle.mysql_recorder.proofs.Frames.{joined-append}
 use Rattle.mysql_recorder.proofs.Once.{of_client, of_server, frames_once}
 use Rattle.mysql_recorder.proofs.Texts.{shown_of}
-use Rattle.mysql_recorder.proofs.Wholes.{followed_session}
+use Rattle.mysql_recorder.proofs.Wholes.{observed_session}
 
 pub recorded_shown : (r : Recording) (text : List ℕ) (items : List Item) → Recorded r text items → (waits : List Heard) × IsShown text waits items
 recorded_shown r text items h = (heard r.line.side r.line.bytes.items, shown_of r text items h)
 
 pub recorded_session : (r : Recording) (text : List ℕ) (items : List Item) → Recorded r text items → IsSessionBeginning (placed items)
-recorded_session r text items h = followed_session r.sides.packets.followed (placed items) h.stand.followed
+recorded_session r text items h = observed_session r.sides.packets.observer (placed items) h.stand.observed
 
 pub client_packets : (pieces : List Piece) (items : List Item) (client server : List ℕ) → ComeIn [] [] pieces items client server
     → AreFrames (packets_of side.Client items) (bytes_of side.Client (joined pieces)) client

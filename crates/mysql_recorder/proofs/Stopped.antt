@@ -8,7 +8,7 @@ use Rattle.mysql_conversation.specs.declared.pipeline.SessionError.{SessionError
 use Rattle.mysql_conversation.specs.Pipelined.{Numbered}
 use Rattle.mysql_frames.specs.FrameReader.{HandsOut}
 use Rattle.mysql_frames.specs.Frames.{Framed}
-use Rattle.mysql_recorder.specs.Followed.{IsFollowed}
+use Rattle.mysql_observer.specs.Observed.{Observed}
 use Rattle.mysql_recorder.specs.Frames.{Piece}
 use Rattle.mysql_recorder.specs.Recorded.{Recorded}
 use Rattle.mysql_recorder.specs.Recorded as recorded
@@ -32,7 +32,7 @@ use Rattle.mysql_recorder.specs.declared.stream.Stream.{Stream}
 use Rattle.mysql_recorder.proofs.Frames.{handed_out}
 use Rattle.mysql_recorder.proofs.Goes.{goes_same, is_lost}
 use Rattle.mysql_recorder.proofs.Texts.{shown_of}
-use Rattle.mysql_recorder.proofs.Wholes.{followed_session}
+use Rattle.mysql_recorder.proofs.Wholes.{observed_session}
 
 -- what is so of each reason
 pub if_refused : (e : RecordingError) (P Q : SessionError → Type 0) → ((why : SessionError) → P why → Q why) → IfRefused e P → IfRefused e Q
@@ -85,7 +85,7 @@ stops_in all side bytes input rest items here s old new p po a b c sequence payl
   r.frames,
   subst (λ m. Framed m payload new.reader.number (old.reader.held ++ input) rest) (sym n) (handed_out old.reader new.reader input payload rest h),
   r.written,
-  followed_session po.followed (placed (items ++ here)) r.followed,
+  observed_session po.observer (placed (items ++ here)) r.observed,
   subst (λ y. ShowsRefused all y side sequence payload (placed (items ++ here)) why b c) l shown,
 )
 
@@ -93,24 +93,24 @@ pub reads_refused : (all : List PacketKindTag) (side : Side) (bytes input rest :
     → Reads side bytes input items here s old p po a b
     → HandsOut (as_sent old.reader input) input payload new.reader rest → sequence ≡ (as_sent old.reader input).number
     → po.layout ≡ p.layout
-    → ((xs : List Numbered) → IsFollowed po.followed xs → IfRefused e (λ why. ShowsRefused all po.layout side sequence payload xs why b c))
+    → ((xs : List Numbered) → Observed po.observer xs → IfRefused e (λ why. ShowsRefused all po.layout side sequence payload xs why b c))
     → IfRefused e (λ why. StopsIn all p.layout side (s.reader.held ++ bytes) items why a c)
 reads_refused all side bytes input rest items here s old new p po a b c sequence payload e r h n l shows =
     if_refused e (λ why. ShowsRefused all po.layout side sequence payload (placed (items ++ here)) why b c) (λ why. StopsIn all p.layout side (s.reader.held ++ bytes) items why a c)
     (λ why shown. stops_in all side bytes input rest items here s old new p po a b c sequence payload why r h n l shown)
-    (shows (placed (items ++ here)) r.followed)
+    (shows (placed (items ++ here)) r.observed)
 
 pub client_stops : (r : Result Came RecordingError) (all : List PacketKindTag) (s : Sides) (bytes before after : List ℕ)
     → IfErr r (λ e. (items : List Item) → IsAt s.client s.packets items → IfRefused e (λ why. StopsIn all s.packets.layout side.Client (s.client.reader.held ++ bytes) items why before after))
     → IfErr r (λ e. PieceStops all side.Client bytes s e before after)
 client_stops (Ok came) all s bytes before after h = tt
-client_stops (Err e) all s bytes before after h = λ pieces items k. h items (k.client.numbered, k.followed)
+client_stops (Err e) all s bytes before after h = λ pieces items k. h items (k.client.numbered, k.observed)
 
 pub server_stops : (r : Result Came RecordingError) (all : List PacketKindTag) (s : Sides) (bytes before after : List ℕ)
     → IfErr r (λ e. (items : List Item) → IsAt s.server s.packets items → IfRefused e (λ why. StopsIn all s.packets.layout side.Server (s.server.reader.held ++ bytes) items why before after))
     → IfErr r (λ e. PieceStops all side.Server bytes s e before after)
 server_stops (Ok came) all s bytes before after h = tt
-server_stops (Err e) all s bytes before after h = λ pieces items k. h items (k.server.numbered, k.followed)
+server_stops (Err e) all s bytes before after h = λ pieces items k. h items (k.server.numbered, k.observed)
 
 -- what is refused in no case
 pub piece_never : (r : Result (Unit {0}) RecordingError) (all : List PacketKindTag) (side : Side) (bytes : List ℕ) (s : Sides) (before after : List ℕ)

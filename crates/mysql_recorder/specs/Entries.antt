@@ -18,13 +18,13 @@ abbrev pub name_of_side : Side → List ℕ
 name_of_side side.Client = codes "client"
 name_of_side side.Server = codes "server"
 
--- what stood before stays, and then comes this front of what is appended
+-- the earlier text is unchanged, and this prefix of the appended text follows
 abbrev pub Begins : List ℕ → List ℕ → List ℕ → Type 0
 Begins front old new = (rest : List ℕ) × (new ≡ old ++ (front ++ rest))
 
 -- ---- packets
 
--- what the head of an entry says
+-- the head of an entry
 pub record Entry : Type 0 where
   pub side : Side
   pub sequence : ℕ
@@ -35,11 +35,11 @@ pub record Entry : Type 0 where
 abbrev pub entry_as : Packet → Entry
 entry_as p = record { side = p.side; sequence = p.sequence; exchange = p.exchange; kind = p.kind.now; payload = p.payload.now }
 
--- the line that a packet begins with
+-- the line that begins a packet
 abbrev pub entry_line : Entry → List ℕ
 entry_line e = sign_of e.side ++ (codes " " ++ (decimal e.sequence ++ (codes " " ++ (e.kind ++ codes "\n"))))
 
--- the members that each packet's object has
+-- the members of each packet's object
 abbrev pub entry_head : Entry → List Said
 entry_head e =
     said (codes "side") (Word (name_of_side e.side))
@@ -55,12 +55,12 @@ abbrev pub entry_text : Layout → Entry → List Said → List ℕ
 entry_text layout.Lines e fields = entry_line e ++ lines_of fields
 entry_text layout.Json e fields = object_line (entry_head e) fields
 
--- the front of what is shown, whatever the fields hold: the line; in an object the members stand in the order of their names
+-- the beginning of the output for any fields: the line; in an object, the members in the order of their names
 abbrev pub entry_front : Layout → Entry → List ℕ
 entry_front layout.Lines e = entry_line e
 entry_front layout.Json e = []
 
--- also where a field is a float, of which the digits are not known: after its line the entry's fields are appended, or its object is
+-- also with floats, whose digits aren't specified: after its line, the entry's fields are appended, or its object is
 abbrev pub AppendsEntry : Layout → Entry → List Said → (old new : List ℕ) → Type 0
 AppendsEntry layout.Lines e fields old new = AppendsLines fields (old ++ entry_line e) new
 AppendsEntry layout.Json e fields old new = AppendsObject (entry_head e) fields old new
@@ -74,7 +74,7 @@ abbrev pub notice_head : Side → (exchange : ℕ) → (kind : List ℕ) → Lis
 notice_head side exchange kind =
     said (codes "side") (Word (name_of_side side)) ∷ said (codes "exchange") (Number exchange) ∷ said (codes "kind") (Word kind) ∷ []
 
--- what is said of a side's stream between its packets
+-- a notice about a side's stream, between its packets
 abbrev pub notice_text : Layout → Side → (exchange : ℕ) → (kind : List ℕ) → List Said → List ℕ
 notice_text layout.Lines side exchange kind fields = notice_line side kind ++ lines_of fields
 notice_text layout.Json side exchange kind fields = object_line (notice_head side exchange kind) fields

@@ -7,12 +7,12 @@ use Rattle.mysql_frames.specs.Frames.{Framed}
 use Rattle.mysql_recorder.specs.Lines.{Heard, heard}
 use Rattle.mysql_recorder.specs.Shown.{Item}
 
--- the bytes are the frames of these packets, each counted on from the number of its first frame, and then the rest
+-- the bytes are the frames of these packets, each with consecutive numbers from its first frame's on, and then the rest
 abbrev pub AreFrames : List Item → List ℕ → List ℕ → Type 0
 AreFrames [] bytes rest = bytes ≡ rest
 AreFrames (x ∷ xs) bytes rest = (after : ℕ) × (mid : List ℕ) × Framed x.sequence x.placed.packet.payload after bytes mid × AreFrames xs mid rest
 
--- no payload's frames begin these bytes, whatever number the first has
+-- no payload's frames begin with these bytes, with any first number
 abbrev pub NoneComes : List ℕ → Type 0
 NoneComes bytes = (number : ℕ) (payload : List ℕ) (after : ℕ) (rest : List ℕ) → Framed number payload after bytes rest → ⊥
 
@@ -21,7 +21,7 @@ abbrev pub AreFrom : Side → List Item → Type 0
 AreFrom side [] = Unit {0}
 AreFrom side (x ∷ xs) = (x.placed.packet.from ≡ side) × AreFrom side xs
 
--- some bytes of one side, that come one after another
+-- consecutive bytes of one side
 pub record Piece : Type 0 where
   pub side : Side
   pub bytes : List ℕ
@@ -30,7 +30,7 @@ abbrev pub joined : List Piece → List Heard
 joined [] = []
 joined (p ∷ ps) = heard p.side p.bytes ++ joined ps
 
--- what one side holds or the other
+-- the held bytes of either side
 abbrev pub of_side : Side → List ℕ → List ℕ → List ℕ
 of_side Client client server = client
 of_side Server client server = server
@@ -43,8 +43,8 @@ abbrev pub server_with : Side → List ℕ → List ℕ → List ℕ
 server_with Client left server = server
 server_with Server left server = left
 
--- Piece by piece, the packets that end there: those whose frames are what was held of that side's stream and the piece, up to a rest in
--- which there is none.
+-- Piece by piece, the packets that end there: those whose frames are the held bytes of that side and the piece, up to a rest that contains
+-- no packet.
 abbrev pub ComeIn : List ℕ → List ℕ → List Piece → List Item → List ℕ → List ℕ → Type 0
 ComeIn client server [] items client_left server_left = (items ≡ []) × (client ≡ client_left) × (server ≡ server_left)
 ComeIn client server (p ∷ ps) items client_left server_left =
@@ -52,7 +52,7 @@ ComeIn client server (p ∷ ps) items client_left server_left =
     × AreFrames here (of_side p.side client server ++ p.bytes) left × NoneComes left
     × ComeIn (client_with p.side left client) (server_with p.side left server) ps later client_left server_left
 
--- where a header is held, the payload has its number
+-- if a header is held, the payload has its number
 abbrev pub IsNumbered : ReaderState → Type 0
 IsNumbered reader = 4 ≤ length reader.held → reader.number ≡ slice_index reader.held 3
 

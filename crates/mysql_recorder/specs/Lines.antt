@@ -1,4 +1,4 @@
--- The lines that a recording is given by, and what they say.
+-- The lines of a recording, and what they mean.
 use Rattle.std.specs.Prelude.{◌≡◌, ◌≢◌, ◌⊎◌, ℕ, ◌+◌, ◌-◌, ◌*◌, ◌≤◌, ◌==◌, ◌||◌, ◌&&◌, nat_le, Bool, List, [], ◌∷◌, ◌++◌, Option, Some, None, option_map, if◌then◌else◌}
 use Rattle.std.specs.List.{All}
 use Rattle.mysql_conversation.specs.declared.packet_kind.Side.{Side}
@@ -27,11 +27,11 @@ IsLowerDigit c value = ((48 ≤ c) × (c ≤ 57) × (value + 48 ≡ c)) ⊎ ((97
 abbrev pub IsDigit : ℕ → ℕ → Type 0
 IsDigit c value = IsLowerDigit c value ⊎ ((65 ≤ c) × (c ≤ 70) × (value + 55 ≡ c))
 
--- what may stand between two bytes: a space, and a carriage return
+-- what may separate two bytes: a space, or a carriage return
 abbrev pub IsSpace : ℕ → Type 0
 IsSpace c = (c ≡ 32) ⊎ (c ≡ 13)
 
--- bytes, each in two digits, the high one first
+-- bytes, two digits each, high digit first
 pub data Spells : List ℕ → List ℕ → Type 0 where
   nothing : Spells [] []
   space : {text bytes : List ℕ} (c : ℕ) → IsSpace c → Spells text bytes → Spells (c ∷ text) bytes
@@ -39,34 +39,34 @@ pub data Spells : List ℕ → List ℕ → Type 0 where
 
 -- ---- lines
 
--- what a side's line begins with: > of the client; < or a tab of the server
+-- how a side's line begins: > for the client; < or a tab for the server
 abbrev pub IsSign : Side → ℕ → Type 0
 IsSign Client c = c ≡ 62
 IsSign Server c = (c ≡ 60) ⊎ (c ≡ 9)
 
--- a line of the client without a sign: it begins with a digit in lower case
+-- a line of the client without a sign: it begins with a lowercase digit
 abbrev pub IsBare : List ℕ → List ℕ → Type 0
 IsBare line bytes =
     (c : ℕ) × (d : ℕ) × (high : ℕ) × (low : ℕ) × (text : List ℕ) × (more : List ℕ)
     × (line ≡ c ∷ d ∷ text) × IsLowerDigit c high × IsDigit d low × Spells text more × (bytes ≡ (16 * high + low) ∷ more)
 
--- a line that says these bytes of a side's stream
+-- a line with these bytes of a side's stream
 abbrev pub SaysBytes : Side → List ℕ → List ℕ → Type 0
 SaysBytes side line bytes =
     ((sign : ℕ) × (text : List ℕ) × (line ≡ sign ∷ text) × IsSign side sign × Spells text bytes) ⊎ ((side ≡ Client) × IsBare line bytes)
 
--- what a line that says nothing begins with: a carriage return, #, =, F or N
+-- how a line without bytes begins: with a carriage return, #, =, F or N
 abbrev pub IsSilentSign : ℕ → Type 0
 IsSilentSign c = (c ≡ 13) ⊎ (c ≡ 35) ⊎ (c ≡ 61) ⊎ (c ≡ 70) ⊎ (c ≡ 78)
 
 abbrev pub IsNoLineFeed : ℕ → Type 0
 IsNoLineFeed c = c ≢ 10
 
--- a line that says nothing: an empty one, or one that begins so
+-- a line without bytes: an empty one, or one that begins so
 abbrev pub SaysNothing : List ℕ → Type 0
 SaysNothing line = (line ≡ []) ⊎ ((sign : ℕ) × (text : List ℕ) × (line ≡ sign ∷ text) × IsSilentSign sign × All IsNoLineFeed text)
 
--- a line, without its line feed, and what it says
+-- a line without its line feed, and its meaning
 pub record Line : Type 0 where
   pub text : List ℕ
   pub says : List Heard
@@ -86,53 +86,53 @@ abbrev pub said_by : List Line → List Heard
 said_by [] = []
 said_by (line ∷ lines) = line.says ++ said_by lines
 
--- ---- the line that is not at its end
+-- ---- an incomplete line
 
--- the bytes of a line, and after them the first digit of one more
+-- the bytes of a line, and after them the first digit of another one
 abbrev pub IsHalf : Side → ℕ → List ℕ → List ℕ → Type 0
 IsHalf side high line bytes =
     (front : List ℕ) × (c : ℕ) × (line ≡ front ++ c ∷ []) × (high ≤ 15)
     × ((SaysBytes side front bytes × IsDigit c high) ⊎ ((front ≡ []) × (side ≡ Client) × (bytes ≡ []) × IsLowerDigit c high))
 
--- what came of the line, and what it says so far
+-- the part of the line so far, and its meaning
 abbrev pub Stands : Place → List ℕ → List Heard → Type 0
 Stands place.Start line said = (line ≡ []) × (said ≡ [])
 Stands (place.Between side) line said = (bytes : List ℕ) × SaysBytes side line bytes × (said ≡ heard side bytes)
 Stands (place.Half side high) line said = (bytes : List ℕ) × IsHalf side high line bytes × (said ≡ heard side bytes)
 Stands place.Silent line said = SaysNothing line × (line ≢ []) × (said ≡ [])
 
--- what one more byte of the line says: a byte of a stream, or that the line is at its end; of a line that says nothing the end is not said
+-- the meaning of one more byte of the line: a byte of a stream, or the end of the line; the end of a line without bytes means nothing
 abbrev pub Passes : Option Said → ℕ → List ℕ → List Heard → Place → Type 0
 Passes None c line said new = Stands new (line ++ c ∷ []) said ⊎ ((c ≡ 10) × (new ≡ place.Start) × (said ≡ []) × IsLine (record { text = line; says = said }))
 Passes (Some (says.Byte side value)) c line said new = Stands new (line ++ c ∷ []) (said ++ record { from = side; byte = value } ∷ [])
 Passes (Some says.End) c line said new = (c ≡ 10) × (new ≡ place.Start) × IsLine (record { text = line; says = said })
 
--- what it says of the streams
+-- its meaning for the streams
 abbrev pub says_of : Option Said → List Heard
 says_of None = []
 says_of (Some (says.Byte side value)) = record { from = side; byte = value } ∷ []
 says_of (Some says.End) = []
 
--- the line is a side's
+-- the line belongs to a side
 abbrev pub IsOfSide : Side → Place → Type 0
 IsOfSide t (place.Between side) = side ≡ t
 IsOfSide t (place.Half side high) = side ≡ t
 IsOfSide t place.Start = ⊥
 IsOfSide t place.Silent = ⊥
 
--- it stays so up to its end, and what it says is of that side
+-- it does up to its end, and its bytes are of that side
 abbrev pub StaysOf : Option Said → Place → Place → Type 0
 StaysOf None old new = (t : Side) → IsOfSide t old → IsOfSide t new
 StaysOf (Some (says.Byte side value)) old new = ((t : Side) → IsOfSide t old → side ≡ t) × IsOfSide side new
 StaysOf (Some says.End) old new = Unit {0}
 
--- what a text says so far: of whole lines, and of the line that is not at its end
+-- the meaning of a text so far: of complete lines, and of the incomplete one
 abbrev pub IsRead : List ℕ → Place → List Heard → Type 0
 IsRead text at said =
     (lines : List Line) × (line : List ℕ) × (more : List Heard) × AreLines lines
     × (text ≡ text_of lines ++ line) × (said ≡ said_by lines ++ more) × Stands at line more
 
--- ---- byte by byte: where a line stands after one more, unless the byte stands in no line there
+-- ---- byte by byte: the state within a line after one more byte, unless the byte is not allowed there
 
 abbrev pub is_between : ℕ → ℕ → ℕ → Bool
 is_between low c high = nat_le low c && nat_le c high
@@ -155,7 +155,7 @@ begun_by c =
     else (if c == 13 || (c == 35 || (c == 61 || (c == 70 || c == 78))) then Some place.Silent
     else option_map (half Client) (lower_value c))))
 
--- after one more byte of a side's line: a space and a carriage return say nothing
+-- after one more byte of a side's line: a space and a carriage return mean nothing
 abbrev pub after_byte : Side → ℕ → Option Place
 after_byte side c = if c == 32 || c == 13 then Some (place.Between side) else option_map (half side) (digit_value c)
 
@@ -165,7 +165,7 @@ next_place (place.Between side) c = if c == 10 then Some place.Start else after_
 next_place (place.Half side high) c = option_map (λ low. place.Between side) (digit_value c)
 next_place place.Silent c = if c == 10 then Some place.Start else Some place.Silent
 
--- after a text, unless a line of it is none of a recording's
+-- after a text, unless one of its lines is malformed
 abbrev pub place_from : Option Place → List ℕ → Option Place
 place_from None text = None
 place_from (Some at) [] = Some at

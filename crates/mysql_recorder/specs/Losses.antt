@@ -22,25 +22,25 @@ use Rattle.mysql_recorder.specs.declared.sides.Sides.{Sides}
 
 -- ---- the bytes of a side
 
--- a payload that begins these bytes has this number: the one in its header, where that is there
+-- the number of a payload that begins with these bytes: the one in its header, if that is complete
 abbrev pub IsNumberOf : ℕ → List ℕ → Type 0
 IsNumberOf number bytes = 4 ≤ length bytes → number ≡ slice_index bytes 3
 
--- whatever comes after them, no payload's frames begin these bytes
+-- whatever follows, no payload's frames begin with these bytes
 abbrev pub AreNoFrames : List ℕ → Type 0
 AreNoFrames bytes = (number : ℕ) × IsNumberOf number bytes × ((more : List ℕ) → NoneWhole number (bytes ++ more))
 
--- whatever comes after them, each payload whose frames begin these bytes is longer than the limit
+-- whatever follows, each payload whose frames begin with these bytes is longer than the limit
 abbrev pub AreTooLong : ℕ → List ℕ → Type 0
 AreTooLong limit bytes = (number : ℕ) × IsNumberOf number bytes × ((more : List ℕ) → AllLonger limit number (bytes ++ more))
 
--- These bytes are the frames of some packets, which come and are shown, and then none of a payload within the limit.
+-- These bytes are the frames of some packets, which are expected and shown, and then frames of no payload within the limit.
 abbrev pub BreaksIn : Layout → ℕ → Side → List ℕ → List Item → List ℕ → List ℕ → Type 0
 BreaksIn layout limit side bytes items before after =
     (here : List Item) × (left : List ℕ) × AreFrom side here × AreFrames here bytes left × Writes layout here before after
     × IsSessionBeginning (placed (items ++ here)) × (AreNoFrames left ⊎ AreTooLong limit left)
 
--- there are no frames, or a packet doesn't come, and is shown
+-- the frames are malformed, or a packet is unexpected, and is shown
 abbrev pub LosesIn : List PacketKindTag → Layout → ℕ → Side → List ℕ → List Item → List ℕ → List ℕ → Type 0
 LosesIn all layout limit side bytes items before after =
     BreaksIn layout limit side bytes items before after ⊎ ((why : SessionError) × StopsIn all layout side bytes items why before after)
@@ -50,7 +50,7 @@ abbrev pub PieceLosesIn : List PacketKindTag → Side → List ℕ → Sides →
 PieceLosesIn all side bytes s before after = (pieces : List Piece) (items : List Item) → Stand s pieces items
     → LosesIn all (sides.layout s) (sides.longest s) side (of_side side s.client.reader.held s.server.reader.held ++ bytes) items before after
 
--- where something is lost now, it is lost in the piece, and what is shown of it stays
+-- if something is lost now, it is lost in the piece, and what was shown stays
 abbrev pub PieceLoses : Result (Unit {0}) RecordingError → List PacketKindTag → Side → List ℕ → Sides → Sides → List ℕ → List ℕ → Type 0
 PieceLoses r all side bytes old new before after = sides.has_lost new ≡ true → (pieces : List Piece) (items : List Item) → Stand old pieces items
     → (mid : List ℕ)
@@ -59,25 +59,25 @@ PieceLoses r all side bytes old new before after = sides.has_lost new ≡ true �
 
 -- ---- lines
 
--- the same of what waits of a line
+-- the same for the pending part of a line
 abbrev pub LineLoses : Result (Unit {0}) RecordingError → List PacketKindTag → Recording → Recording → List ℕ → List ℕ → Type 0
 LineLoses r all old new before after = PieceLoses r all old.line.side old.line.bytes.items old.sides new.sides before after
 
--- of a line that ends: it is lost in what waits, or all of the line waits, and is a mark of missing bytes
+-- for a line that ends: something is lost in the pending part, or the whole line is pending and is a mark for missing bytes
 abbrev pub LineEndLoses : Result (Unit {0}) RecordingError → List PacketKindTag → Recording → Recording → List ℕ → List ℕ → Type 0
 LineEndLoses r all old new before after =
     LineLoses r all old new before after ⊎ ((old.line.is_untaken ≡ true) × IsMark old.line.bytes.items × OnOk r (Stays before after))
 
 -- ---- texts
 
--- This text was read, and these packets of it are shown; in what was held and waits something is lost.
+-- This text was read, and these packets of it are shown; something is lost in the held and pending bytes.
 pub record LosesAfter (all : List PacketKindTag) (layout : Layout) (limit : ℕ) (text : List ℕ) (items : List Item) (before after : List ℕ) : Type 0 where
   pub side : Side
   pub bytes : List ℕ
   pub shown : IsShown text (heard side bytes) items
   pub loses : LosesIn all layout limit side (of_side side shown.client_left shown.server_left ++ bytes) items before after
 
--- These packets are shown of the text's whole lines, and the line after them says a mark of missing bytes.
+-- These packets are shown for the text's complete lines, and the next line is a mark for missing bytes.
 pub record EndsInMark (text : List ℕ) (items : List Item) : Type 0 where
   pub lines : List Line
   pub line : List ℕ
@@ -90,7 +90,7 @@ pub record EndsInMark (text : List ℕ) (items : List Item) : Type 0 where
   pub says : Stands at line (heard side mark)
   pub is_mark : IsMark mark
 
--- after a text of which these packets are shown something is lost: in what came of it; or, where its last line ends, by a mark
+-- after a text for which these packets are shown something is lost: in its pending part; or, at the end of its last line, by a mark
 abbrev pub IsLost : List PacketKindTag → Layout → ℕ → Type 0 → List ℕ → List Item → List ℕ → List ℕ → Type 0
 IsLost all layout limit ends text items before after =
     LosesAfter all layout limit text items before after ⊎ (EndsInMark text items × ends × (before ≡ after))
@@ -99,11 +99,11 @@ abbrev pub TextLoses : Result (Unit {0}) RecordingError → List PacketKindTag �
 TextLoses r all ends old new before after = has_lost new ≡ true → (text : List ℕ) (items : List Item) → Recorded old text items
     → (mid : List ℕ) × IsLost all (layout old) (longest old) ends text items before mid × OnOk r (Stays mid after)
 
--- a line feed begins these bytes
+-- these bytes begin with a line feed
 abbrev pub IsAtFeed : List ℕ → Type 0
 IsAtFeed bytes = (rest : List ℕ) × (bytes ≡ 10 ∷ rest)
 
--- Where something is lost now, it is lost after a front of the input, whose packets are shown. What is shown of it stays.
+-- If something is lost now, it is lost after a prefix of the input, whose packets are shown. What was shown stays.
 abbrev pub Loses : Result (Unit {0}) RecordingError → List PacketKindTag → List ℕ → Recording → Recording → List ℕ → List ℕ → Type 0
 Loses r all input old new before after = has_lost new ≡ true → (text : List ℕ) (items : List Item) → Recorded old text items
     → (front : List ℕ) × (back : List ℕ) × (here : List Item) × (shown : List ℕ) × (mid : List ℕ) × (input ≡ front ++ back)

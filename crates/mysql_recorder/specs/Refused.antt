@@ -1,4 +1,4 @@
--- A packet that doesn't come, as it is shown.
+-- An unexpected packet, as it is shown.
 use Rattle.std.specs.Prelude.{◌≡◌, ◌⊎◌, ℕ, List, [], ◌∷◌, ◌++◌, length, take, min, codes}
 use Rattle.mysql_conversation.specs.PacketKindTag.{text_of}
 use Rattle.mysql_conversation.specs.Piped.{place}
@@ -12,7 +12,7 @@ use Rattle.mysql_conversation.specs.declared.pipeline.SessionError.{SessionError
 use Rattle.mysql_conversation.specs.declared.pipeline.SessionError.TheVariants as refusal
 use Rattle.mysql_show.specs.Fields.{Said, said, Bytes, Word}
 use Rattle.mysql_recorder.specs.declared.entry.Layout.{Layout}
-use Rattle.mysql_recorder.specs.Followed.{highest_exchange}
+use Rattle.mysql_observer.specs.Observed.{highest_exchange}
 use Rattle.mysql_recorder.specs.Reasons.{IsRefusedFor}
 use Rattle.mysql_recorder.specs.Entries.{Entry, entry_text}
 
@@ -27,16 +27,16 @@ abbrev pub expected_fields : List PacketKindTag → List Said
 expected_fields [] = []
 expected_fields (name ∷ names) = said (codes "expected") (Word (text_of name)) ∷ expected_fields names
 
--- its first 64 bytes, why it is refused, and the kinds that would come
+-- its first 64 bytes, why it is refused, and the expected kinds
 abbrev pub refused_fields : List ℕ → SessionError → List PacketKindTag → List Said
 refused_fields payload why names =
     said (codes "begins") (Bytes (take (min (length payload) 64) payload)) ∷ said (codes "refused") (Word (refusal_text why)) ∷ expected_fields names
 
--- after these packets one of a kind with this name may come, of either side
+-- after these packets, one of a kind with this name may come, from either side
 unfoldable pub MayCome : List Numbered → PacketKindTag → Type 0
 MayCome items name = GoesOn Client name items ⊎ GoesOn Server name items
 
--- of all these names those of kinds that may come, in their order
+-- of all these names, those of kinds that may come, in order
 abbrev pub AreExpected : List Numbered → List PacketKindTag → List PacketKindTag → Type 0
 AreExpected items [] names = names ≡ []
 AreExpected items (name ∷ all) names =
@@ -45,8 +45,7 @@ AreExpected items (name ∷ all) names =
 abbrev pub refused_entry : Side → ℕ → ℕ → List ℕ → Entry
 refused_entry side sequence exchange payload = record { side = side; sequence = sequence; exchange = exchange; kind = codes "refused"; payload = payload }
 
--- After these packets, of which `all` are the names of kinds that there are, the packet is shown as one that doesn't come. It is of the
--- exchange that came last.
+-- After these packets, the packet is shown as unexpected; `all` are the names of all kinds. It belongs to the last exchange.
 abbrev pub ShowsRefused : List PacketKindTag → Layout → Side → ℕ → List ℕ → List Numbered → SessionError → List ℕ → List ℕ → Type 0
 ShowsRefused all layout side sequence payload items why before after =
     (exchange : ℕ) × (names : List PacketKindTag) × AreExpected items all names

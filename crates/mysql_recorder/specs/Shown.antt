@@ -9,7 +9,7 @@ use Rattle.mysql_show.specs.Fields.{Said, have_float}
 use Rattle.mysql_recorder.specs.declared.entry.Layout.{Layout}
 use Rattle.mysql_recorder.specs.Entries.{Entry, entry_text, AppendsEntry}
 
--- a packet of a recording: the number of its first frame, whose it is, its payload, its kind, and the number of its exchange
+-- a packet of a recording: the number of its first frame, its side, its payload, its kind, and the number of its exchange
 pub record Item : Type 0 where
   pub sequence : ℕ
   pub placed : Numbered
@@ -30,12 +30,12 @@ entry_of x = record {
   payload = x.placed.packet.payload;
 }
 
--- An entry with some fields is appended. Where none of them is a float, the text is the entry's.
+-- An entry with some fields is appended. Without floats among them, the text is the entry's.
 abbrev pub Appends : Layout → Entry → (old new : List ℕ) → Type 0
 Appends layout entry old new =
     (fields : List Said) × (have_float fields ≡ false → new ≡ old ++ entry_text layout entry fields) × AppendsEntry layout entry fields old new
 
--- an entry for each of these packets is appended, in their order
+-- an entry for each of these packets is appended, in order
 abbrev pub Writes : Layout → List Item → List ℕ → List ℕ → Type 0
 Writes layout [] old new = old ≡ new
 Writes layout (x ∷ xs) old new = (mid : List ℕ) × Appends layout (entry_of x) old mid × Writes layout xs mid new

@@ -1,4 +1,4 @@
--- A recording that goes no further, as a packet doesn't come.
+-- A recording that stops at an unexpected packet.
 use Rattle.std.specs.Prelude.{◌≡◌, ◌⊎◌, ℕ, true, List, ◌++◌}
 use Rattle.mysql_conversation.specs.Session.{IsSessionBeginning}
 use Rattle.mysql_conversation.specs.declared.packet_kind.Side.{Side}
@@ -19,7 +19,7 @@ use Rattle.mysql_recorder.specs.declared.error.RecordingError.{RecordingError}
 use Rattle.mysql_recorder.specs.declared.recording.Recording.{Recording}
 use Rattle.mysql_recorder.specs.declared.sides.Sides.{Sides}
 
--- These bytes are the frames of some packets, which come and are shown, and then those of one that doesn't.
+-- These bytes are the frames of some packets, which are expected and shown, and then those of an unexpected one.
 abbrev pub StopsIn : List PacketKindTag → Layout → Side → List ℕ → List Item → SessionError → List ℕ → List ℕ → Type 0
 StopsIn all layout side bytes items why before after =
     (here : List Item) × (sequence : ℕ) × (payload : List ℕ) × (next : ℕ) × (left : List ℕ) × (rest : List ℕ) × (mid : List ℕ)
@@ -31,11 +31,12 @@ abbrev pub PieceStops : List PacketKindTag → Side → List ℕ → Sides → R
 PieceStops all side bytes s e before after = (pieces : List Piece) (items : List Item) → Stand s pieces items
     → IfRefused e (λ why. StopsIn all (sides.layout s) side (of_side side s.client.reader.held s.server.reader.held ++ bytes) items why before after)
 
--- in what waits of a line
+-- in the pending part of a line
 abbrev pub LineStops : List PacketKindTag → Recording → RecordingError → List ℕ → List ℕ → Type 0
 LineStops all r e before after = PieceStops all r.line.side r.line.bytes.items r.sides e before after
 
--- This text was read, and these packets of it are shown. In what was held and waits there are more that come, and one that doesn't.
+-- This text was read, and these packets of it are shown. In the held and pending bytes there are more expected packets, and then an
+-- unexpected one.
 pub record StopsAfter (all : List PacketKindTag) (layout : Layout) (text : List ℕ) (items : List Item) (why : SessionError) (before after : List ℕ) : Type 0 where
   pub side : Side
   pub bytes : List ℕ
@@ -45,7 +46,7 @@ pub record StopsAfter (all : List PacketKindTag) (layout : Layout) (text : List 
 abbrev pub TextStops : List PacketKindTag → Recording → RecordingError → List ℕ → List ℕ → Type 0
 TextStops all r e before after = (text : List ℕ) (items : List Item) → Recorded r text items → IfRefused e (λ why. StopsAfter all (recorded.layout r) text items why before after)
 
--- something is lost, or it stops after a front of this text
+-- something is lost, or it stops after a prefix of this text
 abbrev pub Stops : List PacketKindTag → List ℕ → Recording → Recording → RecordingError → List ℕ → List ℕ → Type 0
 Stops all input old new e before after = (text : List ℕ) (items : List Item) → Recorded old text items
     → (has_lost new ≡ true) ⊎ IfRefused e (λ why. (front : List ℕ) × (back : List ℕ) × (here : List Item) × (mid : List ℕ) × (input ≡ front ++ back)

@@ -1,11 +1,9 @@
 //! The fields of a command.
 
 use crate::client_fields::append;
-use crate::values::fault_name;
-use mysql_commands::{
-    ComQueryRef, ComStmtBulkExecuteRef, ComStmtExecuteRef, Command, ServerOption,
-};
-use mysql_prepared::QueryAttributesView;
+use crate::values::append_attributes;
+use mysql_commands::{ComQueryRef, ComStmtBulkExecuteRef, Command, ServerOption};
+use mysql_prepared::ComStmtExecuteHead;
 use mysql_repl::{ComBinlogDumpGtidRef, ComBinlogDumpRef};
 use mysql_show::{Field, add_fields, change_user_fields, dump_fields, replica_fields};
 use mysql_wire::Flags;
@@ -66,7 +64,9 @@ fn append_statement<'p>(
     fields: &mut Vec<Field<'p>>,
 ) -> Result<(), AllocError> {
     match command {
-        Command::StmtExecute(execution) => append_execution(execution, fields),
+        Command::StmtExecute(execution) => {
+            append_head(execution.head(), execution.params().len(), fields)
+        }
         Command::StmtSendLongData(data) => {
             fields.push(Field::number("statement_id", u64::from(data.stmt_id())))?;
             fields.push(Field::number("param_index", u64::from(data.param_index())))?;
@@ -93,17 +93,18 @@ fn append_statement<'p>(
     }
 }
 
-fn append_execution<'p>(
-    execution: &ComStmtExecuteRef<'p>,
+/// Appends the head of an execution, and the number of the bytes after it.
+pub(crate) fn append_head<'p>(
+    head: &ComStmtExecuteHead,
+    length: usize,
     fields: &mut Vec<Field<'p>>,
 ) -> Result<(), AllocError> {
-    let head = execution.head();
     fields.push(Field::number("statement_id", u64::from(head.stmt_id())))?;
     fields.push(Field::number("cursor_flags", u64::from(head.cursor().bits())))?;
     if head.has_parameter_count() {
         fields.push(Field::flag("parameter_count_available", true))?;
     }
-    Ok(fields.push(Field::number("length", execution.params().len() as u64))?)
+    Ok(fields.push(Field::number("length", length as u64))?)
 }
 
 fn append_bulk<'p>(
@@ -157,26 +158,7 @@ fn append_query<'p>(
 ) -> Result<(), AllocError> {
     append(Field::bytes("query", query.text()), fields)?;
     match query.attributes() {
-        Some(attributes) => append_attributes(attributes.view(), fields),
+        Some(attributes) => append_attributes(attributes.view(), false, fields),
         None => Ok(()),
     }
-}
-
-/// The names and the values of attributes, up to the first that can't be read.
-pub(crate) fn append_attributes<'p>(
-    attributes: QueryAttributesView<'p>,
-    fields: &mut Vec<Field<'p>>,
-) -> Result<(), AllocError> {
-    let mut attributes = attributes;
-    for _ in 0..attributes.left() {
-        match attributes.next_attribute() {
-            Ok(Some(attribute)) => {
-                fields.push(Field::bytes("attribute", attribute.name))?;
-                fields.push(Field::param("attribute_value", attribute.value))?;
-            },
-            Ok(None) => return Ok(()),
-            Err(fault) => return append(Field::word("refused", fault_name(&fault)), fields),
-        }
-    }
-    Ok(())
 }

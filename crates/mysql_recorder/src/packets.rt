@@ -1,18 +1,22 @@
 //! Shows each packet of a recording.
 
-ghost use Rattle.std.specs.Prelude.{◌≡◌, ◌≢◌, ◌↔◌, ◌-◌, [], ◌∷◌, ◌++◌, ℕ, List, IfOk, IfErr, IsTrue, OnOk, true, false, is_some, string_bytes};
+ghost use Rattle.std.specs.Prelude.{◌≡◌, ◌≢◌, ◌↔◌, ◌-◌, [], ◌∷◌, ◌++◌, ℕ, List, IfOk, IfErr, IsTrue, OnErr, OnOk, true, false, is_some, string_bytes};
 ghost use Rattle.mysql_conversation.specs.Pipelined.{Numbered};
 ghost use Rattle.mysql_show.specs.Appended.{Stays};
-ghost use Rattle.mysql_conversation.specs.Session.{IsSession};
-ghost use Rattle.mysql_recorder.specs.Followed.{IsAtRest, IsFollowed, IsResynced, IsResyncedAfter, may_wait};
+ghost use Rattle.mysql_conversation.specs.Session.{IsSession, IsSessionBeginning};
+ghost use Rattle.mysql_conversation.specs.Piped.{place};
+ghost use Rattle.mysql_observer.specs.Observed.{Observed, Resumed, ResumedAfter, last_exchange, limit};
 ghost use Rattle.mysql_recorder.specs.Entries.{entry_as};
 ghost use Rattle.mysql_conversation.specs.declared.packet_kind_tag.PacketKindTag as names_of;
+ghost use Rattle.mysql_conversation.specs.declared.packet_kind.PacketKind as kinds;
 ghost use Rattle.mysql_conversation.specs.declared.pipeline.SessionError as refusals;
-ghost use Rattle.mysql_recorder.specs.Reasons.{IsReasonOf};
-ghost use Rattle.mysql_recorder.specs.Refused.{ShowsRefused, expected_fields, refusal_text};
+ghost use Rattle.mysql_conversation.specs.declared.pipeline.SessionError.TheVariants as refusal;
+ghost use Rattle.mysql_recorder.specs.Reasons.{IsReason};
+ghost use Rattle.mysql_recorder.specs.Refused.{MayCome, ShowsRefused, expected_fields, refusal_text};
 ghost use Rattle.mysql_recorder.specs.Refusals.{AppendsRefused, Expects, IfLine, IfRefused, Refuses};
 ghost use Rattle.mysql_recorder.specs.Shown.{Appends};
 ghost use Rattle.mysql_recorder.specs.Entries.{notice_text};
+ghost use Rattle.mysql_recorder.specs.Sides.{IsAtRest};
 ghost use Rattle.mysql_recorder.specs.Steps.{notice_exchange};
 ghost use Rattle.mysql_recorder.specs.Sums.{AppendsSomeSums};
 ghost use Rattle.mysql_show.specs.Fields.{have_float};
@@ -22,18 +26,44 @@ ghost use Rattle.mysql_recorder.specs.declared.packets.Taken.TheVariants as take
 use crate::entry::{Layout, Notice, Packet};
 use crate::error::RecordingError;
 use crate::fields::{append_client, append_server};
-use crate::followed::Followed;
-use crate::partial_query::append_partial_query;
-use crate::prepared::Prepared;
 use crate::sums::Sums;
 use crate::unheard::{Front, Unheard};
 use mysql_conversation::{PacketKind, PacketKindTag, SessionError, Side};
+use mysql_observer::{ObservedPacket, Observer, ObserverLimits};
 use mysql_replies::SessionCapabilities;
 use mysql_show::Field;
+use mysql_statements::{PipelinedLimits, StatementLimits};
 use std::alloc::{AllocError, Global};
 
 /// The number of bytes that are shown of an unexpected packet.
 const BEGINNING: usize = 64;
+
+/// The maximum number of statements, of types of their parameters and columns in all, and of types of the columns of a result.
+const STATEMENTS: usize = 4096;
+
+const TYPES: usize = 262_144;
+
+/// The maximum length of a pipelined execution that is kept.
+const EARLY_BYTES: usize = 65_536;
+
+/// The limits of what is kept of a connection in which as many commands may wait.
+fn limits(waiting: usize) -> ObserverLimits
+    ensures { result.waiting ≡ waiting }
+{
+    ObserverLimits {
+        waiting,
+        statements: StatementLimits {
+            statements: STATEMENTS,
+            types: TYPES,
+        },
+        // (between two packets of the server, commands that no longer wait for their turn are held until the next one)
+        early: PipelinedLimits {
+            commands: waiting.saturating_mul(2),
+            bytes: EARLY_BYTES,
+        },
+        columns: TYPES,
+    }
+}
 
 /// The outcome of a packet.
 #[derive(Clone, Copy)]
@@ -46,15 +76,14 @@ pub(crate) enum Taken {
 
 /// The packets of a connection, which are shown one by one.
 ///
-/// It keeps the pipelined commands, the prepared statements, and the state of the conversation.
+/// It keeps what an observer does, and the sums.
 #[derive(Drop)]
 pub(crate) struct Packets {
     alloc: Global,
     layout: Layout,
-    followed: Followed,
-    prepared: Prepared,
-    /// The number of columns of a text row: the count at the start of its result.
-    columns: usize,
+    observer: Observer,
+    /// Whether the recording contains the decrypted contents of TLS.
+    is_deciphered: bool,
     /// The commands that were pipelined since the last packet of the server.
     unheard: Unheard,
     /// The sums, if they are requested.
@@ -77,18 +106,17 @@ fn refusal_name(why: SessionError) -> &'static str
 impl Packets {
     /// None came of a connection from its greeting on, in which as many commands may wait.
     pub(crate) fn new(alloc: Global, layout: Layout, waiting: usize) -> Self
-        ensures followed { IsFollowed result.followed [] }
+        ensures observed { Observed result.observer [] }
         ensures layout { result.layout ≡ layout }
-        ensures may_wait { may_wait result.followed ≡ waiting }
-        ensures deciphered { result.followed.is_deciphered ≡ false }
+        ensures may_wait { limit result.observer ≡ waiting }
+        ensures deciphered { result.is_deciphered ≡ false }
         ensures sums { is_some result.sums ≡ false }
     {
         Packets {
             alloc,
             layout,
-            followed: Followed::whole(alloc, waiting),
-            prepared: Prepared::new(alloc, waiting),
-            columns: 0,
+            observer: Observer::new(alloc, limits(waiting)),
+            is_deciphered: false,
             unheard: Unheard::none(),
             sums: None,
         }
@@ -96,7 +124,8 @@ impl Packets {
 
     /// Sums the following packets.
     pub(crate) fn sum(&mut self)
-        ensures followed { self.new.followed ≡ self.old.followed }
+        ensures observer { self.new.observer ≡ self.old.observer }
+        ensures deciphered { self.new.is_deciphered ≡ self.old.is_deciphered }
         ensures layout { self.new.layout ≡ self.old.layout }
         ensures sums { is_some self.new.sums ≡ true }
     {
@@ -105,13 +134,13 @@ impl Packets {
 
     /// Declares that the recording contains the decrypted contents of TLS.
     pub(crate) fn tls_established(&mut self)
-        ensures followed { (items : List Numbered) → IsFollowed self.old.followed items → IsFollowed self.new.followed items }
-        ensures may_wait { may_wait self.new.followed ≡ may_wait self.old.followed }
-        ensures deciphered { self.new.followed.is_deciphered ≡ true }
+        ensures observed { (items : List Numbered) → Observed self.old.observer items → Observed self.new.observer items }
+        ensures may_wait { limit self.new.observer ≡ limit self.old.observer }
+        ensures deciphered { self.new.is_deciphered ≡ true }
         ensures layout { self.new.layout ≡ self.old.layout }
         ensures sums { self.new.sums ≡ self.old.sums }
     {
-        self.followed.tls_established();
+        self.is_deciphered = true;
     }
 
     /// Appends the sums, where they are asked for.
@@ -128,15 +157,15 @@ impl Packets {
 
     /// The capabilities that both sides agreed on, after the login.
     pub(crate) fn agreed(&self) -> Option<SessionCapabilities> {
-        self.followed.agreed()
+        self.observer.agreed()
     }
 
     /// Whether every command is answered.
     pub(crate) fn is_idle(&self) -> bool
-        ensures whole { (items : List Numbered) → IsFollowed self.now.followed items → IsTrue result ↔ IsSession items }
-        ensures rests { IsTrue result → IsAtRest self.now.followed.connection }
+        ensures whole { (items : List Numbered) → Observed self.now.observer items → IsTrue result ↔ IsSession items }
+        ensures rests { IsTrue result → IsAtRest self.now.observer }
     {
-        self.followed.is_idle()
+        self.observer.is_idle()
     }
 
     /// The only command that was pipelined since the last packet of the server, if there is exactly one.
@@ -144,47 +173,28 @@ impl Packets {
         self.unheard.only()
     }
 
-    /// Goes on at the next command, under what both sides agreed on.
-    pub(crate) fn take_up(&mut self, agreed: SessionCapabilities)
-        ensures resync { IsResynced self.new.followed agreed [] self.old.followed.last }
+    /// Goes on at the next command, under what both sides agreed on: midway, or after a loss.
+    pub(crate) fn resume(&mut self, agreed: SessionCapabilities)
+        ensures resumed { Resumed self.new.observer agreed (last_exchange self.old.observer) [] }
         ensures layout { self.new.layout ≡ self.old.layout }
-        ensures may_wait { may_wait self.new.followed ≡ may_wait self.old.followed }
-        ensures deciphered { self.new.followed.is_deciphered ≡ self.old.followed.is_deciphered }
+        ensures may_wait { limit self.new.observer ≡ limit self.old.observer }
+        ensures deciphered { self.new.is_deciphered ≡ self.old.is_deciphered }
         ensures sums { self.new.sums ≡ self.old.sums }
     {
-        self.followed.take_up(agreed);
-    }
-
-    /// Goes on at the next command after a loss, under what both sides agreed on: nothing is known of statements.
-    pub(crate) fn lose(&mut self, agreed: SessionCapabilities) -> Result<(), AllocError>
-        ensures resync { IsResynced self.new.followed agreed [] self.old.followed.last }
-        ensures layout { self.new.layout ≡ self.old.layout }
-        ensures may_wait { may_wait self.new.followed ≡ may_wait self.old.followed }
-        ensures deciphered { self.new.followed.is_deciphered ≡ self.old.followed.is_deciphered }
-        ensures sums { self.new.sums ≡ self.old.sums }
-    {
-        self.followed.take_up(agreed);
+        self.observer.resume(agreed);
         self.unheard = Unheard::none();
-        self.prepared.lose();
-        Ok(())
     }
 
     /// Continues after a command, the last so far: the answer to the previous one is lost.
-    pub(crate) fn lose_answer(
-        &mut self,
-        agreed: SessionCapabilities,
-        command: &Front,
-    ) -> Result<(), AllocError>
-        ensures resync { (front : List ℕ) × IsResyncedAfter self.new.followed agreed front (self.old.followed.last - 1) }
+    pub(crate) fn resume_after(&mut self, agreed: SessionCapabilities, command: &Front)
+        ensures resumed { (front : List ℕ) × ResumedAfter self.new.observer agreed (last_exchange self.old.observer - 1) front }
         ensures layout { self.new.layout ≡ self.old.layout }
-        ensures may_wait { may_wait self.new.followed ≡ may_wait self.old.followed }
-        ensures deciphered { self.new.followed.is_deciphered ≡ self.old.followed.is_deciphered }
+        ensures may_wait { limit self.new.observer ≡ limit self.old.observer }
+        ensures deciphered { self.new.is_deciphered ≡ self.old.is_deciphered }
         ensures sums { self.new.sums ≡ self.old.sums }
     {
-        self.followed.take_up_after(agreed, command.as_slice());
+        self.observer.resume_after(agreed, command.as_slice());
         self.unheard = Unheard::none();
-        self.prepared.lose();
-        Ok(())
     }
 
     /// Appends a notice about a side's stream. If the client's stream is resynchronized, an exchange begins.
@@ -196,7 +206,7 @@ impl Packets {
         out: &mut String,
     ) -> Result<(), AllocError>
         ensures text { OnOk result (have_float (field.entry ∷ []) ≡ false → string_bytes out.new
-            ≡ string_bytes out.old ++ notice_text self.now.layout side (notice_exchange kind.now side self.now.followed.last) kind.now (field.entry ∷ [])) }
+            ≡ string_bytes out.old ++ notice_text self.now.layout side (notice_exchange kind.now side (last_exchange self.now.observer)) kind.now (field.entry ∷ [])) }
         ensures stays { OnOk result (Stays (string_bytes out.old) (string_bytes out.new)) }
     {
         let notice = Notice {
@@ -209,10 +219,12 @@ impl Packets {
 
     /// The last exchange; if the client's stream is resynchronized, the one that begins.
     fn notice_exchange(&self, kind: &str, side: Side) -> u64
-        ensures { result ≡ notice_exchange kind.now side self.now.followed.last }
+        ensures { result ≡ notice_exchange kind.now side (last_exchange self.now.observer) }
     {
         let is_next = kind == "resync" && side == Side::Client;
-        self.followed.last().saturating_add(u64::from(is_next))
+        self.observer
+            .last_exchange()
+            .saturating_add(u64::from(is_next))
     }
 
     /// Takes a packet, and appends what it says.
@@ -223,36 +235,61 @@ impl Packets {
         payload: &[u8],
         out: &mut String,
     ) -> Result<Taken, RecordingError>
-        ensures shown { IfOk result (λ taken. taken ≡ taken_as.Shown → (items : List Numbered) → IsFollowed self.old.followed items
-            → ShowsPacket self.old.layout side sequence payload.now items self.new.followed (string_bytes out.old) (string_bytes out.new)) }
-        ensures lost { IfOk result (λ taken. taken ≢ taken_as.Shown → (items : List Numbered) → IsFollowed self.old.followed items
+        ensures shown { IfOk result (λ taken. taken ≡ taken_as.Shown → (items : List Numbered) → Observed self.old.observer items
+            → ShowsPacket self.old.layout side sequence payload.now items self.new.observer (string_bytes out.old) (string_bytes out.new)) }
+        ensures lost { IfOk result (λ taken. taken ≢ taken_as.Shown → (items : List Numbered) → Observed self.old.observer items
             → (why : refusals.SessionError) × ShowsRefused PacketKindTag.ALL self.old.layout side sequence payload.now items why (string_bytes out.old) (string_bytes out.new)) }
-        ensures refused { IfErr result (λ e. (items : List Numbered) → IsFollowed self.old.followed items
+        ensures refused { IfErr result (λ e. (items : List Numbered) → Observed self.old.observer items
             → IfRefused e (λ why. ShowsRefused PacketKindTag.ALL self.old.layout side sequence payload.now items why (string_bytes out.old) (string_bytes out.new))) }
-        // Also of a connection that is taken up amid it:
-        ensures reason { IfErr result (λ e. IfRefused e (λ why. IsReasonOf self.old.followed.connection side payload.now why)) }
+        // Also of a connection that is resumed:
+        ensures reason { IfErr result (λ e. IfRefused e (λ why. IsReason self.old.observer side payload.now why)) }
         ensures stays { IfOk result (λ taken. Stays (string_bytes out.old) (string_bytes out.new)) }
         ensures layout { self.new.layout ≡ self.old.layout }
-        ensures may_wait { may_wait self.new.followed ≡ may_wait self.old.followed }
-        ensures deciphered { self.new.followed.is_deciphered ≡ self.old.followed.is_deciphered }
+        ensures may_wait { limit self.new.observer ≡ limit self.old.observer }
+        ensures deciphered { self.new.is_deciphered ≡ self.old.is_deciphered }
         ensures sums { is_some self.new.sums ≡ is_some self.old.sums }
         ensures no_line { IfErr result (λ e. IfLine e ⊥) }
     {
-        let is_between = self.followed.is_idle();
-        match self.followed.next(side, payload) {
-            Ok((kind, exchange)) => {
+        let is_between = self.observer.is_idle();
+        match self.next(side, payload) {
+            Ok(seen) => {
+                if !seen.has_memory {
+                    return Err(RecordingError::Memory);
+                }
                 let packet = Packet {
                     side,
                     sequence,
-                    exchange,
-                    kind: kind.name().as_str(),
+                    exchange: seen.exchange,
+                    kind: seen.kind.name().as_str(),
                     payload,
                 };
-                self.show(&packet, kind, is_between, out)?;
+                self.show(&packet, seen.kind, is_between, out)?;
                 Ok(Taken::Shown)
             }
             Err(why) => self.refuse(side, sequence, payload, why, out),
         }
+    }
+
+    /// Which packet it is. After a request for TLS, continues with the decrypted contents, if the recording has them.
+    fn next(&mut self, side: Side, payload: &[u8]) -> Result<ObservedPacket, SessionError>
+        // What came has now this packet, of this kind and exchange, at its end.
+        ensures taken { IfOk result (λ x. (items : List Numbered) → Observed self.old.observer items → Observed self.new.observer (items ++ place side payload.now x.kind x.exchange ∷ [])) }
+        // Of no kind and exchange does the packet go on with what came.
+        ensures refused { IfErr result (λ why. (items : List Numbered) (kind : kinds.PacketKind) (number : ℕ) → why ≡ refusal.UnexpectedPacket → Observed self.old.observer items
+            → IsSessionBeginning (items ++ place side payload.now kind number ∷ []) → ⊥) }
+        // Also of a connection that is resumed:
+        ensures reason { IfErr result (λ why. IsReason self.old.observer side payload.now why) }
+        ensures err { OnErr result ((items : List Numbered) → Observed self.old.observer items → Observed self.new.observer items) }
+        ensures layout { self.new.layout ≡ self.old.layout }
+        ensures may_wait { limit self.new.observer ≡ limit self.old.observer }
+        ensures deciphered { self.new.is_deciphered ≡ self.old.is_deciphered }
+        ensures sums { self.new.sums ≡ self.old.sums }
+    {
+        let seen = self.observer.next(side, payload);
+        if self.is_deciphered {
+            self.observer.tls_established();
+        }
+        seen
     }
 
     /// Appends an unexpected packet. Before the login is done, it ends the recording.
@@ -264,25 +301,25 @@ impl Packets {
         why: SessionError,
         out: &mut String,
     ) -> Result<Taken, RecordingError>
-        ensures ok { IfOk result (λ taken. (taken ≢ taken_as.Shown) × Refuses PacketKindTag.ALL self.now.layout self.now.followed side sequence payload.now why (string_bytes out.old) (string_bytes out.new)) }
-        ensures err { IfErr result (λ e. IfRefused e (λ shown. (shown ≡ why) × Refuses PacketKindTag.ALL self.now.layout self.now.followed side sequence payload.now why (string_bytes out.old) (string_bytes out.new))) }
+        ensures ok { IfOk result (λ taken. (taken ≢ taken_as.Shown) × Refuses PacketKindTag.ALL self.now.layout self.now.observer side sequence payload.now why (string_bytes out.old) (string_bytes out.new)) }
+        ensures err { IfErr result (λ e. IfRefused e (λ shown. (shown ≡ why) × Refuses PacketKindTag.ALL self.now.layout self.now.observer side sequence payload.now why (string_bytes out.old) (string_bytes out.new))) }
         ensures no_line { IfErr result (λ e. IfLine e ⊥) }
     {
         let packet = Packet {
             side,
             sequence,
-            exchange: self.followed.last(),
+            exchange: self.observer.last_exchange(),
             kind: "refused",
             payload,
         };
         self.show_refused(&packet, why, out)?;
-        match self.followed.agreed() {
+        match self.observer.agreed() {
             Some(agreed) => Ok(Taken::Refused(agreed)),
             None => Err(RecordingError::Refused(why)),
         }
     }
 
-    /// Appends a packet, and keeps what later packets depend on.
+    /// Appends a packet.
     fn show(
         &mut self,
         packet: &Packet<'_>,
@@ -291,7 +328,8 @@ impl Packets {
         out: &mut String,
     ) -> Result<(), AllocError>
         ensures ok { OnOk result (Appends self.old.layout (entry_as packet.now) (string_bytes out.old) (string_bytes out.new)) }
-        ensures followed { self.new.followed ≡ self.old.followed }
+        ensures observer { self.new.observer ≡ self.old.observer }
+        ensures deciphered { self.new.is_deciphered ≡ self.old.is_deciphered }
         ensures layout { self.new.layout ≡ self.old.layout }
         ensures sums { is_some self.new.sums ≡ is_some self.old.sums }
     {
@@ -301,57 +339,9 @@ impl Packets {
         let is_early = !is_between && matches!(kind, PacketKind::Command(_));
         self.unheard
             .hear(packet.side, kind, is_early, packet.payload);
-        if let PacketKind::ColumnCount(count, _) = kind {
-            self.columns = usize::try_from(count).unwrap_or(usize::MAX);
-        }
         match packet.side {
-            Side::Client => {
-                self.serve(packet, is_early)?;
-                self.show_client(packet, kind, is_early, out)?;
-                self.keep(packet, kind, is_early)
-            }
-            Side::Server => {
-                self.keep(packet, kind, false)?;
-                self.show_server(packet, kind, out)
-            }
-        }
-    }
-
-    /// Applies the pipelined commands, up to the exchange of a packet that isn't pipelined.
-    fn serve(&mut self, packet: &Packet<'_>, is_early: bool) -> Result<(), AllocError>
-        ensures followed { self.new.followed ≡ self.old.followed }
-        ensures layout { self.new.layout ≡ self.old.layout }
-        ensures sums { self.new.sums ≡ self.old.sums }
-    {
-        let Some(agreed) = self.followed.agreed() else {
-            return Ok(());
-        };
-        if is_early {
-            Ok(())
-        } else {
-            self.prepared.serve(agreed, packet.exchange)
-        }
-    }
-
-    /// Keeps what a packet says of statements.
-    fn keep(
-        &mut self,
-        packet: &Packet<'_>,
-        kind: PacketKind,
-        is_early: bool,
-    ) -> Result<(), AllocError>
-        ensures followed { self.new.followed ≡ self.old.followed }
-        ensures layout { self.new.layout ≡ self.old.layout }
-        ensures sums { self.new.sums ≡ self.old.sums }
-    {
-        let Some(agreed) = self.followed.agreed() else {
-            return Ok(());
-        };
-        if is_early {
-            self.prepared.hold(packet.exchange, packet.payload)
-        } else {
-            self.prepared
-                .take(agreed, kind, packet.exchange, packet.payload)
+            Side::Client => self.show_client(packet, kind, out),
+            Side::Server => self.show_server(packet, kind, out),
         }
     }
 
@@ -362,7 +352,7 @@ impl Packets {
         why: SessionError,
         out: &mut String,
     ) -> Result<(), AllocError>
-        ensures ok { OnOk result (AppendsRefused PacketKindTag.ALL self.now.layout self.now.followed (entry_as packet.now) why (string_bytes out.old) (string_bytes out.new)) }
+        ensures ok { OnOk result (AppendsRefused PacketKindTag.ALL self.now.layout self.now.observer (entry_as packet.now) why (string_bytes out.old) (string_bytes out.new)) }
     {
         let payload = packet.payload;
         let mut fields = Vec::new(self.alloc);
@@ -378,7 +368,7 @@ impl Packets {
         all: &[PacketKindTag],
         fields: &mut Vec<Field<'_>>,
     ) -> Result<(), AllocError>
-        ensures ok { OnOk result ((names : List names_of.PacketKindTag) × (fields.new.items ≡ fields.old.items ++ expected_fields names) × Expects self.now.followed all.now names) }
+        ensures ok { OnOk result ((names : List names_of.PacketKindTag) × (fields.new.items ≡ fields.old.items ++ expected_fields names) × Expects self.now.observer all.now names) }
     {
         for name in all {
             self.append_name(*name, fields)?;
@@ -392,39 +382,38 @@ impl Packets {
         name: PacketKindTag,
         fields: &mut Vec<Field<'_>>,
     ) -> Result<(), AllocError>
-        ensures ok { OnOk result ((names : List names_of.PacketKindTag) × (fields.new.items ≡ fields.old.items ++ expected_fields names) × Expects self.now.followed (name ∷ []) names) }
+        ensures ok { OnOk result ((names : List names_of.PacketKindTag) × (fields.new.items ≡ fields.old.items ++ expected_fields names) × Expects self.now.observer (name ∷ []) names) }
     {
-        if self.followed.may_receive(name) {
+        if self.may_receive(name) {
             fields.push(Field::word("expected", name.as_str()))?;
         }
         Ok(())
+    }
+
+    /// Whether a packet of this kind may come next, from either side.
+    fn may_receive(&self, name: PacketKindTag) -> bool
+        ensures { (items : List Numbered) → Observed self.now.observer items → IsTrue result ↔ MayCome items name }
+    {
+        self.observer.may_receive(Side::Client, name)
+            || self.observer.may_receive(Side::Server, name)
     }
 
     fn show_client(
         &self,
         packet: &Packet<'_>,
         kind: PacketKind,
-        is_early: bool,
         out: &mut String,
     ) -> Result<(), AllocError>
         ensures ok { OnOk result (Appends self.now.layout (entry_as packet.now) (string_bytes out.old) (string_bytes out.new)) }
     {
-        let agreed = self.followed.agreed();
-        let statement = if is_early {
-            None
-        } else {
-            self.prepared.executed(kind, packet.payload)
-        };
         let mut fields = Vec::new(self.alloc);
         append_client(
             self.alloc,
-            agreed,
-            statement,
+            &self.observer,
             kind,
             packet.payload,
             &mut fields,
         )?;
-        append_partial_query(self.alloc, agreed, kind, packet.payload, &mut fields)?;
         packet.append(self.alloc, self.layout, fields.as_slice(), out)
     }
 
@@ -436,14 +425,10 @@ impl Packets {
     ) -> Result<(), AllocError>
         ensures ok { OnOk result (Appends self.now.layout (entry_as packet.now) (string_bytes out.old) (string_bytes out.new)) }
     {
-        let agreed = self.followed.agreed();
-        let columns = self.prepared.columns(packet.exchange);
         let mut fields = Vec::new(self.alloc);
         append_server(
             self.alloc,
-            agreed,
-            self.columns,
-            columns,
+            &self.observer,
             kind,
             packet.payload,
             &mut fields,

@@ -1,11 +1,11 @@
 //! A query whose attributes are malformed, as far as it can be read.
 
 use crate::values::{append_attributes, append_unread};
-use mysql_commands::{ComQueryRef, read_query_attributes};
+use mysql_commands::read_query_attributes;
 use mysql_conversation::PacketKind;
 use mysql_replies::SessionCapabilities;
 use mysql_show::Field;
-use mysql_wire::{CapabilityFlags, FaultOf, Flags, ParseBuf};
+use mysql_wire::{CapabilityFlags, Flags, ParseBuf};
 use std::alloc::{AllocError, Global};
 
 /// The first byte of `COM_QUERY`.
@@ -23,18 +23,11 @@ pub(crate) fn append_partial_query<'p>(
     let Some(agreed) = agreed else {
         return Ok(());
     };
-    // (a query without attributes is never refused)
     if kind != PacketKind::Command(QUERY)
         || !agreed
             .mysql
             .contains(CapabilityFlags::CLIENT_QUERY_ATTRIBUTES)
     {
-        return Ok(());
-    }
-    let read: Result<ComQueryRef<'p>, FaultOf<'_>> = ParseBuf::new(alloc, payload).parse(
-        agreed.mysql,
-    );
-    if read.is_ok() {
         return Ok(());
     }
     match read_query_attributes(ParseBuf::new(alloc, payload)) {

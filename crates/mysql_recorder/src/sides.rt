@@ -2,7 +2,7 @@
 
 ghost use Rattle.std.specs.Prelude.{◌≡◌, ◌≢◌, ◌↔◌, ◌-◌, ◌∷◌, [], ◌++◌, ℕ, List, IfOk, IfErr, IsTrue, OnOk, None, true, false, string_bytes};
 ghost use Rattle.mysql_show.specs.Appended.{Stays};
-ghost use Rattle.mysql_recorder.specs.Followed.{IsResynced, IsResyncedAfter};
+ghost use Rattle.mysql_observer.specs.Observed.{Resumed, ResumedAfter, last_exchange};
 ghost use Rattle.mysql_recorder.specs.Frames.{Piece};
 ghost use Rattle.mysql_recorder.specs.Losses.{PieceLoses, PieceLosesIn};
 ghost use Rattle.mysql_recorder.specs.Refusals.{IfLine, IfRefused};
@@ -62,13 +62,13 @@ impl Sides {
 
     /// Takes up a connection at its next command, under what both sides agreed on. Both streams are out of step up to there.
     pub(crate) fn take_up_at(&mut self, agreed: SessionCapabilities)
-        ensures resync { spec.IsResynced self.new agreed self.old.packets.followed.last }
+        ensures resync { spec.IsResynced self.new agreed (last_exchange self.old.packets.observer) }
         ensures lost { spec.has_lost self.new ≡ spec.has_lost self.old }
         ensures settings { spec.KeepsSettings self.old self.new }
     {
         self.client = Stream::new(self.alloc, self.longest, false);
         self.server = Stream::new(self.alloc, self.longest, false);
-        self.packets.take_up(agreed);
+        self.packets.resume(agreed);
     }
 
     /// Sums the following packets.
@@ -293,40 +293,33 @@ impl Sides {
             }
             _ => self.be_lost(agreed),
         }
+        Ok(())
     }
 
     /// Puts the server's stream out of step, up to the answer to this command, which has come: the answer to the previous one
     /// is missing.
-    fn lose_answer(
-        &mut self,
-        agreed: SessionCapabilities,
-        command: &Front,
-    ) -> Result<(), RecordingError>
+    fn lose_answer(&mut self, agreed: SessionCapabilities, command: &Front)
         ensures lost { spec.has_lost self.new ≡ true }
-        ensures resync { (front : List ℕ) × IsResyncedAfter self.new.packets.followed agreed front (self.old.packets.followed.last - 1) }
-        ensures refused { IfErr result (λ e. IfRefused e (λ why. ⊥)) }
+        ensures resumed { (front : List ℕ) × ResumedAfter self.new.packets.observer agreed (last_exchange self.old.packets.observer - 1) front }
         ensures settings { spec.KeepsSettings self.old self.new }
-        ensures no_line { IfErr result (λ e. IfLine e ⊥) }
     {
         self.has_lost = true;
         self.server.lose();
         self.answer = Some(self.client.number());
-        Ok(self.packets.lose_answer(agreed, command)?)
+        self.packets.resume_after(agreed, command);
     }
 
     /// Has both streams out of step, up to the next command.
-    fn be_lost(&mut self, agreed: SessionCapabilities) -> Result<(), RecordingError>
+    fn be_lost(&mut self, agreed: SessionCapabilities)
         ensures lost { spec.has_lost self.new ≡ true }
-        ensures resync { IsResynced self.new.packets.followed agreed [] self.old.packets.followed.last }
-        ensures refused { IfErr result (λ e. IfRefused e (λ why. ⊥)) }
+        ensures resumed { Resumed self.new.packets.observer agreed (last_exchange self.old.packets.observer) [] }
         ensures settings { spec.KeepsSettings self.old self.new }
-        ensures no_line { IfErr result (λ e. IfLine e ⊥) }
     {
         self.has_lost = true;
         self.client.lose();
         self.server.lose();
         self.answer = None;
-        Ok(self.packets.lose(agreed)?)
+        self.packets.resume(agreed);
     }
 
     /// Takes a piece of a side's stream, and appends what its packets say.
@@ -375,7 +368,7 @@ impl Sides {
         match came {
             Came::Whole => Ok(()),
             Came::Refused(agreed, left) => {
-                self.be_lost(agreed)?;
+                self.be_lost(agreed);
                 self.pass_over(side, left);
                 Ok(())
             }

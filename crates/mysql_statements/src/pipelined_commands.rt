@@ -81,6 +81,13 @@ impl PipelinedCommands {
         Ok(true)
     }
 
+    /// Forgets the commands that wait.
+    pub fn clear(&mut self)
+        ensures { self.new ≡ spec.none_waits self.old.limits }
+    {
+        self.commands = VecDeque::new(self.alloc);
+    }
+
     /// Returns the first command that waits, if the server has reached the exchange with that number: the command's own, or a
     /// later one.
     pub fn serve(&mut self, number: u64) -> Option<PipelinedCommand>

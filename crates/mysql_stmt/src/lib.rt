@@ -18,7 +18,7 @@ pub use mysql_prepared::{
     ExecuteParamsBytes, ExecuteParamsView, InvalidComStmtCloseHeader, InvalidComStmtExecuteHeader,
     InvalidComStmtSendLongDataHeader, InvalidIterationCount, InvalidStmtPacketStatus, ItemForm,
     Items, IterationCount, NullBitmap, QueryAttribute, QueryAttributesView, Row, RowDeserializer,
-    RowProtocol, StmtPacket, StmtPacketWithMetadata, TextRowView, TypedColumn, TypedExecuteParam,
-    TypedExecutionError, laws, new_row, new_row_raw, write_binary_row, write_binary_row_to_slice,
-    write_text_row,
+    RowProtocol, RowView, StmtPacket, StmtPacketWithMetadata, StoredForm, StoredRow, TextRowView,
+    TypedColumn, TypedExecuteParam, TypedExecutionError, laws, new_row, new_row_raw,
+    write_binary_row, write_binary_row_to_slice, write_text_row,
 };

@@ -1,19 +1,20 @@
 //! A connection that is observed, from its greeting on.
 //!
 //! `observer WAITING STATEMENTS TYPES EARLY BYTES COLUMNS WORD ..`: a given number of commands may wait, a given number of statements are kept with a given number of types, and this many
-//! early commands of a given number of bytes, and the types of this many columns of a result. A word is `>` or `<` with the bytes of a payload of the client or the server, or `tls`: what comes is deciphered.
+//! early commands of a given number of bytes, and the types of this many columns of a result. A word is `>` or `<` with the bytes of a payload of the client or the server; `tls`: what comes is deciphered;
+//! or `resume=FLAGS` or `resume=FLAGS>BYTES`: the connection is resumed at the next command, or after this one, under these capabilities.
 //! Of an execution its parameters are read, of each row its values, and of an event its size. After a value of a row of text stands `=i` or `=u` and the number that it converts to, if the type of its column is known
 //! and is one of integers, signed or unsigned.
 
 use crate::conversation::{piece_of, show_kind};
 use crate::statements::{show, show_param, show_value};
-use mysql_packets::constants::ColumnType;
+use mysql_packets::constants::{CapabilityFlags, ColumnType, Flags, MariadbCapabilities};
 use mysql_packets::conversation::{SessionError, Side};
 use mysql_packets::io::FaultOf;
 use mysql_packets::observer::{
     ClientRecord, ObservedPacket, Observer, ObserverLimits, ServerPacket,
 };
-use mysql_packets::packets::ExecuteParamsView;
+use mysql_packets::packets::{ExecuteParamsView, SessionCapabilities};
 use mysql_packets::row::{BinaryRowView, TextRowView};
 use mysql_packets::statements::{PipelinedLimits, RowColumn, StatementLimits};
 use mysql_packets::value::convert::FromValueRef;
@@ -186,6 +187,30 @@ fn take(out: &mut Out, observer: &mut Observer, side: Side, payload: &[u8]) -> b
     false
 }
 
+/// Resumes the connection, and returns whether the word says so.
+fn resume(request: &Request<'_>, observer: &mut Observer, word: &str) -> bool {
+    let Some(words) = word.strip_prefix("resume=") else {
+        return false;
+    };
+    let (flags, command) = match words.split_once('>') {
+        Some((flags, command)) => (flags, Some(command)),
+        None => (words, None),
+    };
+    let agreed = SessionCapabilities {
+        mysql: CapabilityFlags::from_bits_retain(u32::from_str_radix(flags, 16).unwrap_or(0)),
+        mariadb: MariadbCapabilities::from_bits_retain(0),
+    };
+    let command = match command {
+        Some(digits) => hex::decode(request.alloc, digits).ok(),
+        None => None,
+    };
+    match command {
+        Some(command) => observer.resume_after(agreed, command.as_slice()),
+        None => observer.resume(agreed),
+    }
+    true
+}
+
 /// Adds what becomes of the packets.
 pub fn observer(out: &mut Out, request: &Request<'_>) {
     let limits = ObserverLimits {
@@ -204,6 +229,12 @@ pub fn observer(out: &mut Out, request: &Request<'_>) {
     for word in request.line.split(' ').skip(7) {
         if word == "tls" {
             observer.tls_established();
+            continue;
+        }
+        if resume(request, &mut observer, word) {
+            out.word("resumed");
+            out.push("#");
+            out.display(&observer.last_exchange());
             continue;
         }
         let Some((side, payload)) = piece_of(request.alloc, word) else {

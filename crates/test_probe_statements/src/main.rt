@@ -19,7 +19,7 @@ mod texts;
 mod values;
 
 use crate::prelude::*;
-use crate::rows::{views, written};
+use crate::rows::{stored, views, written};
 use std::io;
 use test_probe::{Answers, run};
 
@@ -35,7 +35,7 @@ fn of_statements(out: &mut Out, request: &Request<'_>) -> bool {
             "execute": execute::execute, "execute_many": execute::execute_many,
             "execute_with": execute::execute_with, "execute_at_once": execute::at_once, "execute_typed": execute_typed::execute_typed, "com_execute": execute_read::com_execute, "com_execute_attributes": execute_read::com_execute_attributes, "long_data": stmt::long_data,
             "close": stmt::close, "bitmap": bitmaps::bitmap, "bits": bitmaps::bits, "row_equal": rows::row_equal,
-            "write_row_text": written::text, "write_row": written::binary, "write_row_params": execute_typed::write_row_params,
+            "store_text": stored::text, "store": stored::binary, "write_row_text": written::text, "write_row": written::binary, "write_row_params": execute_typed::write_row_params,
             "row_text_again": written::text_again, "row_again": written::binary_again,
             "new_row": rows::made_row, "new_row_raw": rows::made_row_raw, "unwrap": rows::unwrap, "column_typed": rows::column_typed,)
 }

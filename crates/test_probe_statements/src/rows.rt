@@ -13,6 +13,7 @@
 //! `column_typed BYTES` reads a column, and says whether the one that stays in its packet types values as it does.
 
 mod calls;
+pub mod stored;
 pub mod views;
 pub mod written;
 

@@ -24,7 +24,7 @@ class Session:
         return self.library.text(span).decode("utf-8", "surrogateescape")
 
     def _flags(self, prefix: str, names: Sequence[str]) -> int:
-        return sum(getattr(self.library, prefix + name) for name in names)
+        return sum(self.library.numbers[prefix + name] for name in names)
 
     # ---- a connection that is observed
 

@@ -138,9 +138,10 @@ def _float(value: Any, column: int, row: int) -> Optional[float]:
     return None if value is None else float(value)
 
 
-def _midnight(value: Any) -> Sent:
-    is_date = isinstance(value, datetime.date) and not isinstance(value, datetime.datetime)
-    return datetime.datetime(value.year, value.month, value.day) if is_date else value
+def _midnight(value: Sent) -> Sent:
+    if isinstance(value, datetime.date) and not isinstance(value, datetime.datetime):
+        return datetime.datetime(value.year, value.month, value.day)
+    return value
 
 
 class Packed:

@@ -4,7 +4,7 @@ use Rattle.std.specs.Cow.{cow_slice_items}
 use Rattle.mysql_conversation.specs.Pipelined.{Numbered}
 use Rattle.mysql_conversation.specs.declared.packet_kind_tag.TheConstants.PacketKindTag.{ALL}
 use Rattle.mysql_conversation.specs.declared.pipeline.SessionError.{SessionError}
-use Rattle.mysql_recorder.specs.Followed.{IsFollowed}
+use Rattle.mysql_observer.specs.Observed.{Observed}
 use Rattle.mysql_recorder.specs.Frames.{IsNumbered}
 use Rattle.mysql_recorder.specs.Refused.{ShowsRefused}
 use Rattle.mysql_recorder.specs.Refusals.{IfRefused}
@@ -24,11 +24,11 @@ packets-smaller c =
     subst (λ s. length s.reader.held + length c.next.new.input.now < length c.packets.stream.reader.held + length c.packets.input.now) (sym c.recycle.ensures)
     (packets_less c.packets.stream.reader c.next.new.self.reader c.packets.input.now (cow_slice_items c.in-Ok-Some.sent.payload) c.next.new.input.now (rw c.in-Ok-Some.field-0-is at c.in-Ok-Some.ensures.payload))
 
-shows : (c : goal.In-Ok-Shown) (xs : List Numbered) → IsFollowed c.packets.packets.followed xs
-    → ShowsPacket c.packets.packets.layout c.args.side c.in-Ok-Some.sent.sequence c.as_slice.result.now xs c.take-taken.new.self.followed (string_bytes c.packets.out) (string_bytes c.take-taken.new.out)
+shows : (c : goal.In-Ok-Shown) (xs : List Numbered) → Observed c.packets.packets.observer xs
+    → ShowsPacket c.packets.packets.layout c.args.side c.in-Ok-Some.sent.sequence c.as_slice.result.now xs c.take-taken.new.self.observer (string_bytes c.packets.out) (string_bytes c.take-taken.new.out)
 shows c =
-    let P : Type 0 = (xs : List Numbered) → IsFollowed c.packets.packets.followed xs
-    → ShowsPacket c.packets.packets.layout c.args.side c.in-Ok-Some.sent.sequence c.as_slice.result.now xs c.take-taken.new.self.followed (string_bytes c.packets.out) (string_bytes c.take-taken.new.out) in
+    let P : Type 0 = (xs : List Numbered) → Observed c.packets.packets.observer xs
+    → ShowsPacket c.packets.packets.layout c.args.side c.in-Ok-Some.sent.sequence c.as_slice.result.now xs c.take-taken.new.self.observer (string_bytes c.packets.out) (string_bytes c.take-taken.new.out) in
     let shown : c.take-taken.result ≡ Ok taken_as.Shown = first_of (cc (c.in-Ok-Shown.is, c.in-Ok-Shown.field-0-is), search rules, grind (rules, c.in-Ok-Shown.is, c.in-Ok-Shown.field-0-is)) in
     at_shown {P = P} c.take-taken.result shown c.take-taken.ensures.shown
 
@@ -61,7 +61,7 @@ returns-in-Err-taken-clause-refused c = λ items h.
     (rw c.as_slice.ensures.value (rw c.in-Ok-Some.field-0-is at c.in-Ok-Some.ensures.payload))
     (rw c.in-Ok-Some.field-0-is at c.in-Ok-Some.ensures.sequence)
     c.packets.invariant.layout
-    (IfErr-at_err (λ e. (xs : List Numbered) → IsFollowed c.packets.packets.followed xs
+    (IfErr-at_err (λ e. (xs : List Numbered) → Observed c.packets.packets.observer xs
     → IfRefused e (λ why. ShowsRefused ALL c.packets.packets.layout c.args.side c.in-Ok-Some.sent.sequence c.as_slice.result.now xs why (string_bytes c.packets.out) (string_bytes c.take-taken.new.out)))
     c.in-Err-taken.is c.take-taken.ensures.refused)
 
@@ -80,7 +80,7 @@ returns-in-Ok-None-clause-none c = λ e n.
 pub returns-in-Ok-Refused-clause-loses : goal.returns-in-Ok-Refused-clause-loses
 returns-in-Ok-Refused-clause-loses c = λ e items h.
     let r = c.packets.invariant.reads items h in
-    let P : Type 0 = (xs : List Numbered) → IsFollowed c.packets.packets.followed xs
+    let P : Type 0 = (xs : List Numbered) → Observed c.packets.packets.observer xs
     → (why : SessionError) × ShowsRefused ALL c.packets.packets.layout c.args.side c.in-Ok-Some.sent.sequence c.as_slice.result.now xs why (string_bytes c.packets.out) (string_bytes c.take-taken.new.out) in
     let refused : c.take-taken.result ≡ Ok (taken_as.Refused c.in-Ok-Refused.agreed) = first_of (cc (c.in-Ok-Refused.is, c.in-Ok-Refused.field-0-is), search rules, grind (rules, c.in-Ok-Refused.is, c.in-Ok-Refused.field-0-is)) in
     loses_packet ALL c.args.side c.args.piece.now c.packets.input.now c.next.new.input.now items r.0 c.args.stream.now c.packets.stream c.next.new.self c.args.packets.now c.packets.packets

@@ -1,4 +1,4 @@
-use Rattle.std.proofs.Common.{◌≡◌, ◌∙◌, subst, sym, ap, ◌++◌, [], ◌∷◌}
+use Rattle.std.proofs.Common.{◌≡◌, ◌∙◌, subst, sym, ap, ◌++◌, [], ◌∷◌, refl}
 use Rattle.mysql_conversation.specs.declared.session.Phase.TheVariants as phase
 use Rattle.mysql_conversation.specs.declared.pipeline.SessionError.TheVariants as refusal
 use Rattle.mysql_conversation.proofs.Places.{neither, only}
@@ -6,6 +6,7 @@ use Rattle.mysql_conversation.proofs.SessionAnswers.{on_err, same_commands, same
 use Rattle.mysql_conversation.specs.Piped.{place}
 use Rattle.mysql_conversation.specs.Session.{TakenIn, IsSessionBeginning}
 use Rattle.mysql_conversation.proofs.Stood.{lift_ok, lift_err}
+use Rattle.mysql_conversation.proofs.Resumed.{none_resumed, resumed_in, resumed_refuses, resumed_same}
 use Rattle.mysql_conversation.proofs.Sessions.{commands_come, commands_more, not_unexpected, commands_refuse, served_more, served_refused, sent_more, sent_refused}
 use Rattle.mysql_conversation.specs.SessionSteps.{is_encrypted}
 use Rattle.mysql_conversation.proofs.session.Session.next.Goals as goal
@@ -97,3 +98,40 @@ returns-in-Client-clause-compressed c =
 
 pub returns-in_default-clause-refused : goal.returns-in_default-clause-refused
 returns-in_default-clause-refused c = λ items k n e t b. commands_is c.args.self.now.phase (sym c.is_commands.ensures ∙ c.if-not-is_commands.false) c.in_default.not-Commands
+
+-- ---- a session that is resumed
+
+pub returns-in-Commands-clause-resumed : goal.returns-in-Commands-clause-resumed
+returns-in-Commands-clause-resumed c = lift_ok c.next.result
+    (λ x h a items r.
+    let u = resumed_in c.args.self.now c.in-Commands.pipeline a items c.in-Commands.is r in
+    (c.next.new.self, refl, c.next.ensures.agreed ∙ u.0, c.next.ensures.opening ∙ u.1, h items u.2))
+    c.next.ensures.taken
+
+pub returns-in-Commands-clause-not_next : goal.returns-in-Commands-clause-not_next
+returns-in-Commands-clause-not_next c = lift_err c.next.result
+    (λ why h a items k n e r.
+    let u = resumed_in c.args.self.now c.in-Commands.pipeline a items c.in-Commands.is r in
+    resumed_refuses c.in-Commands.pipeline a items (place c.args.from c.args.payload.now k n) u (h items k n e u.2))
+    c.next.ensures.refused
+
+pub returns-in-Commands-clause-stays : goal.returns-in-Commands-clause-stays
+returns-in-Commands-clause-stays c = on_err c.next.result
+    (λ st a items r. resumed_same c.args.self.now (record c.args.self.now { phase = phase.Commands c.next.new.self }) a items
+    (same_commands c.args.self.now.phase c.in-Commands.pipeline c.next.new.self c.in-Commands.is c.next.ensures.agreed c.next.ensures.opening c.next.ensures.limit st) r)
+    c.next.ensures.err
+
+pub returns-in-Server-clause-resumed : goal.returns-in-Server-clause-resumed
+returns-in-Server-clause-resumed c = lift_ok c.served.result (λ x h a items r. absurd (none_resumed c.args.self.now a items (sym c.is_commands.ensures ∙ c.if-not-is_commands.true) r)) c.served.ensures.taken
+
+pub returns-in-Server-clause-not_next : goal.returns-in-Server-clause-not_next
+returns-in-Server-clause-not_next c = lift_err c.served.result (λ why h a items k n e r b. none_resumed c.args.self.now a items (sym c.is_commands.ensures ∙ c.if-not-is_commands.true) r) c.served.ensures.refused
+
+pub returns-in-Client-clause-resumed : goal.returns-in-Client-clause-resumed
+returns-in-Client-clause-resumed c = lift_ok c.sent.result (λ x h a items r. absurd (none_resumed c.args.self.now a items (sym c.is_commands.ensures ∙ c.if-not-is_commands.true) r)) c.sent.ensures.taken
+
+pub returns-in-Client-clause-not_next : goal.returns-in-Client-clause-not_next
+returns-in-Client-clause-not_next c = lift_err c.sent.result (λ why h a items k n e r b. none_resumed c.args.self.now a items (sym c.is_commands.ensures ∙ c.if-not-is_commands.true) r) c.sent.ensures.refused
+
+pub returns-in_default-clause-not_next : goal.returns-in_default-clause-not_next
+returns-in_default-clause-not_next c = λ a items k n e r b. commands_is c.args.self.now.phase (sym c.is_commands.ensures ∙ c.if-not-is_commands.false) c.in_default.not-Commands

@@ -6,4 +6,4 @@ use Rattle.mysql_recorder.proofs.packets.Packets.append_expected.Given as goal
 
 abbrev pub invariant-loop-name : goal.invariant-loop-name
 invariant-loop-name l =
-    (names : List PacketKindTag) × (l.fields.items ≡ l.fn.fields.items ++ expected_fields names) × Expects l.self.followed (take l.name-index l.all) names
+    (names : List PacketKindTag) × (l.fields.items ≡ l.fn.fields.items ++ expected_fields names) × Expects l.self.observer (take l.name-index l.all) names

@@ -1,11 +1,9 @@
 use Rattle.std.proofs.Common.{[], ◌∷◌, ◌++◌, ap, ◌∙◌, codes, sym, append-nil}
 use Rattle.mysql_show.specs.Fields.{said, Word}
-use Rattle.mysql_recorder.specs.Refused.{MayCome}
 use Rattle.mysql_recorder.proofs.Refused.{is_expected, is_not_expected}
 use Rattle.mysql_recorder.proofs.packets.Packets.append_name.Goals as goal
 
 pub returns-in_ok-push : goal.returns-in_ok-push
-unfolding MayCome
 returns-in_ok-push c = record {
   ok = (
     c.args.name ∷ [],
@@ -15,7 +13,6 @@ returns-in_ok-push c = record {
 }
 
 pub returns-else-may_receive : goal.returns-else-may_receive
-unfolding MayCome
 returns-else-may_receive c = record {
   ok = ([], sym (append-nil c.args.fields.now.items), λ items h. is_not_expected items c.args.name c.may_receive.result (c.may_receive.ensures items h) c.if-may_receive.false);
 }

@@ -8,7 +8,7 @@ pub returns : goal.returns
 returns c =
     let names = c.in_ok-append_expected.ensures.ok in
     record {
-      ok = appends_refused c.append.result ALL c.args.self.now.layout c.args.self.now.followed c.args.packet.now c.args.why (string_bytes c.args.out.now) (string_bytes c.append.new.out)
+      ok = appends_refused c.append.result ALL c.args.self.now.layout c.args.self.now.observer c.args.packet.now c.args.why (string_bytes c.args.out.now) (string_bytes c.append.new.out)
           c.as_slice.result.now names.0
           (c.as_slice.ensures.value
           ∙ refused_fields_are c.new-fields.result.items c.push.new.self.items c.push-2.new.self.items c.append_expected.new.fields.items c.bytes.result c.word.result

@@ -6,6 +6,6 @@ returns-clause-stand c = λ pieces items h. record {
   come = h.come;
   client = h.client;
   server = h.server;
-  followed = c.tls_established.ensures.followed (placed items) h.followed;
+  observed = c.tls_established.ensures.observed (placed items) h.observed;
   nothing_lost = h.nothing_lost;
 }
