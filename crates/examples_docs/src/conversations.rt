@@ -6,7 +6,7 @@ use mysql_packets::conversation::{
 };
 use mysql_packets::error::Error;
 use mysql_packets::frames::{next_frame, sequence_id_at, write_frames, write_packet};
-use mysql_packets::observer::{Observer, ServerPacket};
+use mysql_packets::observer::{ClientRecord, Observer, ServerPacket};
 use mysql_packets::packets::{SessionCapabilities, StmtPacket};
 use mysql_packets::statements::RowColumn;
 use std::alloc::Global;
@@ -93,6 +93,15 @@ pub fn kind_after_a_loss(
 ) -> Result<PacketKind, Error> {
     observer.resume(agreed);
     Ok(observer.next(Side::Client, command)?.kind)
+}
+
+/// Whether the parameters of the pipelined execution that the server has reached are known.
+pub fn knows_reached(observer: &Observer) -> Result<bool, Error> {
+    let Some(execution) = observer.reached_execution() else {
+        return Ok(false);
+    };
+    let record = observer.reached_packet(execution.payload())?;
+    Ok(matches!(&record, ClientRecord::Execution(_, _)))
 }
 
 /// Whether a payload of the server is a row.

@@ -378,10 +378,10 @@ impl Observer {
     /// answer to it begins. It came before its statement was known, or before an earlier command could change it.
     ///
     /// ```
-    /// match observer.reached_execution() {
-    ///     Some(execution) => Ok(Some(observer.reached_packet(execution.payload())?)),
-    ///     None => Ok(None),
-    /// }
+    /// let Some(execution) = observer.reached_execution() else {
+    ///     return Ok(false);
+    /// };
+    /// let record = observer.reached_packet(execution.payload())?;
     /// ```
     pub fn reached_execution(&self) -> Option<&PipelinedCommand>
         ensures some { IfSome result (λ c. (r : spec.Reached) × ((observed.tracked self.now).reached ≡ Some r) × (c.now ≡ r.command)) }
@@ -390,7 +390,9 @@ impl Observer {
         self.tracked.reached()
     }
 
-    /// Returns the record of that execution, which has this payload.
+    /// Returns the record of the pipelined execution that the server has reached, which has this payload.
+    ///
+    /// The errors are those of [`client_packet`](Self::client_packet).
     pub fn reached_packet<'s, 'a, 'o>(
         &'o self,
         payload: &'a [u8],

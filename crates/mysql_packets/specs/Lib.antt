@@ -43,6 +43,7 @@ pub use Rattle.mysql_wire.specs.CodecFits
 pub use Rattle.mysql_wire.specs.Codecs
 pub use Rattle.mysql_wire.specs.Codes
 pub use Rattle.mysql_wire.specs.ColumnType
+pub use Rattle.mysql_wire.specs.CommandCodes
 pub use Rattle.mysql_wire.specs.ConstBytes
 pub use Rattle.mysql_wire.specs.Constant
 pub use Rattle.mysql_wire.specs.ConstantValue
