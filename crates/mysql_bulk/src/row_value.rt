@@ -4,7 +4,7 @@ ghost use Rattle.std.specs.Prelude.{◌≡◌, ◌+◌, ◌≤◌, ◌++◌, ◌
 ghost use Rattle.mysql_wire.specs.declared.codes.mariadb_bulk_indicator.MariadbBulkIndicator.TheVariants.{BULK_INDICATOR_NONE, BULK_INDICATOR_NULL};
 ghost use Rattle.mysql_values.specs.ParamType.{type_of};
 ghost use Rattle.mysql_values.specs.SentType.{is_uint};
-ghost use Rattle.mysql_values.specs.Value.{bin_size, content_of, contents_of, size_of};
+ghost use Rattle.mysql_values.specs.Value.{bin_size, contents_of};
 ghost use Rattle.mysql_values.specs.ValueRef.{ref_content};
 ghost use Rattle.mysql_bulk.specs.ParamValue.{cell};
 ghost use Rattle.mysql_bulk.specs.Row.{RefusesValue};
@@ -127,28 +127,28 @@ impl RowValue for Value {
                 values.push_reserved(Value::Bytes(copy));
                 Some(bytes.len() as u64 + 2)
             }
-            _ => push_any(alloc, values, self, most),
+            _ => push_any(alloc, values, &self.as_ref(), most),
         }
     }
 }
 
 /// Appends a copy of a value of any kind, if it has at most `most` bytes.
 #[inline(never)]
-fn push_any(alloc: Global, values: &mut Vec<Value>, value: &Value, most: u64) -> Option<u64>
+fn push_any(alloc: Global, values: &mut Vec<Value>, value: &ValueRef<'_>, most: u64) -> Option<u64>
     requires { vec_len values.old + 1 ≤ vec_capacity values.old }
-    ensures size { IfSome result (λ n. (n ≡ 1 + size_of value.now) × (n ≤ most)) }
-    ensures copy { OnSome result (contents_of values.new.items ≡ contents_of values.old.items ++ content_of value.now ∷ []) }
+    ensures size { IfSome result (λ n. (n ≡ 1 + bin_size (ref_content value.now)) × (n ≤ most)) }
+    ensures copy { OnSome result (contents_of values.new.items ≡ contents_of values.old.items ++ ref_content value.now ∷ []) }
     ensures kept { OnSome result (take (vec_len values.old) values.new.items ≡ values.old.items) }
     ensures count { OnSome result (vec_len values.new ≡ vec_len values.old + 1) }
     ensures none { IfNone result (values.new.items ≡ values.old.items) }
-    ensures refused { IfNone result (RefusesValue most (content_of value.now)) }
+    ensures refused { IfNone result (RefusesValue most (ref_content value.now)) }
     ensures capacity { vec_capacity values.old ≤ vec_capacity values.new }
 {
     let size = value.bin_len().checked_add(1)?;
     if most < size {
         return None;
     }
-    values.push_reserved(value.as_ref().to_value(alloc).ok()?);
+    values.push_reserved(value.to_value(alloc).ok()?);
     Some(size)
 }
 
@@ -186,13 +186,25 @@ impl RowValue for ValueRef<'_> {
         parts!(sent_value(), *self).append(out);
     }
 
+    // As for a value that owns its bytes.
     #[inline(always)]
     fn push_copy(&self, alloc: Global, values: &mut Vec<Value>, most: u64) -> Option<u64> {
-        let size = self.bin_len().checked_add(1)?;
-        if most < size {
-            return None;
+        match self {
+            ValueRef::NULL if 1 <= most => {
+                values.push_reserved(Value::NULL);
+                Some(1)
+            }
+            ValueRef::Int(n) if 9 <= most => {
+                values.push_reserved(Value::Int(*n));
+                Some(9)
+            }
+            ValueRef::Bytes(bytes)
+                if !bytes.is_empty() && bytes.len() < 251 && bytes.len() as u64 + 2 <= most => {
+                let copy = Vec::from_slice(alloc, bytes).ok()?;
+                values.push_reserved(Value::Bytes(copy));
+                Some(bytes.len() as u64 + 2)
+            }
+            _ => push_any(alloc, values, self, most),
         }
-        values.push_reserved(self.to_value(alloc).ok()?);
-        Some(size)
     }
 }

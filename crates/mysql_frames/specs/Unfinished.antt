@@ -1,5 +1,5 @@
 -- An incomplete payload.
-use Rattle.std.specs.Prelude.{◌≡◌, ℕ, ◌+◌, ◌*◌, ◌%◌, ◌<◌, ◌≤◌, zero, suc, List, ◌++◌, length, take, drop, max}
+use Rattle.std.specs.Prelude.{◌≡◌, ℕ, ◌+◌, ◌*◌, ◌%◌, ◌<◌, ◌≤◌, zero, suc, List, [], ◌++◌, length, take, drop, max, min}
 use Rattle.mysql_frames.specs.FrameHeader.{length_in}
 use Rattle.mysql_frames.specs.FrameReader.{ReaderState}
 use Rattle.mysql_frames.specs.Frames.{most, header, next}
@@ -30,6 +30,12 @@ pub record IsReading (r : Unfinished) : Type 0 where
   pub nothing_yet : length r.head.items < 4 → length r.payload.items ≡ r.full * most
   pub within : length r.head.items ≡ 4 → length r.payload.items ≤ r.full * most + length_in r.head.items
   pub bounded : length r.payload.items ≤ r.limit
+
+-- between payloads, all that fit in one frame within the limit are read in place; while one is incomplete, none is
+pub record IsReady (r : Unfinished) : Type 0 where
+  pub between : held r ≡ [] → r.in_place ≡ min (r.limit + 1) most
+  pub within : 0 < r.in_place → held r ≡ []
+  pub bound : r.in_place ≤ min (r.limit + 1) most
 
 -- a complete header of a frame of a given length is held, and it is the expected one
 pub record IsHeader (r : Unfinished) (len : ℕ) : Type 0 where

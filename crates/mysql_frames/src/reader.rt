@@ -34,13 +34,13 @@ pub struct FrameReader {
 
 impl Model for FrameReader {
     ghost use Rattle.mysql_frames.specs.FrameReader.{ReaderState};
-    ghost use Rattle.mysql_frames.specs.Unfinished.{IsReading, state_of};
+    ghost use Rattle.mysql_frames.specs.Unfinished.{IsReading, IsReady, state_of};
 
     ghost Value = { ReaderState };
 
     ghost view = { λ r. state_of r.unfinished };
 
-    ghost invariant = { λ r. IsReading r.unfinished };
+    ghost invariant = { λ r. IsReading r.unfinished × IsReady r.unfinished };
 }
 
 impl FrameReader {

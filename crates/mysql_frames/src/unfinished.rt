@@ -1,6 +1,6 @@
 //! A payload that is not whole yet.
 
-ghost use Rattle.std.specs.Prelude.{◌≡◌, ◌≢◌, ◌↔◌, ◌+◌, ◌*◌, ◌<◌, ◌≤◌, ◌⊎◌, [], ◌++◌, length, slice_index, IfOk, OnErr, IfSome, IfNone, IsTrue, IsErrOf, IsOk, List, ℕ, true, false, vec_len, vec_capacity, max, ◌/◌};
+ghost use Rattle.std.specs.Prelude.{◌≡◌, ◌≢◌, ◌↔◌, ◌+◌, ◌*◌, ◌<◌, ◌≤◌, ◌⊎◌, [], ◌++◌, length, slice_index, IfOk, OnErr, IfSome, IfNone, IsTrue, IsErrOf, IsOk, List, ℕ, true, false, vec_len, vec_capacity, max, min, ◌/◌};
 ghost use Rattle.std.specs.Cow.{cow_slice_items};
 ghost use Rattle.mysql_frames.specs.Frames as spec;
 
@@ -52,22 +52,34 @@ fn fill_header(into: &mut ArrayVec<u8, HEADER_LEN>, input: &mut &[u8]) -> bool
     front.len() == missing
 }
 
-/// A payload in a single frame at the front of the input, and the input after it.
+/// A payload shorter than `bound`, in a single frame at the front of the input, and the input after it.
 #[inline(always)]
-fn whole_at(limit: usize, number: u8, input: &[u8]) -> Option<(&[u8], &[u8])>
+fn whole_at(bound: usize, number: u8, input: &[u8]) -> Option<(&[u8], &[u8])>
+    requires { bound ≤ 0xffffff }
     ensures framed { IfSome result (λ found. spec.Framed number found.0.now (spec.next number) input.now found.1.now) }
-    ensures limit { IfSome result (λ found. length found.0.now ≤ limit) }
-    // A complete frame within the limit is found.
-    ensures found { IfNone result ((payload rest : List ℕ) → spec.FramedIn 0xffffff 0 number payload (spec.next number) input.now rest → limit < length payload) }
+    ensures bound { IfSome result (λ found. length found.0.now < bound) }
+    // A complete frame of a payload that short is found.
+    ensures found { IfNone result ((payload rest : List ℕ) → spec.FramedIn 0xffffff 0 number payload (spec.next number) input.now rest → bound ≤ length payload) }
 {
     if input.len() < HEADER_LEN || input[3] != number {
         return None;
     }
     let len = length_in(input);
-    if len > limit || len == MAX_FRAME_LEN || input.len() - HEADER_LEN < len {
+    if len >= bound || input.len() - HEADER_LEN < len {
         return None;
     }
     Some(input[HEADER_LEN..].split_at(len))
+}
+
+/// The bound of the payloads that are read in place: those that fit in one frame, within the limit.
+fn bound_in_place(limit: usize) -> usize
+    ensures { result ≡ min (limit + 1) 0xffffff }
+{
+    if limit < MAX_FRAME_LEN {
+        limit + 1
+    } else {
+        MAX_FRAME_LEN
+    }
 }
 
 /// A payload whose frames haven't all arrived. Of the headers, only an incomplete one is kept.
@@ -75,6 +87,8 @@ fn whole_at(limit: usize, number: u8, input: &[u8]) -> Option<(&[u8], &[u8])>
 pub struct Unfinished {
     alloc: Global,
     pub(crate) limit: usize,
+    /// A payload with fewer bytes is read in place: none is while another is incomplete.
+    in_place: usize,
     /// The number of the payload's first frame.
     pub(crate) first: u8,
     /// The number of full frames that were read.
@@ -87,11 +101,12 @@ pub struct Unfinished {
 
 impl Unfinished {
     ghost use Rattle.mysql_frames.specs.FrameReader.{AllLonger, BeginsInOrder, HandsOut, HoldsAll, Keeps, LacksPart, NoneWhole, ShowsNoFault, ShowsOutOfOrder, ShowsTooLong};
-    ghost use Rattle.mysql_frames.specs.Unfinished.{HasFrame, IsHeader, IsReading, LacksCapacity, held, number_of, state_of};
+    ghost use Rattle.mysql_frames.specs.Unfinished.{HasFrame, IsHeader, IsReading, IsReady, LacksCapacity, held, number_of, state_of};
 
     /// No byte has arrived. The first frame has the number 0.
     pub(crate) fn new(alloc: Global, limit: usize) -> Self
         ensures reading { IsReading result }
+        ensures ready { IsReady result }
         ensures held { held result ≡ [] }
         ensures first { result.first ≡ 0 }
         ensures limit { result.limit ≡ limit }
@@ -99,6 +114,7 @@ impl Unfinished {
         Unfinished {
             alloc,
             limit,
+            in_place: bound_in_place(limit),
             first: 0,
             full: 0,
             head: ArrayVec::new(),
@@ -109,10 +125,12 @@ impl Unfinished {
     /// Lets go of what came. The next frame has this number.
     pub(crate) fn expect(&mut self, number: u8)
         ensures reading { IsReading self.new }
+        ensures ready { IsReady self.new }
         ensures held { held self.new ≡ [] }
         ensures first { self.new.first ≡ number }
         ensures limit { self.new.limit ≡ self.old.limit }
     {
+        self.in_place = bound_in_place(self.limit);
         self.first = number;
         self.full = 0;
         self.head.clear();
@@ -121,8 +139,10 @@ impl Unfinished {
 
     /// Takes the next frame's number from its header, if the bytes held and the input have it.
     pub(crate) fn resync_sequence(&mut self, input: &[u8])
-        requires { IsReading self.old }
+        requires reading { IsReading self.old }
+        requires ready { IsReady self.old }
         ensures reading { IsReading self.new }
+        ensures ready { IsReady self.new }
         ensures held { held self.new ≡ held self.old }
         ensures number { length (held self.old) < 4 → 4 ≤ length (held self.old ++ input.now) → self.new.first ≡ slice_index (held self.old ++ input.now) 3 }
         ensures same { (4 ≤ length (held self.old)) ⊎ (length (held self.old ++ input.now) < 4) → self.new.first ≡ self.old.first }
@@ -302,6 +322,45 @@ impl Unfinished {
         }
     }
 
+    /// Reads the next payload, joined in a block of memory.
+    ///
+    /// A function of its own, with an input of its own: the caller then keeps its input in registers, and clears no memory for a
+    /// result that is seldom made.
+    #[inline(always)]
+    fn read_joined<'a>(
+        &mut self,
+        input: &mut &'a [u8],
+    ) -> Result<Option<CowSlice<'a, u8>>, FrameError>
+        requires { IsReading self.old }
+        ensures reading { IsReading self.new }
+        ensures ready { IsReady self.new }
+        ensures payload { IfOk result (λ found. IfSome found (λ payload. HandsOut (state_of self.old) input.old.now (cow_slice_items payload) (state_of self.new) input.new.now)) }
+        ensures more { IfOk result (λ found. IfNone found (HoldsAll (state_of self.old) input.old.now (state_of self.new) input.new.now)) }
+        ensures err { OnErr result (Keeps (state_of self.old) input.old.now (state_of self.new) input.new.now) }
+        ensures order { IsErrOf result FrameError.OutOfOrder → (more : List ℕ) → NoneWhole self.old.first (held self.old ++ input.old.now ++ more) }
+        ensures long { IsErrOf result FrameError.TooLong → (more : List ℕ) → AllLonger self.old.limit self.old.first (held self.old ++ input.old.now ++ more) }
+        ensures some { IsErrOf result FrameError.Memory → 0 < length input.old.now }
+        ensures early { IsErrOf result FrameError.Memory → BeginsInOrder (state_of self.old) (held self.old ++ input.old.now) }
+        ensures no_fault { IfOk result (λ found. IfNone found (ShowsNoFault (state_of self.new))) }
+        ensures shown_order { IsErrOf result FrameError.OutOfOrder → ShowsOutOfOrder (state_of self.new) }
+        ensures shown_long { IsErrOf result FrameError.TooLong → ShowsTooLong (state_of self.new) }
+        ensures lacks_part { IsErrOf result FrameError.Memory → LacksPart (state_of self.new) }
+        ensures lacks_capacity { IsErrOf result FrameError.Memory → (len : ℕ) × IsHeader self.new len × LacksCapacity (vec_capacity self.old.payload) self.new len input.new.now }
+    {
+        let mut left = *input;
+        let found = self.read_on(&mut left);
+        self.in_place = if self.is_between() {
+            bound_in_place(self.limit)
+        } else {
+            0
+        };
+        *input = left;
+        match found? {
+            Some(payload) => Ok(Some(CowSlice::Owned(payload))),
+            None => Ok(None),
+        }
+    }
+
     /// Reads the next payload. One that arrives in a single frame of the input is returned in place.
     #[inline]
     #[tactic(auto, using(crate::proofs::Shown::held_bounded))]
@@ -309,8 +368,10 @@ impl Unfinished {
         &mut self,
         input: &mut &'a [u8],
     ) -> Result<Option<CowSlice<'a, u8>>, FrameError>
-        requires { IsReading self.old }
+        requires reading { IsReading self.old }
+        requires ready { IsReady self.old }
         ensures reading { IsReading self.new }
+        ensures ready { IsReady self.new }
         ensures payload { IfOk result (λ found. IfSome found (λ payload. HandsOut (state_of self.old) input.old.now (cow_slice_items payload) (state_of self.new) input.new.now)) }
         ensures more { IfOk result (λ found. IfNone found (HoldsAll (state_of self.old) input.old.now (state_of self.new) input.new.now)) }
         ensures err { OnErr result (Keeps (state_of self.old) input.old.now (state_of self.new) input.new.now) }
@@ -327,24 +388,21 @@ impl Unfinished {
         ensures lacks_capacity { IsErrOf result FrameError.Memory → (len : ℕ) × IsHeader self.new len × LacksCapacity (vec_capacity self.old.payload) self.new len input.new.now }
         ensures bounded { length (held self.new) ≤ self.new.limit + 4 * (self.new.limit / 0xffffff + 1) }
     {
-        if self.is_between() {
-            if let Some((payload, rest)) = whole_at(self.limit, self.first, input) {
-                self.first = self.first.wrapping_add(1);
-                *input = rest;
-                return Ok(Some(CowSlice::Borrowed(payload)));
-            }
+        if let Some((payload, rest)) = whole_at(self.in_place, self.first, input) {
+            self.first = self.first.wrapping_add(1);
+            *input = rest;
+            return Ok(Some(CowSlice::Borrowed(payload)));
         }
-        match self.read_on(input)? {
-            Some(payload) => Ok(Some(CowSlice::Owned(payload))),
-            None => Ok(None),
-        }
+        self.read_joined(input)
     }
 
     /// Keeps a block of memory for later payloads, if none is in use.
     #[inline(never)]
     pub(crate) fn keep(&mut self, buffer: Vec<u8>)
-        requires { IsReading self.old }
+        requires reading { IsReading self.old }
+        requires ready { IsReady self.old }
         ensures reading { IsReading self.new }
+        ensures ready { IsReady self.new }
         ensures held { held self.new ≡ held self.old }
         ensures same { (self.new.first ≡ self.old.first) × (self.new.limit ≡ self.old.limit) }
         ensures capacity { self.old.payload.items ≡ [] → vec_capacity self.new.payload ≡ vec_capacity buffer }

@@ -68,12 +68,12 @@ pub fn write_frames(out: &mut Vec<u8>, number: u8, payload: &[u8]) -> Result<u8,
     ensures capacity { vec_capacity out.old ≤ vec_capacity out.new }
     ensures no_memory { vec_len out.old + length payload.now + 4 * (length payload.now / 0xffffff + 1) ≤ vec_capacity out.old → IsOk result }
 {
-    if payload.len() >= MAX_FRAME_LEN {
-        return write_long(out, number, payload);
+    // One frame, for which there is capacity.
+    if payload.len() < MAX_FRAME_LEN && payload.len() + HEADER_LEN <= out.capacity() - out.len() {
+        push_frame(out, number, payload);
+        return Ok(number.wrapping_add(1));
     }
-    out.reserve(payload.len() + HEADER_LEN)?;
-    push_frame(out, number, payload);
-    Ok(number.wrapping_add(1))
+    write_long(out, number, payload)
 }
 
 /// Writes a packet that needs several frames, as [`write_packet`] does: it is serialized apart first.

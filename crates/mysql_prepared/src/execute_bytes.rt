@@ -66,16 +66,12 @@ fn next_type<'a>(
     requires { IsTrue sends_types → types.old ≢ [] }
     ensures value { spec.TakesInForce sends_types earlier types.old result types.new }
 {
-    let earlier = NamedTypeRef {
+    if sends_types {
+        return types.take_type();
+    }
+    NamedTypeRef {
         param_type: earlier,
         name: &[],
-    };
-    if !sends_types {
-        return earlier;
-    }
-    match types.next_type() {
-        Some(named_type) => named_type,
-        None => earlier,
     }
 }
 

@@ -221,8 +221,13 @@ impl AsExecuteParam for ValueRef<'_> {
 
     #[inline(always)]
     fn append_sent<O: Buffer>(&self, as_long_data: bool, out: &mut O) {
+        // (a guard of the arm would be tested for each value)
         match self {
-            ValueRef::Bytes(_) if as_long_data => {}
+            ValueRef::Bytes(_) => {
+                if !as_long_data {
+                    self.append(out);
+                }
+            }
             value => value.append(out),
         }
     }

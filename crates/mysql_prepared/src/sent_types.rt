@@ -1,7 +1,7 @@
 //! Borrowed types of parameters and attributes, with their names.
 #![tactic(auto, using(mysql_wire::proofs::Packets::packets))]
 
-ghost use Rattle.std.specs.Prelude.{false, ◌≡◌, ◌≤◌, [], length, IfOk, OnErr};
+ghost use Rattle.std.specs.Prelude.{false, ◌≡◌, ◌≢◌, ◌≤◌, ◌∷◌, [], length, IfOk, OnErr};
 ghost use Rattle.mysql_wire.specs.Reading.{Answers};
 ghost use Rattle.mysql_prepared.specs.SentTypes as spec;
 
@@ -148,6 +148,24 @@ impl<'a> SentParamTypes<'a> {
         }
     }
 
+    /// The first type, of which one is left; the others stay. All of them were read before, so none is refused.
+    #[inline(always)]
+    pub(crate) fn take_type(&mut self) -> NamedTypeRef<'a>
+        requires some { self.old ≢ [] }
+        ensures value { self.old ≡ result ∷ self.new }
+    {
+        let mut bytes = self.bytes.rest();
+        let read: Result<NamedTypeRef<'a>, FaultOf> = read_type(self.has_names, &mut bytes);
+        match read {
+            Ok(first) => {
+                self.left -= 1;
+                self.bytes = bytes;
+                first
+            }
+            Err(_) => unreachable!(),
+        }
+    }
+
     /// The first type, if one is left; the others stay.
     #[inline(always)]
     pub(crate) fn next_type(&mut self) -> Option<NamedTypeRef<'a>>
@@ -156,15 +174,6 @@ impl<'a> SentParamTypes<'a> {
         if self.left == 0 {
             return None;
         }
-        let mut bytes = self.bytes.rest();
-        let read: Result<NamedTypeRef<'a>, FaultOf> = read_type(self.has_names, &mut bytes);
-        match read {
-            Ok(first) => {
-                self.left -= 1;
-                self.bytes = bytes;
-                Some(first)
-            }
-            Err(_) => None,
-        }
+        Some(self.take_type())
     }
 }

@@ -8,10 +8,10 @@ ghost use Rattle.mysql_values.specs.ValueDeserializer.{bin_value, reads_bytes, v
 
 use crate::string_type;
 use crate::value::Value;
-use crate::value_deserializer::{read_kind, read_long, read_string};
+use crate::value_deserializer::{read_kind, read_long, read_longlong, read_string};
 use crate::value_kind::ValueKind;
 use bitflags::Flags;
-use mysql_wire::{ColumnFlags, ColumnType, FaultOf, LeU64, ParseBuf, RawInt};
+use mysql_wire::{ColumnFlags, ColumnType, FaultOf, ParseBuf};
 
 /// Puts a value after the others.
 #[inline(always)]
@@ -36,11 +36,35 @@ fn read_other<'s>(
     read_kind(ValueKind::of(column_type), is_unsigned, buf)
 }
 
+/// Puts a value of the type, by a call.
+///
+/// A function of its own, with a buffer of its own: the caller's buffer stays in registers, and no memory is cleared for the other
+/// types.
+#[inline(always)]
+fn put_other<'s>(
+    column_type: ColumnType,
+    is_unsigned: bool,
+    buf: &mut ParseBuf<'_>,
+    cells: &mut Vec<Option<Value>>,
+) -> Result<(), FaultOf<'s>>
+    requires { vec_len cells.old < vec_capacity cells.old }
+    ensures value { PutsOne (reads_bytes ((bin_value column_type is_unsigned).reads buf.old)) result (held cells.old.items) (held cells.new.items) buf.new ((bin_value column_type is_unsigned).reads buf.old) }
+    ensures len { OnOk result (vec_len cells.new ≡ vec_len cells.old + 1) }
+    ensures capacity { vec_capacity cells.old ≤ vec_capacity cells.new }
+    ensures err { OnErr result (cells.new.items ≡ cells.old.items) }
+    ensures stays { OnErr result (buf.new ≡ buf.old) }
+{
+    let mut rest = buf.rest();
+    let value = read_other(column_type, is_unsigned, &mut rest)?;
+    *buf = rest;
+    put(value, cells);
+    Ok(())
+}
+
 /// Reads a value of the given type. The most frequent types have an arm of their own, so that a value's parts are written
 /// directly to its cell instead of being assembled and taken apart again.
 // One match on the type: the compiler would otherwise match its kind as well.
 #[inline(always)]
-#[tactic(auto, unfolding(mysql_wire::specs::Int::raw))]
 fn put_value<'s>(
     column_type: ColumnType,
     is_unsigned: bool,
@@ -64,22 +88,10 @@ fn put_value<'s>(
             Ok(())
         }
         ColumnType::MYSQL_TYPE_LONGLONG => {
-            let number: RawInt<LeU64> = buf.parse(())?;
-            if is_unsigned {
-                put(Value::UInt(number.0), cells);
-                return Ok(());
-            }
-            put(Value::Int(number.0.cast_signed()), cells);
+            put(read_longlong(is_unsigned, buf)?, cells);
             Ok(())
         }
-        _ => {
-            // Another buffer is passed on, so that the caller's own stays in registers.
-            let mut rest = buf.rest();
-            let value = read_other(column_type, is_unsigned, &mut rest)?;
-            *buf = rest;
-            put(value, cells);
-            Ok(())
-        }
+        _ => put_other(column_type, is_unsigned, buf, cells),
     }
 }
 

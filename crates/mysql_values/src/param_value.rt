@@ -64,6 +64,18 @@ fn read_date_time<'s, 'de>(buf: &mut ParseBuf<'de>) -> Result<ParamValue<'de>, F
     Ok(ParamValue::Value(date))
 }
 
+/// Reads one from a buffer of its own: the caller's then stays in registers.
+#[inline(always)]
+fn read_date_time_apart<'s, 'de>(buf: &mut ParseBuf<'de>) -> Result<ParamValue<'de>, FaultOf<'s>>
+    ensures value { Answers false (spec.param_contents result) buf.new (spec.date_time_param.reads buf.old) }
+    ensures stays { OnErr result (buf.new ≡ buf.old) }
+{
+    let mut rest = buf.rest();
+    let value = read_date_time(&mut rest)?;
+    *buf = rest;
+    Ok(value)
+}
+
 /// Reads a value of the kind, which is not a date with a time.
 #[inline(always)]
 fn read_other<'s, 'de>(
@@ -93,7 +105,7 @@ pub fn read_param_value<'s, 'de>(
 {
     let is_unsigned = param_type.flags().contains(StmtExecuteParamFlags::UNSIGNED);
     match ValueKind::of_param(param_type.column_type()) {
-        ValueKind::DateTime => read_date_time(buf),
+        ValueKind::DateTime => read_date_time_apart(buf),
         kind => read_other(kind, is_unsigned, buf),
     }
 }

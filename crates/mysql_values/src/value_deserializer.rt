@@ -10,8 +10,8 @@ use crate::value_ref::copied;
 use crate::value_ref_reader::read_kind_ref;
 use bitflags::Flags;
 use mysql_wire::{
-    AnyWidth, BytesRepr, ColumnFlags, ColumnType, FaultOf, LeU32, LenEnc, MyDeserialize, ParseBuf,
-    RawInt,
+    AnyWidth, BytesRepr, ColumnFlags, ColumnType, FaultOf, LeU32, LeU64, LenEnc, MyDeserialize,
+    ParseBuf, RawInt,
 };
 use std::marker::{Model, PhantomData};
 
@@ -73,7 +73,7 @@ impl<'de> MyDeserialize<'de> for ValueDeserializer<TextValue> {
 }
 
 ghost use Rattle.mysql_values.specs.Value.{contents};
-ghost use Rattle.mysql_values.specs.ValueDeserializer.{reads_bytes, string_value, short_integer, value_of_kind};
+ghost use Rattle.mysql_values.specs.ValueDeserializer.{reads_bytes, string_value, short_integer, long_integer, value_of_kind};
 
 /// The content of a length-encoded string, on memory of its own, which an empty one does not need.
 #[tactic(auto, using(mysql_wire::proofs::Tails::tails))]
@@ -103,6 +103,24 @@ pub(crate) fn read_long<'s>(is_unsigned: bool, buf: &mut ParseBuf<'_>) -> Result
     } else {
         i64::from(number.0.cast_signed())
     }))
+}
+
+/// An integer of eight bytes.
+#[tactic(auto, unfolding(mysql_wire::specs::Int::raw))]
+#[inline(always)]
+pub(crate) fn read_longlong<'s>(
+    is_unsigned: bool,
+    buf: &mut ParseBuf<'_>,
+) -> Result<Value, FaultOf<'s>>
+    ensures value { Answers false (contents result) buf.new ((long_integer is_unsigned).reads buf.old) }
+    ensures stays { OnErr result (buf.new ≡ buf.old) }
+{
+    let number: RawInt<LeU64> = buf.parse(())?;
+    Ok(if is_unsigned {
+        Value::UInt(number.0)
+    } else {
+        Value::Int(number.0.cast_signed())
+    })
 }
 
 /// A value of the kind. A string of at least one byte alone takes memory.

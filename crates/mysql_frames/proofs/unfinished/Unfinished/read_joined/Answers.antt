@@ -1,7 +1,7 @@
 use Rattle.std.proofs.lemmas.Result.{err_from_is_err_and}
 use Rattle.mysql_frames.specs.declared.error.FrameError.TheVariants.{Memory, OutOfOrder, TooLong}
 use Rattle.std.proofs.Common.{◌≡◌, ap, Err}
-use Rattle.mysql_frames.proofs.unfinished.Unfinished.read.Goals as goal
+use Rattle.mysql_frames.proofs.unfinished.Unfinished.read_joined.Goals as goal
 
 pub returns-in_err-payload-clause-order : goal.returns-in_err-payload-clause-order
 returns-in_err-payload-clause-order c e =
@@ -37,4 +37,9 @@ pub returns-in_err-payload-clause-lacks_capacity : goal.returns-in_err-payload-c
 returns-in_err-payload-clause-lacks_capacity c e =
     let p = err_from_is_err_and c.from_residual.result c.from_residual.ensures.1 in
     let same : c.in_err-payload.field-0.0 ≡ Memory = cc in
-    c.in_err-payload.ensures.lacks_capacity (ap Err same)
+    let lacks = c.in_err-payload.ensures.lacks_capacity (ap Err same) in
+    let header = lacks.1 in (
+      lacks.0,
+      record { head = header.head; below = header.below; no_longer = header.no_longer },
+      record { frame = lacks.2.frame; comes = lacks.2.comes },
+    )
