@@ -59,7 +59,7 @@ def operations():
         if here == "-":
             continue
         figures = {"here": here, "hand": hand, "original": linked}
-        figures = {version: int(it) for version, it in figures.items() if it != "-"}
+        figures = {version: int(it.lstrip("~")) for version, it in figures.items() if it != "-"}
         if "here" in figures and len(figures) > 1:
             yield name, figures
 

@@ -143,9 +143,9 @@ typedef struct myp_column_count {
 
 /* Reads the number of columns of a result (length-encoded), and under
  * MYP_CLIENT_OPTIONAL_RESULTSET_METADATA or MYP_MARIADB_CLIENT_CACHE_METADATA the byte that says
- * whether column definitions follow. If they are omitted under the second flag, those of the
- * statement's preparation apply. MYP_ERROR_UNEXPECTED_EOF; MYP_ERROR_INVALID_DATA for a number that
- * begins with fb or ff. */
+ * whether column definitions follow. If they are omitted under the second flag, those that were
+ * sent last for this statement apply, by its preparation or by a later execution: keep them.
+ * MYP_ERROR_UNEXPECTED_EOF; MYP_ERROR_INVALID_DATA for a number that begins with fb or ff. */
 MYP_MUST_CHECK uint32_t myp_read_column_count(
     const uint8_t *packet,
     size_t len,
@@ -452,7 +452,8 @@ typedef struct myp_error {
 } myp_error;
 #define MYP_ERROR_INIT { MYP_BYTES_INIT, MYP_BYTES_INIT, 0, 0, 0, 0, 0, 0 }
 
-/* Reads ERR_Packet, with an SQL state under MYP_CLIENT_PROTOCOL_41; or, under MYP_CLIENT_PROGRESS,
+/* Reads ERR_Packet, with an SQL state under MYP_CLIENT_PROTOCOL_41 (in place of the handshake, see
+ * myp_read_handshake; after the login, pass the agreed flags); or, under MYP_CLIENT_PROGRESS,
  * a progress report of MariaDB. If MYP_MARIADB_CLIENT_PROGRESS is agreed on, which current servers
  * offer instead, pass MYP_CLIENT_PROGRESS too. MYP_ERROR_UNEXPECTED_EOF; MYP_ERROR_INVALID_DATA for
  * another first byte, or a state without '#'. */
@@ -891,8 +892,10 @@ typedef struct myp_execution_options {
  * checks their ranges. The type of the value's kind always fits. If types are omitted, pass those
  * of the earlier execution; with attributes types are sent in any case.
  *
- * *as_long_data is 1 if byte strings are left out because the request would exceed 16,777,215 bytes
- * with them: first send each by myp_write_long_data.
+ * *as_long_data is 1 if all byte strings of the parameters are left out, short ones too, because
+ * the request would exceed 16,777,215 bytes with them: first send each by myp_write_long_data, an
+ * empty one as one empty part. Or send the large ones, set is_sent_ahead for them, and call again:
+ * the others stay in the request.
  *
  * MYP_ERROR_INVALID_INPUT for an invalid value or type, or a value that its type can't encode, and
  * *written is 0 and *as_long_data unchanged; MYP_ERROR_BUFFER_TOO_SMALL, and *as_long_data is set;
@@ -916,8 +919,10 @@ enum myp_bulk_flag {
     MYP_BULK_SEND_TYPES_TO_SERVER = 128 /* types are sent before the rows */
 };
 
-/* Writes COM_STMT_BULK_EXECUTE with as many of the first rows as a request of max_allowed_packet -
- * 4 bytes holds, and their types; *rows is their number. The values are row after row. The types
+/* Writes COM_STMT_BULK_EXECUTE, which needs MYP_MARIADB_CLIENT_STMT_BULK_OPERATIONS, with as many
+ * of the first rows as a request of max_allowed_packet - 4 bytes holds (the server's
+ * @@max_allowed_packet), and their types; *rows is their number. A column is a parameter of the
+ * statement, in the order of its question marks. The values are row after row. The types
  * may be MYP_TYPE_LONGLONG, MYP_TYPE_FLOAT, MYP_TYPE_DOUBLE, those of dates and times, and those of
  * byte strings except MYP_TYPE_BIT; only MYP_TYPE_LONGLONG may be unsigned. Without values nothing
  * is written. A buffer of max_allowed_packet - 4 bytes is never too small.
@@ -1130,8 +1135,9 @@ MYP_MUST_CHECK uint32_t myp_scramble_native(
  * answers with MYP_PACKET_AUTH_MORE_DATA of one byte: 03 if it knows the password (fast
  * authentication; an OK packet follows), or 04 for full authentication: over TLS or a Unix socket
  * send the password and a zero; otherwise request the key with myp_write_public_key_request, and
- * send the password and a zero, XORed with the nonce and encrypted by RSA-OAEP with the key that
- * myp_read_public_key returns. MYP_ERROR_BUFFER_TOO_SMALL. */
+ * send the password and a zero, XORed with the nonce (repeated; after a switch, the switch's) and
+ * encrypted by RSA-OAEP with SHA-1 and the key that myp_read_public_key returns.
+ * MYP_ERROR_BUFFER_TOO_SMALL. */
 MYP_MUST_CHECK uint32_t myp_scramble_sha2(
     const uint8_t *password,
     size_t len,
@@ -1852,8 +1858,10 @@ enum myp_com {
 };
 
 /* Both sides agree on the flags that both have. A client sets no flag that
- * myp_supported_capabilities() lacks, such as compression. What each flag changes, and which call
- * reads or writes it:
+ * myp_supported_capabilities() lacks, such as compression. That is a bound, and no default: other
+ * flags of it change what queries mean (MYP_CLIENT_FOUND_ROWS, MYP_CLIENT_IGNORE_SPACE), and a
+ * login with MYP_CLIENT_SSL is taken for a request for TLS. Choose the flags that you want, at most
+ * those of the handshake. What each flag changes, and which call reads or writes it:
  *
  *   MYP_CLIENT_PROTOCOL_41                  an error's SQL state: myp_read_error
  *   MYP_CLIENT_SESSION_TRACK                an OK packet's info and session state: myp_read_ok,
