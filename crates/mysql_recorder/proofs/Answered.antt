@@ -41,12 +41,12 @@ entry_after : (w : List ℕ) (layout : Layout) (e : Entry) (fields : List Said) 
 entry_after w layouts.Lines e fields a b h = (h.0, h.1, is_after w (a ++ entry_line e) b h.0 h.2 ∙ ap (λ (l : List ℕ). l ++ h.0) (sym (append_assoc w a (entry_line e))))
 entry_after w layouts.Json e fields a b h = (h.0, h.1, is_after w a b _ h.2)
 
-appends_after : (w : List ℕ) (layout : Layout) (e : Entry) (a b : List ℕ) → shown.Appends layout e a b → shown.Appends layout e (w ++ a) (w ++ b)
-appends_after w layout e a b h = (h.0, λ none. is_after w a b _ (h.1 none), entry_after w layout e h.0 a b h.2)
+appends_after : (w : List ℕ) (layout : Layout) (x : Item) (a b : List ℕ) → shown.Appends layout x a b → shown.Appends layout x (w ++ a) (w ++ b)
+appends_after w layout x a b h = (h.0, h.1, λ none. is_after w a b _ (h.2 none), entry_after w layout (entry_of x) h.0 a b h.3)
 
 writes_after : (w : List ℕ) (layout : Layout) (xs : List Item) (a b : List ℕ) → Writes layout xs a b → Writes layout xs (w ++ a) (w ++ b)
 writes_after w layout [] a b h = ap (λ (l : List ℕ). w ++ l) h
-writes_after w layout (x ∷ xs) a b h = (w ++ h.0, appends_after w layout (entry_of x) a h.0 h.1, writes_after w layout xs h.0 b h.2)
+writes_after w layout (x ∷ xs) a b h = (w ++ h.0, appends_after w layout x a h.0 h.1, writes_after w layout xs h.0 b h.2)
 
 refused_after : (w : List ℕ) (all : List PacketKindTag) (layout : Layout) (side : Side) (sequence : ℕ) (payload : List ℕ) (items : List Numbered) (why : SessionError) (a b : List ℕ)
     → ShowsRefused all layout side sequence payload items why a b → ShowsRefused all layout side sequence payload items why (w ++ a) (w ++ b)

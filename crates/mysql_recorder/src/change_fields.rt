@@ -1,5 +1,9 @@
 //! The session changes of an OK packet, as fields.
 
+ghost use Rattle.std.specs.Prelude.{◌≡◌, ◌++◌, List, OnOk};
+ghost use Rattle.mysql_show.specs.Fields.{Said};
+ghost use Rattle.mysql_recorder.specs.ServerFields.{BeginsWith};
+
 use crate::values::fault_name;
 use mysql_replies::OkPacketRef;
 use mysql_session::{ChangeRef, SystemVariablesRef};
@@ -11,7 +15,9 @@ use std::alloc::AllocError;
 pub(crate) fn append_changes<'p>(
     ok: &OkPacketRef<'p>,
     fields: &mut Vec<Field<'p>>,
-) -> Result<(), AllocError> {
+) -> Result<(), AllocError>
+    ensures ok { OnOk result (BeginsWith fields.old.items fields.new.items) }
+{
     for change in ok.session_state_changes() {
         match change {
             Ok(change) => append_change(change.into_change(), fields)?,
@@ -24,7 +30,9 @@ pub(crate) fn append_changes<'p>(
     Ok(())
 }
 
-fn append_change<'p>(change: ChangeRef<'p>, fields: &mut Vec<Field<'p>>) -> Result<(), AllocError> {
+fn append_change<'p>(change: ChangeRef<'p>, fields: &mut Vec<Field<'p>>) -> Result<(), AllocError>
+    ensures ok { OnOk result (BeginsWith fields.old.items fields.new.items) }
+{
     let field = match change {
         ChangeRef::IsTracked(is_tracked) => Field::flag("state_changed", is_tracked),
         ChangeRef::Schema(schema) => Field::bytes("schema", schema),
@@ -41,7 +49,9 @@ fn append_change<'p>(change: ChangeRef<'p>, fields: &mut Vec<Field<'p>>) -> Resu
 fn append_variables<'p>(
     variables: SystemVariablesRef<'p>,
     fields: &mut Vec<Field<'p>>,
-) -> Result<(), AllocError> {
+) -> Result<(), AllocError>
+    ensures ok { OnOk result (BeginsWith fields.old.items fields.new.items) }
+{
     for variable in variables {
         fields.push(Field::bytes("variable", variable.name()))?;
         fields.push(Field::bytes("variable_value", variable.value()))?;

@@ -1,5 +1,14 @@
 //! The fields of a command.
 
+ghost use Rattle.std.specs.Prelude.{◌≡◌, ◌++◌, List, OnOk, option_map};
+ghost use Rattle.mysql_commands.specs.WithRawBytes.{value};
+ghost use Rattle.mysql_repl.specs.BinlogDump as dumps;
+ghost use Rattle.mysql_repl.specs.BinlogDumpGtid as gtids;
+ghost use Rattle.mysql_show.specs.Fields.{Said};
+ghost use Rattle.mysql_show.specs.Replicas.{dump_fields as fields_of_dump};
+ghost use Rattle.mysql_commands.specs.declared.command.Command.TheVariants as variant;
+ghost use Rattle.mysql_recorder.specs.ClientFields as spec;
+
 use crate::client_fields::append;
 use crate::values::append_attributes;
 use mysql_commands::{ComQueryRef, ComStmtBulkExecuteRef, Command, ServerOption};
@@ -13,7 +22,9 @@ use std::alloc::AllocError;
 pub(crate) fn append_command<'p>(
     command: &Command<'p>,
     fields: &mut Vec<Field<'p>>,
-) -> Result<(), AllocError> {
+) -> Result<(), AllocError>
+    ensures ok { OnOk result (spec.AddsCommand command.now fields.old.items fields.new.items) }
+{
     match command {
         Command::InitDb(schema) | Command::CreateDb(schema) | Command::DropDb(schema) => {
             append(Field::bytes("schema", schema.as_bytes()), fields)
@@ -31,7 +42,9 @@ pub(crate) fn append_command<'p>(
 }
 
 /// Those that say a number first.
-fn append_number<'p>(command: &Command<'p>, fields: &mut Vec<Field<'p>>) -> Result<(), AllocError> {
+fn append_number<'p>(command: &Command<'p>, fields: &mut Vec<Field<'p>>) -> Result<(), AllocError>
+    ensures ok { OnOk result (fields.new.items ≡ fields.old.items ++ spec.number_fields command.now) }
+{
     match command {
         Command::Refresh(options) => append(Field::number("options", u64::from(*options)), fields),
         Command::Shutdown(Some(level)) => {
@@ -46,7 +59,9 @@ fn append_number<'p>(command: &Command<'p>, fields: &mut Vec<Field<'p>>) -> Resu
 fn append_option<'p>(
     option: Option<ServerOption>,
     fields: &mut Vec<Field<'p>>,
-) -> Result<(), AllocError> {
+) -> Result<(), AllocError>
+    ensures ok { OnOk result (fields.new.items ≡ fields.old.items ++ spec.option_fields option) }
+{
     match option {
         Some(ServerOption::MultiStatementsOn) => {
             append(Field::flag("multi_statements", true), fields)
@@ -62,7 +77,9 @@ fn append_option<'p>(
 fn append_statement<'p>(
     command: &Command<'p>,
     fields: &mut Vec<Field<'p>>,
-) -> Result<(), AllocError> {
+) -> Result<(), AllocError>
+    ensures ok { OnOk result (fields.new.items ≡ fields.old.items ++ spec.statement_fields command.now) }
+{
     match command {
         Command::StmtExecute(execution) => {
             append_head(execution.head(), execution.params().len(), fields)
@@ -98,7 +115,9 @@ pub(crate) fn append_head<'p>(
     head: &ComStmtExecuteHead,
     length: usize,
     fields: &mut Vec<Field<'p>>,
-) -> Result<(), AllocError> {
+) -> Result<(), AllocError>
+    ensures ok { OnOk result (fields.new.items ≡ fields.old.items ++ spec.head_fields head.now length) }
+{
     fields.push(Field::number("statement_id", u64::from(head.stmt_id())))?;
     fields.push(Field::number("cursor_flags", u64::from(head.cursor().bits())))?;
     if head.has_parameter_count() {
@@ -110,7 +129,9 @@ pub(crate) fn append_head<'p>(
 fn append_bulk<'p>(
     bulk: &ComStmtBulkExecuteRef<'p>,
     fields: &mut Vec<Field<'p>>,
-) -> Result<(), AllocError> {
+) -> Result<(), AllocError>
+    ensures ok { OnOk result (fields.new.items ≡ fields.old.items ++ spec.statement_fields (variant.StmtBulkExecute bulk.now)) }
+{
     fields.push(Field::number("statement_id", u64::from(bulk.stmt_id())))?;
     fields.push(Field::number("bulk_flags", u64::from(bulk.bulk_flags().bits())))?;
     Ok(fields.push(Field::number("length", bulk.rows().len() as u64))?)
@@ -120,7 +141,9 @@ fn append_bulk<'p>(
 fn append_replication<'p>(
     command: &Command<'p>,
     fields: &mut Vec<Field<'p>>,
-) -> Result<(), AllocError> {
+) -> Result<(), AllocError>
+    ensures ok { OnOk result (fields.new.items ≡ fields.old.items ++ spec.replication_fields command.now) }
+{
     match command {
         Command::BinlogDump(dump) => append_dump(dump, fields),
         Command::BinlogDumpGtid(dump) => append_gtid_dump(dump.value(), fields),
@@ -132,7 +155,9 @@ fn append_replication<'p>(
 fn append_dump<'p>(
     dump: &ComBinlogDumpRef<'p>,
     fields: &mut Vec<Field<'p>>,
-) -> Result<(), AllocError> {
+) -> Result<(), AllocError>
+    ensures ok { OnOk result (fields.new.items ≡ fields.old.items ++ fields_of_dump (dumps.server_id dump.now) (dumps.flags_of dump.now).0 (dumps.filename dump.now) (dumps.pos dump.now)) }
+{
     let (flags, pos) = (dump.flags(), u64::from(dump.pos()));
     add_fields(
         &dump_fields(dump.server_id(), flags, dump.filename(), pos),
@@ -143,7 +168,9 @@ fn append_dump<'p>(
 fn append_gtid_dump<'p>(
     dump: &ComBinlogDumpGtidRef<'p>,
     fields: &mut Vec<Field<'p>>,
-) -> Result<(), AllocError> {
+) -> Result<(), AllocError>
+    ensures ok { OnOk result (fields.new.items ≡ fields.old.items ++ fields_of_dump (gtids.server_id dump.now) (gtids.flag_bits dump.now) (gtids.filename dump.now) (gtids.pos dump.now)) }
+{
     let (flags, pos) = (dump.flags(), dump.pos());
     add_fields(
         &dump_fields(dump.server_id(), flags, dump.filename(), pos),
@@ -155,7 +182,9 @@ fn append_gtid_dump<'p>(
 fn append_query<'p>(
     query: &ComQueryRef<'p>,
     fields: &mut Vec<Field<'p>>,
-) -> Result<(), AllocError> {
+) -> Result<(), AllocError>
+    ensures ok { OnOk result (spec.AddsCommand (variant.Query query.now) fields.old.items fields.new.items) }
+{
     append(Field::bytes("query", query.text()), fields)?;
     match query.attributes() {
         Some(attributes) => append_attributes(attributes.view(), false, fields),

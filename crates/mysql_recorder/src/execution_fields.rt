@@ -1,5 +1,13 @@
 //! The parameters of an execution.
 
+ghost use Rattle.std.specs.Prelude.{◌≡◌, ◌++◌, List, OnOk};
+ghost use Rattle.mysql_prepared.specs.ExecuteParam.{param_of};
+ghost use Rattle.mysql_show.specs.Fields.{Said, said};
+ghost use Rattle.std.specs.Prelude.{codes};
+ghost use Rattle.mysql_observer.specs.Tracked.{is_execution as executes};
+ghost use Rattle.mysql_recorder.specs.RecordFields.{unknown_fields};
+ghost use Rattle.mysql_recorder.specs.ValueFields as spec;
+
 use crate::values::{append_attributes, append_refused};
 use mysql_conversation::PacketKind;
 use mysql_prepared::{ExecuteParam, ExecuteParamsView};
@@ -14,7 +22,9 @@ const EXECUTE: u8 = 0x17;
 pub(crate) const EXECUTE_HEAD: usize = 10;
 
 /// Whether it is `COM_STMT_EXECUTE`.
-pub(crate) fn is_execution(kind: PacketKind) -> bool {
+pub(crate) fn is_execution(kind: PacketKind) -> bool
+    ensures { result ≡ executes kind }
+{
     kind == PacketKind::Command(EXECUTE)
 }
 
@@ -23,7 +33,9 @@ pub(crate) fn append_unknown<'p>(
     kind: PacketKind,
     payload: &[u8],
     fields: &mut Vec<Field<'p>>,
-) -> Result<(), AllocError> {
+) -> Result<(), AllocError>
+    ensures ok { OnOk result (fields.new.items ≡ fields.old.items ++ unknown_fields kind payload.now) }
+{
     if is_execution(kind) && payload.len() > EXECUTE_HEAD {
         fields.push(Field::word("parameter_types", "unknown"))?;
     }
@@ -34,9 +46,11 @@ pub(crate) fn append_unknown<'p>(
 pub(crate) fn append_params<'p>(
     params: ExecuteParamsView<'p, '_>,
     fields: &mut Vec<Field<'p>>,
-) -> Result<(), AllocError> {
+) -> Result<(), AllocError>
+    ensures ok { OnOk result ((more : List Said) × spec.ParamsShown params.entry more × (fields.new.items ≡ fields.old.items ++ more)) }
+{
     let mut params = params;
-    for _ in 0..params.left() {
+    'params: while params.left() > 0 {
         match params.next_param() {
             Ok(Some(it)) => fields.push(field_of(it.param))?,
             Ok(None) => return Ok(()),
@@ -50,7 +64,9 @@ pub(crate) fn append_params<'p>(
 }
 
 /// A parameter.
-fn field_of<'p>(param: ExecuteParam<'p>) -> Field<'p> {
+fn field_of<'p>(param: ExecuteParam<'p>) -> Field<'p>
+    ensures { result ≡ said (codes "parameter") (spec.param_shown (param_of param.entry)) }
+{
     match param {
         ExecuteParam::Value(value) => Field::value("parameter", value),
         ExecuteParam::DateTimeWithOffset(date) => {

@@ -1,4 +1,5 @@
 //! Shows each packet of a recording.
+#![tactic(auto, using(crate::proofs::Stays::stay))]
 
 ghost use Rattle.std.specs.Prelude.{◌≡◌, ◌≢◌, ◌↔◌, ◌-◌, [], ◌∷◌, ◌++◌, ℕ, List, IfOk, IfErr, IsTrue, OnErr, OnOk, true, false, is_some, string_bytes};
 ghost use Rattle.mysql_conversation.specs.Pipelined.{Numbered};
@@ -14,7 +15,8 @@ ghost use Rattle.mysql_conversation.specs.declared.pipeline.SessionError.TheVari
 ghost use Rattle.mysql_recorder.specs.Reasons.{IsReason};
 ghost use Rattle.mysql_recorder.specs.Refused.{MayCome, ShowsRefused, expected_fields, refusal_text};
 ghost use Rattle.mysql_recorder.specs.Refusals.{AppendsRefused, Expects, IfLine, IfRefused, Refuses};
-ghost use Rattle.mysql_recorder.specs.Shown.{Appends};
+ghost use Rattle.mysql_recorder.specs.Shown.{AppendsFields};
+ghost use Rattle.mysql_recorder.specs.RecordFields.{AreFields};
 ghost use Rattle.mysql_recorder.specs.Entries.{notice_text};
 ghost use Rattle.mysql_recorder.specs.Sides.{IsAtRest};
 ghost use Rattle.mysql_recorder.specs.Steps.{notice_exchange};
@@ -25,7 +27,7 @@ ghost use Rattle.mysql_recorder.specs.declared.packets.Taken.TheVariants as take
 
 use crate::entry::{Layout, Notice, Packet};
 use crate::error::RecordingError;
-use crate::fields::{append_client, append_server};
+use crate::fields::append_fields;
 use crate::sums::Sums;
 use crate::unheard::{Front, Unheard};
 use mysql_conversation::{PacketKind, PacketKindTag, SessionError, Side};
@@ -207,7 +209,7 @@ impl Packets {
     ) -> Result<(), AllocError>
         ensures text { OnOk result (have_float (field.entry ∷ []) ≡ false → string_bytes out.new
             ≡ string_bytes out.old ++ notice_text self.now.layout side (notice_exchange kind.now side (last_exchange self.now.observer)) kind.now (field.entry ∷ [])) }
-        ensures stays { OnOk result (Stays (string_bytes out.old) (string_bytes out.new)) }
+        ensures stays { Stays (string_bytes out.old) (string_bytes out.new) }
     {
         let notice = Notice {
             side,
@@ -243,7 +245,7 @@ impl Packets {
             → IfRefused e (λ why. ShowsRefused PacketKindTag.ALL self.old.layout side sequence payload.now items why (string_bytes out.old) (string_bytes out.new))) }
         // Also of a connection that is resumed:
         ensures reason { IfErr result (λ e. IfRefused e (λ why. IsReason self.old.observer side payload.now why)) }
-        ensures stays { IfOk result (λ taken. Stays (string_bytes out.old) (string_bytes out.new)) }
+        ensures stays { Stays (string_bytes out.old) (string_bytes out.new) }
         ensures layout { self.new.layout ≡ self.old.layout }
         ensures may_wait { limit self.new.observer ≡ limit self.old.observer }
         ensures deciphered { self.new.is_deciphered ≡ self.old.is_deciphered }
@@ -303,6 +305,7 @@ impl Packets {
     ) -> Result<Taken, RecordingError>
         ensures ok { IfOk result (λ taken. (taken ≢ taken_as.Shown) × Refuses PacketKindTag.ALL self.now.layout self.now.observer side sequence payload.now why (string_bytes out.old) (string_bytes out.new)) }
         ensures err { IfErr result (λ e. IfRefused e (λ shown. (shown ≡ why) × Refuses PacketKindTag.ALL self.now.layout self.now.observer side sequence payload.now why (string_bytes out.old) (string_bytes out.new))) }
+        ensures stays { Stays (string_bytes out.old) (string_bytes out.new) }
         ensures no_line { IfErr result (λ e. IfLine e ⊥) }
     {
         let packet = Packet {
@@ -327,7 +330,8 @@ impl Packets {
         is_between: bool,
         out: &mut String,
     ) -> Result<(), AllocError>
-        ensures ok { OnOk result (Appends self.old.layout (entry_as packet.now) (string_bytes out.old) (string_bytes out.new)) }
+        ensures ok { OnOk result (AppendsFields (λ fields. AreFields self.old.observer packet.now.side kind packet.now.payload.now fields) self.old.layout (entry_as packet.now) (string_bytes out.old) (string_bytes out.new)) }
+        ensures stays { Stays (string_bytes out.old) (string_bytes out.new) }
         ensures observer { self.new.observer ≡ self.old.observer }
         ensures deciphered { self.new.is_deciphered ≡ self.old.is_deciphered }
         ensures layout { self.new.layout ≡ self.old.layout }
@@ -339,10 +343,29 @@ impl Packets {
         let is_early = !is_between && matches!(kind, PacketKind::Command(_));
         self.unheard
             .hear(packet.side, kind, is_early, packet.payload);
-        match packet.side {
-            Side::Client => self.show_client(packet, kind, out),
-            Side::Server => self.show_server(packet, kind, out),
-        }
+        self.show_fields(packet, kind, out)
+    }
+
+    /// Appends a packet with its fields.
+    fn show_fields(
+        &self,
+        packet: &Packet<'_>,
+        kind: PacketKind,
+        out: &mut String,
+    ) -> Result<(), AllocError>
+        ensures ok { OnOk result (AppendsFields (λ fields. AreFields self.now.observer packet.now.side kind packet.now.payload.now fields) self.now.layout (entry_as packet.now) (string_bytes out.old) (string_bytes out.new)) }
+        ensures stays { Stays (string_bytes out.old) (string_bytes out.new) }
+    {
+        let mut fields = Vec::new(self.alloc);
+        append_fields(
+            self.alloc,
+            &self.observer,
+            packet.side,
+            kind,
+            packet.payload,
+            &mut fields,
+        )?;
+        packet.append(self.alloc, self.layout, fields.as_slice(), out)
     }
 
     /// Appends an unexpected packet, with its first bytes, and the kinds that may come next.
@@ -353,6 +376,7 @@ impl Packets {
         out: &mut String,
     ) -> Result<(), AllocError>
         ensures ok { OnOk result (AppendsRefused PacketKindTag.ALL self.now.layout self.now.observer (entry_as packet.now) why (string_bytes out.old) (string_bytes out.new)) }
+        ensures stays { Stays (string_bytes out.old) (string_bytes out.new) }
     {
         let payload = packet.payload;
         let mut fields = Vec::new(self.alloc);
@@ -396,43 +420,5 @@ impl Packets {
     {
         self.observer.may_receive(Side::Client, name)
             || self.observer.may_receive(Side::Server, name)
-    }
-
-    fn show_client(
-        &self,
-        packet: &Packet<'_>,
-        kind: PacketKind,
-        out: &mut String,
-    ) -> Result<(), AllocError>
-        ensures ok { OnOk result (Appends self.now.layout (entry_as packet.now) (string_bytes out.old) (string_bytes out.new)) }
-    {
-        let mut fields = Vec::new(self.alloc);
-        append_client(
-            self.alloc,
-            &self.observer,
-            kind,
-            packet.payload,
-            &mut fields,
-        )?;
-        packet.append(self.alloc, self.layout, fields.as_slice(), out)
-    }
-
-    fn show_server(
-        &self,
-        packet: &Packet<'_>,
-        kind: PacketKind,
-        out: &mut String,
-    ) -> Result<(), AllocError>
-        ensures ok { OnOk result (Appends self.now.layout (entry_as packet.now) (string_bytes out.old) (string_bytes out.new)) }
-    {
-        let mut fields = Vec::new(self.alloc);
-        append_server(
-            self.alloc,
-            &self.observer,
-            kind,
-            packet.payload,
-            &mut fields,
-        )?;
-        packet.append(self.alloc, self.layout, fields.as_slice(), out)
     }
 }

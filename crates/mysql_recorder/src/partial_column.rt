@@ -1,5 +1,9 @@
 //! A definition of a column that is malformed, as far as it can be read.
 
+ghost use Rattle.std.specs.Prelude.{◌∷◌, ◌≡◌, ◌++◌, List, OnOk, codes};
+ghost use Rattle.mysql_show.specs.Fields.{Said, Word, said};
+ghost use Rattle.mysql_recorder.specs.ValueFields.{fault_text};
+
 use crate::values::append_refused;
 use mysql_show::Field;
 use mysql_wire::{BytesRepr, FaultOf, LenEnc, ParseBuf};
@@ -28,7 +32,9 @@ pub(crate) fn append_partial_column<'p>(
     payload: &'p [u8],
     fault: &FaultOf<'_>,
     fields: &mut Vec<Field<'p>>,
-) -> Result<(), AllocError> {
+) -> Result<(), AllocError>
+    ensures ok { OnOk result ((own more : List Said) × (fields.new.items ≡ fields.old.items ++ (own ++ said (codes "refused") (Word (fault_text fault.now)) ∷ more))) }
+{
     let [3, b'd', b'e', b'f', texts @ ..] = payload else {
         return append_refused(fault, payload, fields);
     };

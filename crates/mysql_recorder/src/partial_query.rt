@@ -1,5 +1,8 @@
 //! A query whose attributes are malformed, as far as it can be read.
 
+ghost use Rattle.std.specs.Prelude.{OnOk};
+ghost use Rattle.mysql_recorder.specs.ServerFields.{BeginsWith};
+
 use crate::values::{append_attributes, append_unread};
 use mysql_commands::read_query_attributes;
 use mysql_conversation::PacketKind;
@@ -19,7 +22,9 @@ pub(crate) fn append_partial_query<'p>(
     kind: PacketKind,
     payload: &'p [u8],
     fields: &mut Vec<Field<'p>>,
-) -> Result<(), AllocError> {
+) -> Result<(), AllocError>
+    ensures ok { OnOk result (BeginsWith fields.old.items fields.new.items) }
+{
     let Some(agreed) = agreed else {
         return Ok(());
     };

@@ -1,4 +1,5 @@
 //! A recording: what both sides of a connection sent.
+#![tactic(auto, using(crate::proofs::Stays::stay))]
 
 ghost use Rattle.std.specs.Prelude.{◌≡◌, ◌↔◌, ◌∷◌, [], ℕ, List, IfErr, IsTrue, None, OnOk, Some, false, true, string_bytes};
 ghost use Rattle.mysql_show.specs.Appended.{Stays};
@@ -154,7 +155,7 @@ impl Recording {
         ensures sums { spec.has_sums self.new ≡ spec.has_sums self.old }
         ensures refused { IfErr result (λ e. Stops PacketKindTag.ALL input.now self.old self.new e (string_bytes out.old) (string_bytes out.new)) }
         ensures loses { Loses result PacketKindTag.ALL input.now self.old self.new (string_bytes out.old) (string_bytes out.new) }
-        ensures text { OnOk result (Stays (string_bytes out.old) (string_bytes out.new)) }
+        ensures text { Stays (string_bytes out.old) (string_bytes out.new) }
         // The error is `Line` only where a line of the input is none of a recording's, and then it is an error.
         ensures place { OnOk result (place_after (spec.place self.old) input.now ≡ Some (spec.place self.new)) }
         ensures line { IfErr result (λ e. IfLine e (place_after (spec.place self.old) input.now ≡ None)) }
@@ -172,7 +173,7 @@ impl Recording {
         ensures settings { spec.KeepsSettings self.old self.new }
         ensures refused { IfErr result (λ e. TextStops PacketKindTag.ALL self.old e (string_bytes out.old) (string_bytes out.new)) }
         ensures loses { TextLoses result PacketKindTag.ALL ⊥ self.old self.new (string_bytes out.old) (string_bytes out.new) }
-        ensures text { OnOk result (Stays (string_bytes out.old) (string_bytes out.new)) }
+        ensures text { Stays (string_bytes out.old) (string_bytes out.new) }
         ensures no_line { IfErr result (λ e. IfLine e ⊥) }
         ensures place { self.new.place ≡ self.old.place }
     {
@@ -190,7 +191,7 @@ impl Recording {
         ensures settings { spec.KeepsSettings self.old self.new }
         ensures refused { IfErr result (λ e. TextStops PacketKindTag.ALL self.old e (string_bytes out.old) (string_bytes out.new)) }
         ensures loses { TextLoses result PacketKindTag.ALL (byte ≡ 10) self.old self.new (string_bytes out.old) (string_bytes out.new) }
-        ensures text { OnOk result (Stays (string_bytes out.old) (string_bytes out.new)) }
+        ensures text { Stays (string_bytes out.old) (string_bytes out.new) }
         ensures place { OnOk result (next_place self.old.place byte ≡ Some self.new.place) }
         ensures line { IfErr result (λ e. IfLine e (next_place self.old.place byte ≡ None)) }
     {
@@ -216,7 +217,7 @@ impl Recording {
         ensures sums { spec.has_sums self.new ≡ spec.has_sums self.old }
         ensures refused { IfErr result (λ e. TextStops PacketKindTag.ALL self.old e (string_bytes out.old) (string_bytes out.new)) }
         ensures loses { TextLoses result PacketKindTag.ALL (Unit {0}) self.old self.new (string_bytes out.old) (string_bytes out.new) }
-        ensures text { OnOk result (Stays (string_bytes out.old) (string_bytes out.new)) }
+        ensures text { Stays (string_bytes out.old) (string_bytes out.new) }
         ensures no_line { IfErr result (λ e. IfLine e ⊥) }
     {
         self.end_line(out)?;
@@ -239,7 +240,7 @@ impl Recording {
         ensures line { OnOk result (self.new.line.bytes.items ≡ []) }
         ensures refused { IfErr result (λ e. LineStops PacketKindTag.ALL self.old e (string_bytes out.old) (string_bytes out.new)) }
         ensures loses { LineEndLoses result PacketKindTag.ALL self.old self.new (string_bytes out.old) (string_bytes out.new) }
-        ensures text { OnOk result (Stays (string_bytes out.old) (string_bytes out.new)) }
+        ensures text { Stays (string_bytes out.old) (string_bytes out.new) }
         ensures untaken { self.new.line.is_untaken ≡ true }
         ensures no_line { IfErr result (λ e. IfLine e ⊥) }
     {
@@ -257,7 +258,7 @@ impl Recording {
         ensures line { OnOk result (self.new.line.bytes.items ≡ []) }
         ensures refused { IfErr result (λ e. LineStops PacketKindTag.ALL self.old e (string_bytes out.old) (string_bytes out.new)) }
         ensures loses { LineEndLoses result PacketKindTag.ALL self.old self.new (string_bytes out.old) (string_bytes out.new) }
-        ensures text { OnOk result (Stays (string_bytes out.old) (string_bytes out.new)) }
+        ensures text { Stays (string_bytes out.old) (string_bytes out.new) }
         ensures no_line { IfErr result (λ e. IfLine e ⊥) }
     {
         let missing = missing_of(self.line.bytes.as_slice());
@@ -275,7 +276,7 @@ impl Recording {
         ensures line { OnOk result (self.new.line.bytes.items ≡ []) }
         ensures stays { spec.has_lost self.old ≡ true → spec.has_lost self.new ≡ true }
         ensures refused { IfErr result (λ e. IfRefused e (λ why. ⊥)) }
-        ensures text { OnOk result (Stays (string_bytes out.old) (string_bytes out.new)) }
+        ensures text { Stays (string_bytes out.old) (string_bytes out.new) }
         ensures no_line { IfErr result (λ e. IfLine e ⊥) }
     {
         self.sides.lose(self.line.side, Loss::Missing(count), out)?;
@@ -292,7 +293,7 @@ impl Recording {
         ensures line { OnOk result (self.new.line.bytes.items ≡ []) }
         ensures refused { IfErr result (λ e. LineStops PacketKindTag.ALL self.old e (string_bytes out.old) (string_bytes out.new)) }
         ensures loses { LineLoses result PacketKindTag.ALL self.old self.new (string_bytes out.old) (string_bytes out.new) }
-        ensures text { OnOk result (Stays (string_bytes out.old) (string_bytes out.new)) }
+        ensures text { Stays (string_bytes out.old) (string_bytes out.new) }
         ensures taken { self.new.line.is_untaken ≡ false }
         ensures no_line { IfErr result (λ e. IfLine e ⊥) }
     {

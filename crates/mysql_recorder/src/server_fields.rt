@@ -1,5 +1,10 @@
 //! The fields of a server's packet.
 
+ghost use Rattle.std.specs.Prelude.{◌≡◌, ◌++◌, List, OnOk};
+ghost use Rattle.mysql_show.specs.Fields.{Said};
+ghost use Rattle.mysql_show.specs.Logins.{greeting_fields as after_versions, version_fields as versions};
+ghost use Rattle.mysql_recorder.specs.ServerFields as spec;
+
 use crate::change_fields::append_changes;
 use crate::client_fields::{append, append_length};
 use crate::values::{append_row, append_text_row};
@@ -19,7 +24,9 @@ use std::alloc::AllocError;
 pub(crate) fn server_fields<'p, C: TypedColumn>(
     packet: &mut ServerPacket<'p, '_, C>,
     fields: &mut Vec<Field<'p>>,
-) -> Result<(), AllocError> {
+) -> Result<(), AllocError>
+    ensures ok { OnOk result (spec.AddsServer packet.old fields.old.items fields.new.items) }
+{
     match packet {
         ServerPacket::Handshake(greeting) => append_greeting(greeting, fields),
         ServerPacket::GreetingError(error) => {
@@ -65,7 +72,9 @@ pub(crate) fn server_fields<'p, C: TypedColumn>(
 fn append_greeting<'p>(
     greeting: &HandshakePacketRef<'p>,
     fields: &mut Vec<Field<'p>>,
-) -> Result<(), AllocError> {
+) -> Result<(), AllocError>
+    ensures ok { OnOk result (fields.new.items ≡ fields.old.items ++ (versions greeting.now ++ after_versions greeting.now)) }
+{
     add_fields(&version_fields(greeting), fields)?;
     add_fields(&greeting_fields(greeting), fields)
 }
@@ -73,7 +82,9 @@ fn append_greeting<'p>(
 fn append_err<'p>(
     packet: &ErrPacketRef<'p>,
     fields: &mut Vec<Field<'p>>,
-) -> Result<(), AllocError> {
+) -> Result<(), AllocError>
+    ensures ok { OnOk result (fields.new.items ≡ fields.old.items ++ spec.err_fields packet.now) }
+{
     if packet.is_error() {
         add_fields(&error_fields(packet.server_error()), fields)
     } else {
@@ -84,7 +95,9 @@ fn append_err<'p>(
 fn append_column<'p>(
     extended: &ExtendedColumnRef<'p>,
     fields: &mut Vec<Field<'p>>,
-) -> Result<(), AllocError> {
+) -> Result<(), AllocError>
+    ensures ok { OnOk result (fields.new.items ≡ fields.old.items ++ spec.column_fields extended.now) }
+{
     add_fields(&column_names(extended.column()), fields)?;
     add_fields(&column_numbers(extended.column()), fields)?;
     match extended.metadata() {
@@ -97,7 +110,9 @@ fn append_column<'p>(
 fn append_field_list_column<'p>(
     column: &FieldListColumn<'p>,
     fields: &mut Vec<Field<'p>>,
-) -> Result<(), AllocError> {
+) -> Result<(), AllocError>
+    ensures ok { OnOk result (fields.new.items ≡ fields.old.items ++ spec.field_list_fields column.now) }
+{
     append_column(column.column(), fields)?;
     let value = column
         .default_value()

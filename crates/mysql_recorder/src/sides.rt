@@ -1,4 +1,5 @@
 //! Both sides of a connection: their streams, and the packets that are shown.
+#![tactic(auto, using(crate::proofs::Stays::stay))]
 
 ghost use Rattle.std.specs.Prelude.{◌≡◌, ◌≢◌, ◌↔◌, ◌-◌, ◌∷◌, [], ◌++◌, ℕ, List, IfOk, IfErr, IsTrue, OnOk, None, true, false, string_bytes};
 ghost use Rattle.mysql_show.specs.Appended.{Stays};
@@ -146,7 +147,7 @@ impl Sides {
         ensures lost { spec.has_lost self.old ≡ true → spec.has_lost self.new ≡ true }
         ensures settings { spec.KeepsSettings self.old self.new }
         ensures loses { PieceLoses result PacketKindTag.ALL side piece.now self.old self.new (string_bytes out.old) (string_bytes out.new) }
-        ensures text { OnOk result (Stays (string_bytes out.old) (string_bytes out.new)) }
+        ensures text { Stays (string_bytes out.old) (string_bytes out.new) }
         ensures no_line { IfErr result (λ e. IfLine e ⊥) }
     {
         if is_beginning && self.passed(side).is_some() {
@@ -166,7 +167,7 @@ impl Sides {
         ensures goes { OnOk result (spec.GoesOn (spec.piece side piece.now ∷ []) self.old self.new (string_bytes out.old) (string_bytes out.new)) }
         ensures lost { spec.has_lost self.old ≡ true → spec.has_lost self.new ≡ true }
         ensures settings { spec.KeepsSettings self.old self.new }
-        ensures text { OnOk result (Stays (string_bytes out.old) (string_bytes out.new)) }
+        ensures text { Stays (string_bytes out.old) (string_bytes out.new) }
         ensures no_line { IfErr result (λ e. IfLine e ⊥) }
     {
         self.take_up(side, piece, out)?;
@@ -180,7 +181,7 @@ impl Sides {
         ensures goes { OnOk result (spec.GoesOn [] self.old self.new (string_bytes out.old) (string_bytes out.new)) }
         ensures lost { spec.has_lost self.old ≡ true → spec.has_lost self.new ≡ true }
         ensures settings { spec.KeepsSettings self.old self.new }
-        ensures text { OnOk result (Stays (string_bytes out.old) (string_bytes out.new)) }
+        ensures text { Stays (string_bytes out.old) (string_bytes out.new) }
         ensures no_line { IfErr result (λ e. IfLine e ⊥) }
     {
         let Some(passed) = self.passed(side) else {
@@ -233,7 +234,7 @@ impl Sides {
     pub(crate) fn say_unheard(&self, out: &mut String) -> Result<(), AllocError>
         ensures left { OnOk result (steps.SaysLeft self.now (string_bytes out.old) (string_bytes out.new)) }
         ensures none { OnOk result (spec.SaysNothing self.now (string_bytes out.old) (string_bytes out.new)) }
-        ensures stays { OnOk result (Stays (string_bytes out.old) (string_bytes out.new)) }
+        ensures stays { Stays (string_bytes out.old) (string_bytes out.new) }
     {
         self.say_left(Side::Client, out)?;
         self.say_left(Side::Server, out)
@@ -243,7 +244,7 @@ impl Sides {
     fn say_left(&self, side: Side, out: &mut String) -> Result<(), AllocError>
         ensures text { OnOk result (string_bytes out.new ≡ string_bytes out.old ++ steps.left_text side self.now) }
         ensures none { OnOk result (spec.passed_of side self.now ≡ None → string_bytes out.new ≡ string_bytes out.old) }
-        ensures stays { OnOk result (Stays (string_bytes out.old) (string_bytes out.new)) }
+        ensures stays { Stays (string_bytes out.old) (string_bytes out.new) }
     {
         match self.passed(side) {
             Some(passed) if self.has_lost || passed > 0 => {
@@ -262,7 +263,7 @@ impl Sides {
         out: &mut String,
     ) -> Result<(), AllocError>
         ensures text { OnOk result (string_bytes out.new ≡ string_bytes out.old ++ steps.passed_text self.now kind.now side passed) }
-        ensures stays { OnOk result (Stays (string_bytes out.old) (string_bytes out.new)) }
+        ensures stays { Stays (string_bytes out.old) (string_bytes out.new) }
     {
         let field = Field::number("skipped_bytes", passed);
         self.packets.append_notice(kind, side, field, out)
@@ -280,7 +281,7 @@ impl Sides {
         ensures stays { spec.has_lost self.old ≡ true → spec.has_lost self.new ≡ true }
         ensures refused { IfErr result (λ e. IfRefused e (λ why. ⊥)) }
         ensures settings { spec.KeepsSettings self.old self.new }
-        ensures text { OnOk result (Stays (string_bytes out.old) (string_bytes out.new)) }
+        ensures text { Stays (string_bytes out.old) (string_bytes out.new) }
         ensures no_line { IfErr result (λ e. IfLine e ⊥) }
     {
         let Some(agreed) = self.packets.agreed() else {
@@ -334,7 +335,7 @@ impl Sides {
         ensures lost { spec.has_lost self.old ≡ true → spec.has_lost self.new ≡ true }
         ensures settings { spec.KeepsSettings self.old self.new }
         ensures loses { PieceLoses result PacketKindTag.ALL side piece.now self.old self.new (string_bytes out.old) (string_bytes out.new) }
-        ensures text { OnOk result (Stays (string_bytes out.old) (string_bytes out.new)) }
+        ensures text { Stays (string_bytes out.old) (string_bytes out.new) }
         ensures no_line { IfErr result (λ e. IfLine e ⊥) }
     {
         if self.passed(side).is_some() {
@@ -361,7 +362,7 @@ impl Sides {
         ensures stays { spec.has_lost self.old ≡ true → spec.has_lost self.new ≡ true }
         ensures settings { spec.KeepsSettings self.old self.new }
         ensures refused { IfErr result (λ e. IfRefused e (λ why. ⊥)) }
-        ensures text { OnOk result (Stays (string_bytes out.old) (string_bytes out.new)) }
+        ensures text { Stays (string_bytes out.old) (string_bytes out.new) }
         ensures no_line { IfErr result (λ e. IfLine e ⊥) }
     {
         self.await_answer(side, first);
@@ -393,7 +394,7 @@ impl Sides {
         ensures lost { spec.has_lost self.new ≡ spec.has_lost self.old }
         ensures settings { spec.KeepsSettings self.old self.new }
         ensures loses { IfOk result (λ came. came ≢ came_as.Whole → PieceLosesIn PacketKindTag.ALL side piece.now self.old (string_bytes out.old) (string_bytes out.new)) }
-        ensures stays { IfOk result (λ came. Stays (string_bytes out.old) (string_bytes out.new)) }
+        ensures stays { Stays (string_bytes out.old) (string_bytes out.new) }
         ensures no_line { IfErr result (λ e. IfLine e ⊥) }
     {
         match side {

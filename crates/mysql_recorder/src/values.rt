@@ -1,4 +1,10 @@
 //! The values of rows.
+#![tactic(auto, using(crate::proofs::ValuesShown::values))]
+
+ghost use Rattle.std.specs.Prelude.{◌≡◌, ◌++◌, List, OnOk};
+ghost use Rattle.mysql_prepared.specs.RowView.{RowLeft};
+ghost use Rattle.mysql_show.specs.Fields.{Said};
+ghost use Rattle.mysql_recorder.specs.ValueFields as spec;
 
 use mysql_prepared::{BinaryRowView, QueryAttributesView, TextRowView, TypedColumn};
 use mysql_show::Field;
@@ -7,7 +13,9 @@ use mysql_wire::FaultOf;
 use std::alloc::AllocError;
 
 /// The name of a fault.
-pub(crate) fn fault_name(fault: &FaultOf<'_>) -> &'static str {
+pub(crate) fn fault_name(fault: &FaultOf<'_>) -> &'static str
+    ensures { result.now ≡ spec.fault_text fault.now }
+{
     match fault {
         FaultOf::UnexpectedEof => "UnexpectedEof",
         FaultOf::InvalidData(_) => "InvalidData",
@@ -21,7 +29,9 @@ pub(crate) fn append_refused<'p>(
     fault: &FaultOf<'_>,
     rest: &'p [u8],
     fields: &mut Vec<Field<'p>>,
-) -> Result<(), AllocError> {
+) -> Result<(), AllocError>
+    ensures ok { OnOk result (fields.new.items ≡ fields.old.items ++ spec.refused_at (spec.fault_text fault.now) rest.now) }
+{
     fields.push(Field::word("refused", fault_name(fault)))?;
     append_unread(rest, fields)
 }
@@ -30,11 +40,13 @@ pub(crate) fn append_refused<'p>(
 pub(crate) fn append_unread<'p>(
     rest: &'p [u8],
     fields: &mut Vec<Field<'p>>,
-) -> Result<(), AllocError> {
-    if rest.is_empty() {
-        return Ok(());
+) -> Result<(), AllocError>
+    ensures ok { OnOk result (fields.new.items ≡ fields.old.items ++ spec.unread_fields rest.now) }
+{
+    match rest {
+        [] => Ok(()),
+        [_, ..] => Ok(fields.push(Field::bytes("unread", rest))?),
     }
-    Ok(fields.push(Field::bytes("unread", rest))?)
 }
 
 /// Appends the names and the values of attributes, up to the first that can't be read, and the bytes from there on; and the fault, unless its
@@ -43,9 +55,11 @@ pub(crate) fn append_attributes<'p>(
     attributes: QueryAttributesView<'p>,
     is_refused: bool,
     fields: &mut Vec<Field<'p>>,
-) -> Result<(), AllocError> {
+) -> Result<(), AllocError>
+    ensures ok { OnOk result ((more : List Said) × spec.AttributesShown is_refused attributes.entry more × (fields.new.items ≡ fields.old.items ++ more)) }
+{
     let mut attributes = attributes;
-    for _ in 0..attributes.left() {
+    'attributes: while attributes.left() > 0 {
         match attributes.next_attribute() {
             Ok(Some(attribute)) => {
                 fields.push(Field::bytes("attribute", attribute.name))?;
@@ -63,8 +77,10 @@ pub(crate) fn append_attributes<'p>(
 pub(crate) fn append_text_row<'p>(
     row: &mut TextRowView<'p>,
     fields: &mut Vec<Field<'p>>,
-) -> Result<(), AllocError> {
-    for _ in 0..row.left() {
+) -> Result<(), AllocError>
+    ensures ok { OnOk result (fields.new.items ≡ fields.old.items ++ spec.row_fields row.old) }
+{
+    'values: while row.left() > 0 {
         match row.next_value() {
             Ok(Some(value)) => fields.push(Field::value("value", value))?,
             Ok(None) => return Ok(()),
@@ -78,8 +94,10 @@ pub(crate) fn append_text_row<'p>(
 pub(crate) fn append_row<'p, C: TypedColumn>(
     row: &mut BinaryRowView<'p, '_, ServerSide, C>,
     fields: &mut Vec<Field<'p>>,
-) -> Result<(), AllocError> {
-    for _ in 0..row.left() {
+) -> Result<(), AllocError>
+    ensures ok { OnOk result (fields.new.items ≡ fields.old.items ++ spec.row_fields row.old) }
+{
+    'values: while row.left() > 0 {
         match row.next_value() {
             Ok(Some(value)) => fields.push(Field::value("value", value))?,
             Ok(None) => return Ok(()),
