@@ -51,15 +51,16 @@ extern "C" {
 
 enum myp_code {
     MYP_OK = 0,
-    MYP_ERROR_UNEXPECTED_EOF = 1,   /* the packet is truncated */
-    MYP_ERROR_INVALID_DATA = 2,     /* the bytes are not a valid packet of this type */
-    MYP_ERROR_INVALID_INPUT = 3,    /* an argument fits no packet */
-    MYP_ERROR_TOO_LARGE = 4,        /* the total length of the strings overflows size_t */
-    MYP_ERROR_BUFFER_TOO_SMALL = 5, /* the buffer or the array is too small */
-    MYP_ERROR_ROW_TOO_LARGE = 6,    /* a row fits no bulk request */
-    MYP_END = 7,                    /* end of the list */
-    MYP_ERROR_OUT_OF_RANGE = 8,     /* the number is beyond the range of its type */
-    MYP_ERROR_COMPRESSED = 9        /* both sides agreed on compression */
+    MYP_ERROR_UNEXPECTED_EOF = 1,    /* the packet is truncated */
+    MYP_ERROR_INVALID_DATA = 2,      /* the bytes are not a valid packet of this type */
+    MYP_ERROR_INVALID_INPUT = 3,     /* an argument fits no packet */
+    MYP_ERROR_TOO_LARGE = 4,         /* the total length of the strings overflows size_t */
+    MYP_ERROR_BUFFER_TOO_SMALL = 5,  /* the buffer or the array is too small */
+    MYP_ERROR_ROW_TOO_LARGE = 6,     /* a row fits no bulk request */
+    MYP_END = 7,                     /* end of the list */
+    MYP_ERROR_OUT_OF_RANGE = 8,      /* the number is beyond the range of its type */
+    MYP_ERROR_COMPRESSED = 9,        /* both sides agreed on compression */
+    MYP_ERROR_TOO_MANY_COMMANDS = 10 /* too many pipelined commands */
 };
 
 static inline const char *myp_error_text(uint32_t code)
@@ -75,6 +76,7 @@ static inline const char *myp_error_text(uint32_t code)
     case MYP_END: return "end of the list";
     case MYP_ERROR_OUT_OF_RANGE: return "the number is out of range";
     case MYP_ERROR_COMPRESSED: return "both sides agreed on compression";
+    case MYP_ERROR_TOO_MANY_COMMANDS: return "too many pipelined commands";
     default: return "unknown code";
     }
 }
@@ -163,7 +165,7 @@ enum myp_side {
 enum myp_opening {
     MYP_OPENING_AFTER_LOGIN = 1,
     MYP_OPENING_BETWEEN_COMMANDS = 2,
-    MYP_OPENING_SESSION = 3 /* of myp_begin_session alone, until the client has sent its login */
+    MYP_OPENING_SESSION = 3 /* only of myp_begin_session, until the client has sent its login */
 };
 
 /* The kind of a packet, which depends on all packets before it. */
@@ -206,24 +208,28 @@ enum myp_packet_kind {
 typedef struct myp_conversation {
     uint64_t definitions;
     uint64_t columns;
-    uint32_t capabilities;         /* what both sides agreed on; before the login the server's */
+    uint64_t exchange;             /* the number of the command that is answered, or was last */
+    uint64_t commands;             /* the number of commands so far; those after `exchange` wait */
+    uint32_t capabilities;         /* agreed by both sides; before the login, the server's */
     uint32_t mariadb_capabilities;
     uint8_t opening; /* of enum myp_opening */
     uint8_t place;
     uint8_t request;
     uint8_t after;
+    uint8_t waiting[8];
 } myp_conversation;
-#define MYP_CONVERSATION_INIT { 0, 0, 0, 0, 0, 0, 0, 0 }
+#define MYP_CONVERSATION_INIT { 0, 0, 0, 0, 0, 0, 0, 0, 0, 0, { 0 } }
 
 /* Fields that the kind doesn't name are 0. Initializer: MYP_PACKET_INIT. */
 typedef struct myp_packet {
     uint64_t columns;
+    uint64_t exchange;        /* of any kind: the number of its command, from 1; 0 before them */
     uint16_t params;
     uint8_t kind;             /* of enum myp_packet_kind */
     uint8_t command;
     uint8_t metadata_follows; /* of MYP_PACKET_COLUMN_COUNT and _PREPARE_OK: definitions follow */
 } myp_packet;
-#define MYP_PACKET_INIT { 0, 0, 0, 0, 0 }
+#define MYP_PACKET_INIT { 0, 0, 0, 0, 0, 0 }
 
 /* Begins a session before the server's greeting. Pass each payload of both sides to
  * myp_next_packet, and the login too. Once its kind is MYP_PACKET_LOGIN and `opening` is
@@ -241,9 +247,10 @@ MYP_MUST_CHECK uint32_t myp_begin_conversation(
     uint8_t opening,
     myp_conversation *out);
 
-/* Takes the next payload, sent by a side of enum myp_side, and returns its kind. Each command must
- * be answered before the next one. MYP_ERROR_INVALID_DATA if the payload may not come here;
- * MYP_ERROR_INVALID_INPUT for another side, or a struct that is no conversation;
+/* Takes the next payload, sent by a side of enum myp_side, and returns its kind and exchange. Up to
+ * eight commands may wait for the responses to earlier ones: MYP_ERROR_TOO_MANY_COMMANDS for the
+ * next one, which may be passed again after a response. MYP_ERROR_INVALID_DATA if the payload may
+ * not come here; MYP_ERROR_INVALID_INPUT for another side, or a struct that is no conversation;
  * MYP_ERROR_COMPRESSED for the login of a session by which both sides agree on compression: the
  * bytes after it are compressed packets. After each error both structs are unchanged. */
 MYP_MUST_CHECK uint32_t myp_next_packet(
@@ -288,8 +295,8 @@ MYP_MUST_CHECK uint32_t myp_read_handshake(
     size_t len,
     myp_handshake *out);
 
-/* Copies the nonce of a greeting, which the scramble calls take. Returns 0 if the server sent fewer
- * than 20 bytes, else 1. */
+/* Copies the nonce of a greeting, to be passed to the scramble calls. Returns 0 if the server sent
+ * fewer than 20 bytes, else 1. */
 static inline int myp_nonce(const myp_handshake *handshake, uint8_t nonce[20])
 {
     size_t i;
@@ -315,8 +322,8 @@ MYP_MUST_CHECK uint32_t myp_read_server_version(
     size_t len,
     myp_server_version *out);
 
-/* Reads the version of MariaDB: such numbers followed by -MariaDB, at the start of the text or
- * after the prefix 5.5.5-. MYP_ERROR_INVALID_DATA if there is none, as for MySQL. */
+/* Reads the version of MariaDB: three such numbers followed by -MariaDB, at the start of the text
+ * or after the prefix 5.5.5-. MYP_ERROR_INVALID_DATA if there is none, as for MySQL. */
 MYP_MUST_CHECK uint32_t myp_read_mariadb_version(
     const uint8_t *text,
     size_t len,
@@ -366,8 +373,9 @@ MYP_MUST_CHECK uint32_t myp_read_public_key(
     size_t len,
     myp_bytes *pem);
 
-/* Reads what the plugin parsec receives after the nonce, 20 bytes: 'P', a factor of at most 20, and
- * a salt of 18 bytes; *iterations is 1024 << factor. MYP_ERROR_INVALID_DATA for anything else. */
+/* Reads the data that the plugin parsec receives after the nonce, 20 bytes: 'P', a factor of at
+ * most 20, and a salt of 18 bytes; *iterations is 1024 << factor. MYP_ERROR_INVALID_DATA for
+ * anything else. */
 MYP_MUST_CHECK uint32_t myp_read_parsec_salt(
     const uint8_t *packet,
     size_t len,
@@ -528,8 +536,8 @@ typedef struct myp_field_list_column {
 } myp_field_list_column;
 #define MYP_FIELD_LIST_COLUMN_INIT { MYP_COLUMN_INIT, MYP_BYTES_INIT, 0 }
 
-/* Reads a column that COM_FIELD_LIST returns (MYP_PACKET_FIELD_LIST_COLUMN): as myp_read_column,
- * and a default value. MYP_ERROR_UNEXPECTED_EOF if that is missing; MYP_ERROR_INVALID_DATA if its
+/* Reads a column that COM_FIELD_LIST returns (MYP_PACKET_FIELD_LIST_COLUMN): like myp_read_column,
+ * with a default value. MYP_ERROR_UNEXPECTED_EOF if that is missing; MYP_ERROR_INVALID_DATA if its
  * length begins with ff. */
 MYP_MUST_CHECK uint32_t myp_read_field_list_column(
     const uint8_t *packet,
@@ -567,10 +575,12 @@ enum myp_value_kind {
     MYP_VALUE_DOUBLE,
     MYP_VALUE_DATE,
     MYP_VALUE_TIME,
-    MYP_VALUE_DATE_WITH_OFFSET
+    MYP_VALUE_DATE_WITH_OFFSET,
+    MYP_VALUE_DEFAULT,
+    MYP_VALUE_IGNORE
 };
 
-/* A value of a row, a parameter or an attribute. In a text row values are bytes or NULL. In a
+/* A value of a row, a parameter or an attribute. In a text row, values are bytes or NULL. In a
  * binary row the kind depends on the column's type: MYP_VALUE_INT for integers and years,
  * MYP_VALUE_UINT for an unsigned MYP_TYPE_LONGLONG, MYP_VALUE_FLOAT, MYP_VALUE_DOUBLE and
  * MYP_VALUE_TIME for those types, MYP_VALUE_DATE for DATE, DATETIME and TIMESTAMP, and
@@ -592,7 +602,11 @@ enum myp_value_kind {
  *                      those of MYP_VALUE_DATE, and number: the offset from UTC in minutes, in
  *                      two's complement, from -32768 to 32767. Only parameters and attributes of
  *                      the types DATETIME and TIMESTAMP have it: calls that write rows and bulk
- *                      requests return MYP_ERROR_INVALID_INPUT for it */
+ *                      requests return MYP_ERROR_INVALID_INPUT for it
+ *   MYP_VALUE_DEFAULT, MYP_VALUE_IGNORE
+ *                      none: in a row of a bulk request that is written, the column's default, or
+ *                      a column that is left unchanged. All other calls return
+ *                      MYP_ERROR_INVALID_INPUT for them, and none sets them */
 typedef struct myp_value {
     uint8_t kind; /* of enum myp_value_kind */
     uint8_t is_negative, month, day, hour, minute, second;
@@ -677,6 +691,20 @@ static inline myp_value myp_time(
     return value;
 }
 
+static inline myp_value myp_default(void)
+{
+    myp_value value = MYP_VALUE_INIT;
+    value.kind = MYP_VALUE_DEFAULT;
+    return value;
+}
+
+static inline myp_value myp_ignore(void)
+{
+    myp_value value = MYP_VALUE_INIT;
+    value.kind = MYP_VALUE_IGNORE;
+    return value;
+}
+
 /* Returns the number of MYP_VALUE_FLOAT and MYP_VALUE_DOUBLE. */
 static inline double myp_as_double(const myp_value *value)
 {
@@ -709,7 +737,8 @@ static inline myp_column_type myp_type_of(const myp_column *column)
 }
 
 /* Reads ProtocolText::ResultsetRow into n values, one for each column; *used is the length of the
- * row. MYP_ERROR_UNEXPECTED_EOF and MYP_ERROR_INVALID_DATA: the first values may be set. */
+ * row. MYP_ERROR_UNEXPECTED_EOF and MYP_ERROR_INVALID_DATA: the values before the faulty one are
+ * set, and the others unchanged. */
 MYP_MUST_CHECK uint32_t myp_read_text_row(
     const uint8_t *packet,
     size_t len,
@@ -717,14 +746,15 @@ MYP_MUST_CHECK uint32_t myp_read_text_row(
     size_t n,
     size_t *used);
 
-/* Converts the text of a value, decimal digits after a sign or none. MYP_ERROR_OUT_OF_RANGE for an
+/* Converts the text of a value, decimal digits with an optional sign. MYP_ERROR_OUT_OF_RANGE for an
  * integer that *out can't hold; MYP_ERROR_INVALID_DATA for any other text, such as "" or "1.5". */
 MYP_MUST_CHECK uint32_t myp_text_to_int(
     const uint8_t *text,
     size_t len,
     int64_t *out);
 
-/* As myp_text_to_int, without a sign. Any integer with a minus is MYP_ERROR_OUT_OF_RANGE. */
+/* Like myp_text_to_int, for an unsigned integer. Any integer with a minus is
+ * MYP_ERROR_OUT_OF_RANGE. */
 MYP_MUST_CHECK uint32_t myp_text_to_uint(
     const uint8_t *text,
     size_t len,
@@ -739,7 +769,8 @@ MYP_MUST_CHECK uint32_t myp_text_to_double(
 
 /* Reads ProtocolBinary::ResultsetRow into the first values, one for each column; *used is the
  * length of the row. MYP_ERROR_BUFFER_TOO_SMALL for fewer values than columns, and nothing is
- * changed; MYP_ERROR_UNEXPECTED_EOF and MYP_ERROR_INVALID_DATA: the first values may be set. */
+ * changed; MYP_ERROR_UNEXPECTED_EOF and MYP_ERROR_INVALID_DATA: the values before the faulty one
+ * are set, and the others unchanged. */
 MYP_MUST_CHECK uint32_t myp_read_binary_row(
     const uint8_t *packet,
     size_t len,
@@ -781,20 +812,20 @@ typedef struct myp_command {
 } myp_command;
 #define MYP_COMMAND_INIT { MYP_BYTES_INIT, MYP_BYTES_INIT, 0, 0, 0, 0 }
 
-/* Writes a command that is a text, a number or its byte alone; under MYP_CLIENT_QUERY_ATTRIBUTES a
- * query is written by myp_write_query. A table's name ends at its first zero.
- * MYP_ERROR_INVALID_INPUT for a command with its own call, except MYP_COM_STMT_CLOSE, for an
- * unknown byte, and for a number that doesn't fit, and *written is 0; MYP_ERROR_BUFFER_TOO_SMALL;
- * MYP_ERROR_TOO_LARGE, and *written is 0. */
+/* Writes a command that consists of a text, a number or only its byte; under
+ * MYP_CLIENT_QUERY_ATTRIBUTES a query is written by myp_write_query. A table's name ends at its
+ * first zero. MYP_ERROR_INVALID_INPUT for a command with its own call, except MYP_COM_STMT_CLOSE,
+ * for an unknown byte, and for a number that doesn't fit, and *written is 0;
+ * MYP_ERROR_BUFFER_TOO_SMALL; MYP_ERROR_TOO_LARGE, and *written is 0. */
 MYP_MUST_CHECK uint32_t myp_write_command(
     const myp_command *command,
     uint8_t *out,
     size_t size,
     size_t *written);
 
-/* A parameter of an execution, or an attribute of a query or an execution. All zero but the value,
- * it has the type of the value's kind: LONGLONG, FLOAT, DOUBLE, VAR_STRING for MYP_VALUE_BYTES,
- * DATETIME, TIME or NULL. Initializer: MYP_PARAMETER_INIT. */
+/* A parameter of an execution, or an attribute of a query or an execution. If all fields except the
+ * value are zero, it has the type of the value's kind: LONGLONG, FLOAT, DOUBLE, VAR_STRING for
+ * MYP_VALUE_BYTES, DATETIME, TIME or NULL. Initializer: MYP_PARAMETER_INIT. */
 typedef struct myp_parameter {
     myp_value value;
     myp_bytes name;        /* sent with the type, under MYP_CLIENT_QUERY_ATTRIBUTES */
@@ -865,8 +896,8 @@ enum myp_cursor {
     MYP_CURSOR_SCROLLABLE = 4
 };
 
-/* In the flags of an execution beside the cursor: under MYP_CLIENT_QUERY_ATTRIBUTES the number of
- * parameters and attributes follows, even if the statement has no parameters. */
+/* A flag of an execution, in addition to the cursor: under MYP_CLIENT_QUERY_ATTRIBUTES the number
+ * of parameters and attributes follows, even if the statement has no parameters. */
 enum myp_execution_flag {
     MYP_EXECUTION_PARAMETER_COUNT_AVAILABLE = 8
 };
@@ -922,15 +953,16 @@ enum myp_bulk_flag {
 /* Writes COM_STMT_BULK_EXECUTE, which needs MYP_MARIADB_CLIENT_STMT_BULK_OPERATIONS, with as many
  * of the first rows as a request of max_allowed_packet - 4 bytes holds (the server's
  * @@max_allowed_packet), and their types; *rows is their number. A column is a parameter of the
- * statement, in the order of its question marks. The values are row after row. The types
- * may be MYP_TYPE_LONGLONG, MYP_TYPE_FLOAT, MYP_TYPE_DOUBLE, those of dates and times, and those of
- * byte strings except MYP_TYPE_BIT; only MYP_TYPE_LONGLONG may be unsigned. Without values nothing
- * is written. A buffer of max_allowed_packet - 4 bytes is never too small.
+ * statement, in the order of its question marks. The values are row after row. Each is encoded
+ * under the type of its column, as in myp_write_execution; myp_default() and myp_ignore()
+ * fit any type. MariaDB refuses MYP_TYPE_INT24 and MYP_TYPE_YEAR: send a MEDIUMINT as
+ * MYP_TYPE_LONG, and a YEAR as MYP_TYPE_SHORT. Without values nothing is written. A buffer of
+ * max_allowed_packet - 4 bytes is never too small.
  *
- * MYP_ERROR_INVALID_INPUT for no columns, values that are not whole rows, an unknown flag, another
- * type, a value that is invalid or that its type can't encode, or max_allowed_packet below 4;
- * MYP_ERROR_ROW_TOO_LARGE if the first row exceeds a request: *written and *rows are 0, even if the
- * invalid row comes after others. Rows after those that fit are not checked.
+ * MYP_ERROR_INVALID_INPUT for no columns, values that are not whole rows, an unknown flag, an
+ * invalid type, a value that is invalid or that its type can't encode, or max_allowed_packet below
+ * 4; MYP_ERROR_ROW_TOO_LARGE if the first row exceeds a request: *written and *rows are 0, even if
+ * the invalid row comes after others. Rows after those that fit are not checked.
  * MYP_ERROR_BUFFER_TOO_SMALL: *rows is 0. */
 MYP_MUST_CHECK uint32_t myp_write_bulk(
     uint32_t statement_id,
@@ -946,8 +978,8 @@ MYP_MUST_CHECK uint32_t myp_write_bulk(
     size_t *rows);
 
 /* Begins COM_STMT_BULK_EXECUTE for rows that are added one by one: writes its head and the types,
- * as myp_write_bulk does. MYP_ERROR_INVALID_INPUT for no columns, an unknown flag, or a type that
- * may not be declared, and *written is 0; MYP_ERROR_BUFFER_TOO_SMALL. */
+ * as myp_write_bulk does. MYP_ERROR_INVALID_INPUT for no columns, an unknown flag, or an invalid
+ * type, and *written is 0; MYP_ERROR_BUFFER_TOO_SMALL. */
 MYP_MUST_CHECK uint32_t myp_begin_bulk(
     uint32_t statement_id,
     uint32_t flags,
@@ -984,10 +1016,10 @@ MYP_MUST_CHECK uint32_t myp_add_bulk_row(
     size_t *needed);
 
 /* Returns the length of each row in a bulk request, for myp_bulk_cut_is_fewest: one byte for each
- * value, and its own. The values are row after row; sizes[i] is that of row i, at most UINT64_MAX,
- * and *rows is their number. MYP_ERROR_INVALID_INPUT for invalid types and values, as in
- * myp_write_bulk, and *rows is 0; MYP_ERROR_BUFFER_TOO_SMALL for fewer sizes than rows. After both,
- * the sizes are unchanged. */
+ * value, and the value's own length. The values are row after row; sizes[i] is the length of row i,
+ * at most UINT64_MAX, and *rows is their number. MYP_ERROR_INVALID_INPUT for invalid types and
+ * values, as in myp_write_bulk, and *rows is 0; MYP_ERROR_BUFFER_TOO_SMALL for fewer sizes than
+ * rows. After both, the sizes are unchanged. */
 MYP_MUST_CHECK uint32_t myp_bulk_row_sizes(
     const myp_column_type *types,
     size_t columns,
@@ -997,7 +1029,7 @@ MYP_MUST_CHECK uint32_t myp_bulk_row_sizes(
     size_t n_sizes,
     size_t *rows);
 
-/* All zero: any number of rows, and types in the first request alone. Initializer:
+/* All zero: any number of rows, and types only in the first request. Initializer:
  * MYP_BULK_RULE_INIT. */
 typedef struct myp_bulk_rule {
     size_t max_rows;      /* the maximum number of rows in a request, if has_max_rows is not 0 */
@@ -1259,9 +1291,9 @@ typedef struct myp_sid {
 #define MYP_SID_INIT { NULL, 0, { 0 }, { 0 }, 0 }
 
 /* Reads the text of a sid: UUID:1-5:7, or with a tag UUID:tag:1-5:7. Its intervals are stored in
- * the first places, to which out->intervals then points, and *count is their number.
- * MYP_ERROR_INVALID_DATA for another text: *count is 0; MYP_ERROR_BUFFER_TOO_SMALL for fewer places
- * than *count. After both nothing else is changed. */
+ * the first elements of the array, to which out->intervals then points, and *count is their number.
+ * MYP_ERROR_INVALID_DATA for another text: *count is 0; MYP_ERROR_BUFFER_TOO_SMALL for n less than
+ * *count. After both nothing else is changed. */
 MYP_MUST_CHECK uint32_t myp_sid_from_text(
     const uint8_t *text,
     size_t len,
@@ -1271,8 +1303,8 @@ MYP_MUST_CHECK uint32_t myp_sid_from_text(
     size_t *count);
 
 /* Writes the text of a GTID set, in the form of @@gtid_executed: sids are separated by a comma and
- * a newline, and a sid with the uuid of the one before it and a tag is written as the tag and the
- * intervals alone. The text has no zero at its end. MYP_ERROR_INVALID_INPUT for an invalid tag, and
+ * a newline, and a sid with the uuid of the one before it and a tag is written only as the tag and
+ * the intervals. The text has no zero at its end. MYP_ERROR_INVALID_INPUT for an invalid tag, and
  * *written is 0; MYP_ERROR_BUFFER_TOO_SMALL; MYP_ERROR_TOO_LARGE, and *written is 0. */
 MYP_MUST_CHECK uint32_t myp_sids_to_text(
     const myp_sid *sids,
@@ -1334,8 +1366,8 @@ MYP_MUST_CHECK uint32_t myp_read_login(
     size_t len,
     myp_login *out);
 
-/* Takes the next attribute off the front of *rest, the attributes of a login. If a name comes
- * again, its last value counts. MYP_END at the end; MYP_ERROR_UNEXPECTED_EOF;
+/* Takes the next attribute off the front of *rest, the attributes of a login. If a name is
+ * repeated, its last value counts. MYP_END at the end; MYP_ERROR_UNEXPECTED_EOF;
  * MYP_ERROR_INVALID_DATA for an invalid length. */
 MYP_MUST_CHECK uint32_t myp_next_connection_attribute(
     myp_bytes *rest,
@@ -1370,7 +1402,8 @@ MYP_MUST_CHECK uint32_t myp_read_command(
 
 /* Reads an attribute of a COM_QUERY under MYP_CLIENT_QUERY_ATTRIBUTES, with the type that was sent:
  * the first is at place 0. Each call reads the query from its start. MYP_END if there are fewer;
- * MYP_ERROR_UNEXPECTED_EOF and MYP_ERROR_INVALID_DATA if it is no such query. */
+ * MYP_ERROR_UNEXPECTED_EOF and MYP_ERROR_INVALID_DATA if the packet is not a valid query of this
+ * form. */
 MYP_MUST_CHECK uint32_t myp_read_query_attribute(
     const uint8_t *packet,
     size_t len,
@@ -1432,7 +1465,8 @@ typedef struct myp_execution {
  *
  * MYP_ERROR_BUFFER_TOO_SMALL for fewer values or types than parameters: nothing is changed.
  * MYP_ERROR_UNEXPECTED_EOF; MYP_ERROR_INVALID_DATA, also for a count below that of the parameters,
- * and for attributes without types: equally many of the first values and types may be set. */
+ * and for attributes without types: the values before the faulty one and their types are set, and
+ * the others are unchanged. */
 MYP_MUST_CHECK uint32_t myp_read_execution(
     const uint8_t *packet,
     size_t len,
@@ -1457,12 +1491,12 @@ MYP_MUST_CHECK uint32_t myp_read_execution_attribute(
     size_t place,
     myp_parameter *out);
 
-/* Reads the names of an execution's parameters into the first places, one for each. They are sent
+/* Reads the names of an execution's parameters into the first elements, one for each. They are sent
  * with the types, under MYP_CLIENT_QUERY_ATTRIBUTES; a name that isn't sent is empty.
  *
- * MYP_ERROR_BUFFER_TOO_SMALL for fewer places than parameters: nothing is changed.
- * MYP_ERROR_UNEXPECTED_EOF and MYP_ERROR_INVALID_DATA as in myp_read_execution: the first names may
- * be set. */
+ * MYP_ERROR_BUFFER_TOO_SMALL for fewer elements than parameters: nothing is changed.
+ * MYP_ERROR_UNEXPECTED_EOF and MYP_ERROR_INVALID_DATA as in myp_read_execution: the names of the
+ * parameters before the faulty one are set, and the others unchanged. */
 MYP_MUST_CHECK uint32_t myp_read_execution_names(
     const uint8_t *packet,
     size_t len,
@@ -1489,16 +1523,17 @@ MYP_MUST_CHECK uint32_t myp_read_bulk_head(
 
 /* Takes the types of the columns off the front of *rest, the rows of a head with
  * MYP_BULK_SEND_TYPES_TO_SERVER; without that flag those of an earlier execution apply.
- * MYP_ERROR_UNEXPECTED_EOF; MYP_ERROR_INVALID_DATA for an unknown type: *rest is unchanged, and the
- * types before it may be set. */
+ * MYP_ERROR_UNEXPECTED_EOF, and no type is set; MYP_ERROR_INVALID_DATA for an unknown type, and the
+ * types before it are set. After both *rest and the other types are unchanged. */
 MYP_MUST_CHECK uint32_t myp_read_bulk_types(
     myp_bytes *rest,
     myp_column_type *types,
     size_t columns);
 
-/* How a value of a bulk row is given: for each but the first the value is MYP_VALUE_NULL. */
+/* How a value of a bulk row is sent: except for MYP_INDICATOR_NONE, the value is MYP_VALUE_NULL.
+ * The last two are written as myp_default() and myp_ignore(). */
 enum myp_indicator {
-    MYP_INDICATOR_NONE = 0,    /* as a value */
+    MYP_INDICATOR_NONE = 0,    /* a value follows */
     MYP_INDICATOR_NULL = 1,
     MYP_INDICATOR_DEFAULT = 2, /* the column's default */
     MYP_INDICATOR_IGNORE = 3   /* the column is unchanged */
@@ -1508,8 +1543,8 @@ enum myp_indicator {
  * the first values and indicators, one of each for each column. MYP_END at the end, and
  * MYP_ERROR_BUFFER_TOO_SMALL for fewer values or indicators than columns: nothing is changed.
  * MYP_ERROR_UNEXPECTED_EOF; MYP_ERROR_INVALID_DATA for an unknown indicator, a type that no value
- * has, and bytes without columns: *rest is unchanged, and the first values and indicators may be
- * set. */
+ * has, and bytes without columns: the values before the faulty one and their indicators are set,
+ * and *rest and the others are unchanged. */
 MYP_MUST_CHECK uint32_t myp_next_bulk_row(
     myp_bytes *rest,
     const myp_column_type *types,
@@ -1522,13 +1557,13 @@ MYP_MUST_CHECK uint32_t myp_next_bulk_row(
 /* ---- what a server writes
  *
  * A struct that a reader filled can be written again: `used` is ignored. Each call may return
- * MYP_ERROR_BUFFER_TOO_SMALL, and MYP_ERROR_TOO_LARGE, as for one string that is passed in many
+ * MYP_ERROR_BUFFER_TOO_SMALL, and MYP_ERROR_TOO_LARGE, for example if one string is passed in many
  * places. After MYP_ERROR_INVALID_INPUT and MYP_ERROR_TOO_LARGE *written is 0. */
 
 /* Writes OK_Packet or EOF_Packet of a kind of enum myp_ok_kind. An empty info or session state is
- * omitted, and so is a field that the kind or the capabilities have no place for.
- * MYP_ERROR_INVALID_INPUT for an unknown kind, and for a session state that has a place while
- * status_flags lacks MYP_SERVER_SESSION_STATE_CHANGED. */
+ * omitted, and so is a field that the kind or the capabilities do not have. MYP_ERROR_INVALID_INPUT
+ * for an unknown kind, and for a session state that would be written although status_flags lacks
+ * MYP_SERVER_SESSION_STATE_CHANGED. */
 MYP_MUST_CHECK uint32_t myp_write_ok(
     const myp_ok *packet,
     uint32_t kind,
@@ -1858,10 +1893,10 @@ enum myp_com {
 };
 
 /* Both sides agree on the flags that both have. A client sets no flag that
- * myp_supported_capabilities() lacks, such as compression. That is a bound, and no default: other
- * flags of it change what queries mean (MYP_CLIENT_FOUND_ROWS, MYP_CLIENT_IGNORE_SPACE), and a
- * login with MYP_CLIENT_SSL is taken for a request for TLS. Choose the flags that you want, at most
- * those of the handshake. What each flag changes, and which call reads or writes it:
+ * myp_supported_capabilities() lacks, such as compression. It is an upper bound, not a default:
+ * some of its flags change what queries mean (MYP_CLIENT_FOUND_ROWS, MYP_CLIENT_IGNORE_SPACE), and
+ * a login with MYP_CLIENT_SSL is taken for a request for TLS. Choose the flags that you want, at
+ * most those of the handshake. What each flag changes, and which call reads or writes it:
  *
  *   MYP_CLIENT_PROTOCOL_41                  an error's SQL state: myp_read_error
  *   MYP_CLIENT_SESSION_TRACK                an OK packet's info and session state: myp_read_ok,

@@ -1,5 +1,6 @@
 #!/usr/bin/env bash
-# Holds files to what they must say: HANDLES, the lines that documents quote, the chart of instruction counts, and the lists that tables/ has.
+# Holds files to what they must say: HANDLES, the lines that documents quote, the chart of instruction counts, the lists that tables/ has,
+# and the format of the sources.
 # The last line is 'N passed, N failed'.
 set -uo pipefail
 cd -- "$(dirname -- "${BASH_SOURCE[0]}")/.." || exit 1
@@ -41,6 +42,12 @@ laws_are_named_alike() {
     ! grep -rnE 'pub fn \w+_again\b' crates/*/src/laws crates/*/src/laws.rt
 }
 expect 'a law of a round trip has another name' laws_are_named_alike
+# are_formatted: as rt fmt formats a crate; rt ci refuses it otherwise, but rt check and rt lib don't
+are_formatted() {
+    find crates -name out -prune -o -type f \( -name '*.rt' -o -name '*.antt' \) -print0 |
+        xargs -0 -- "$(dirname -- "$(readlink -f -- "$(command -v rt)")")/rattle" fmt --check
+}
+expect 'a file is not formatted: run rt fmt in the folder of its crate' are_formatted
 
 printf '%d passed, %d failed\n' "$passed" "$failed"
 ((failed == 0))

@@ -63,12 +63,12 @@ class Code:
 
 
 CODES = [
-    Code("commands", "ServerCommand", "The commands", "`enum_server_command`: what a client asks of a server, in the first byte of its packet.", "a command",
+    Code("commands", "ServerCommand", "The commands", "`enum_server_command`: the command that a client sends, in the first byte of its packet.", "a command",
          "Unknown command", "The commands", ["ServerCommand::try_from(first).ok()"]),
     Code("column_types", "ColumnType", "The types of columns and values", "`enum_field_types`: the type of a column or a value, in a byte.", "a type",
          "Unknown column type", "The types of columns and values", inline="inline"),
     Code("session_state_types", "SessionStateType", "The kinds of session state changes",
-         "`enum_session_state_type`: what of a session's state has changed, in a byte.", "a type", "Unknown session state type",
+         "`enum_session_state_type`: which part of a session's state has changed, in a byte.", "a type", "Unknown session state type",
          "Which part of a session's state has changed"),
     Code("mariadb_bulk_indicators", "MariadbBulkIndicator", "How a value of a bulk request is given",
          "The indicator of `COM_STMT_BULK_EXECUTE`: how a value is given, in a byte.", "an indicator", "Unknown bulk indicator",
@@ -101,7 +101,7 @@ use thiserror::Error;
 pub enum {it.enum} {{
 {variants}}}
 
-/// A code that no [`{it.enum}`] has.
+/// The error for a code that [`{it.enum}`] does not have.
 #[derive(Clone, Copy, Debug, PartialEq, Eq, Hash, Error)]
 #[error("{it.unknown}")]
 pub struct Unknown{it.enum}(pub u8);
@@ -130,7 +130,7 @@ impl ConstValue<u8> for {it.enum} {{
     ghost read_back = {{ {it.stem}-back }};
 }}
 
-/// The {noun} with that code; a code without one is the error.
+/// Converts a code to its {noun}; an unknown code is returned as the error.
 impl TryFrom<u8> for {it.enum} {{
     type Error = Unknown{it.enum};
 
@@ -142,7 +142,7 @@ impl TryFrom<u8> for {it.enum} {{
     }}
 }}
 
-/// The code.
+/// Converts to the code.
 impl From<{it.enum}> for u8 {{
     ghost from_gives = {{ λ value code. code ≡ {it.stem}_code value }};
 
@@ -227,7 +227,7 @@ ghost use Rattle.mysql_show.specs.CommandName.{{name_of}};
 
 use mysql_wire::ServerCommand;
 
-/// The name of a command, as the protocol's pages have it.
+/// The name of a command, as in the protocol's documentation.
 pub fn command_name(command: ServerCommand) -> &'static str
     ensures {{ result.now ≡ name_of command }}
 {{
@@ -262,7 +262,7 @@ FLAGS = [
     Flags("capability_flags", "CapabilityFlags", "CapabilityNames", 32, "#011_x", "The capabilities of a client and a server",
           "`Protocol::CapabilityFlags`: what a client and a server can do, in four bytes."),
     Flags("column_flags", "ColumnFlags", "ColumnFlagNames", 16, "#06x", "The attributes of a column",
-          "`Protocol::ColumnDefinition41`'s flags: what holds of the values of a column, in two bytes."),
+          "`Protocol::ColumnDefinition41`'s flags: the attributes of a column, in two bytes."),
     Flags("cursor_type", "CursorType", "CursorNames", 8, "d", "Which cursor a statement opens",
           "`COM_STMT_EXECUTE`'s flags: which cursor the statement opens, in a byte."),
     Flags("mariadb_capabilities", "MariadbCapabilities", "MariadbCapabilityNames", 32, "#04x",
@@ -359,7 +359,7 @@ ghost use Rattle.mysql_conversation.specs.PacketKindTag as spec;
 
 use crate::packet_kind::{{PacketKind, RowFormat}};
 
-/// A kind of packet without data: as [`PacketKind`], where [`PacketKind::Row`] is either a text row or a binary row.
+/// A kind of packet without its data: a [`PacketKind`], with separate variants for text rows and binary rows.
 ///
 /// ```
 /// if !connection.may_receive(PacketKindTag::Column) {{
@@ -393,7 +393,7 @@ impl {tag} {{
 }}
 
 impl PacketKind {{
-    /// Returns the kind without what the packet says of itself.
+    /// Returns the kind without its data.
     pub fn name(self) -> {tag}
         ensures value {{ result ≡ spec.name_of self }}
     {{

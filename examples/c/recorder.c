@@ -4,8 +4,9 @@
  *     ./recorder PORT SERVER_HOST SERVER_PORT
  *
  * It listens on the loopback address and serves one connection after another. TLS and compression hide packets, and without definitions
- * a row has no types: it takes these capabilities out of the server's greeting. A command that comes before the answer to an earlier one is
- * not taken. The sockets, the buffers and the types of columns and parameters are the recorder's; the packets are the library's. */
+ * a row has no types: it takes these capabilities out of the server's greeting. Eight commands may come before the answers to earlier ones;
+ * the next one is printed as refused. The sockets, the buffers and the types of columns and parameters are the recorder's; the packets are
+ * the library's. */
 #include <mysql_packets.h>
 #include <arpa/inet.h>
 #include <netdb.h>
@@ -17,7 +18,7 @@
 #include <sys/socket.h>
 #include <unistd.h>
 
-enum { HEADER = 4, PIECE = 1 << 16, SHOWN = 60, STATEMENTS = 64, TYPES = 256 };
+enum { HEADER = 4, PIECE = 1 << 16, SHOWN = 60, STATEMENTS = 64, TYPES = 256, EXCHANGES = 16 };
 
 typedef struct list {
     uint8_t *data;
@@ -49,6 +50,8 @@ static myp_conversation session; /* its capabilities are what both sides agreed 
 static statement statements[STATEMENTS], query;
 static statement *current = &query, *last; /* the one whose rows come, and the one that was prepared last */
 static size_t params_to_come;              /* of a statement that is being prepared */
+static statement *begun[EXCHANGES];        /* of the commands that aren't answered: whose rows come, by the number of the exchange */
+static uint64_t exchange, cleared;         /* that of the server's last packet, and of the last command that removed all statements */
 
 static void stop(const char *what)
 {
@@ -150,7 +153,7 @@ static void forget_statements(void)
 {
     for (size_t at = 0; at < STATEMENTS; at++)
         statements[at].is_kept = 0;
-    last = NULL, current = &query;
+    last = NULL;
 }
 
 /* The statement that a command names after its first byte, or NULL if it is unknown. ffffffff is the one that was prepared last. */
@@ -201,13 +204,13 @@ static void take_long_data(statement *of, myp_bytes payload)
 }
 
 /* A command, and the statement of which it is. */
-static void take_command(uint8_t code, myp_bytes payload)
+static void take_command(const myp_packet *packet, myp_bytes payload)
 {
-    statement *of = statement_of(payload);
-    current = &query;
-    switch (code) {
-    case MYP_COM_STMT_EXECUTE: print_execution(of, payload), current = of; break;
-    case MYP_COM_STMT_FETCH: current = of; break;
+    statement *of = statement_of(payload), **rows_of = &begun[packet->exchange % EXCHANGES];
+    *rows_of = &query;
+    switch (packet->command) {
+    case MYP_COM_STMT_EXECUTE: print_execution(of, payload), *rows_of = of; break;
+    case MYP_COM_STMT_FETCH: *rows_of = of; break;
     case MYP_COM_STMT_PREPARE: last = NULL; break;
     case MYP_COM_STMT_SEND_LONG_DATA: take_long_data(of, payload); break;
     case MYP_COM_STMT_RESET:
@@ -221,18 +224,18 @@ static void take_command(uint8_t code, myp_bytes payload)
             last = NULL;
         break;
     case MYP_COM_CHANGE_USER:
-    case MYP_COM_RESET_CONNECTION: forget_statements(); break;
+    case MYP_COM_RESET_CONNECTION: forget_statements(), cleared = packet->exchange; break;
     }
 }
 
-/* A statement that is prepared takes the place of one of its number, or a free one. */
-static void take_prepared(myp_bytes payload)
+/* A statement that is prepared takes the place of one of its number, or a free one, if no later command removed it. */
+static void take_prepared(const myp_packet *packet, myp_bytes payload)
 {
     myp_statement prepared = MYP_STATEMENT_INIT;
     if (myp_read_statement(payload.data, payload.len, session.capabilities, &prepared) != MYP_OK)
         return;
     last = NULL, params_to_come = prepared.num_params;
-    for (size_t at = 0; at < STATEMENTS; at++)
+    for (size_t at = 0; at < STATEMENTS && packet->exchange > cleared; at++)
         if (statements[at].is_kept ? statements[at].id == prepared.statement_id : !last)
             last = &statements[at];
     if (last)
@@ -290,7 +293,7 @@ static void print_packet(const myp_packet *packet, myp_bytes payload)
         printf(" code=%u", packet->command);
         if (packet->command == MYP_COM_QUERY || packet->command == MYP_COM_STMT_PREPARE || packet->command == MYP_COM_INIT_DB)
             print_text(payload.data + 1, payload.len - 1);
-        take_command(packet->command, payload);
+        take_command(packet, payload);
         break;
     case MYP_PACKET_COLUMN: take_definition(payload); break;
     case MYP_PACKET_TEXT_ROW: print_row(payload, 1); break;
@@ -308,7 +311,7 @@ static void print_packet(const myp_packet *packet, myp_bytes payload)
         break;
     case MYP_PACKET_PREPARE_OK:
         printf(" columns=%llu params=%u", (unsigned long long)packet->columns, packet->params);
-        take_prepared(payload);
+        take_prepared(packet, payload);
         break;
     default: printf(" size=%zu", payload.len); break;
     }
@@ -322,6 +325,8 @@ static void take_packet(int from, uint8_t sequence_id, myp_bytes payload)
     myp_packet packet = MYP_PACKET_INIT;
     uint32_t code = myp_next_packet(&session, (uint32_t)from, payload.data, payload.len, &packet);
     printf("%c %u %s", from == MYP_SIDE_CLIENT ? '>' : '<', sequence_id, code == MYP_OK ? kinds[packet.kind] : "refused");
+    if (code == MYP_OK && from == MYP_SIDE_SERVER && packet.exchange != exchange)
+        exchange = packet.exchange, current = begun[exchange % EXCHANGES];
     if (code == MYP_OK)
         print_packet(&packet, payload);
     putchar('\n');
@@ -385,6 +390,7 @@ static void follow(int client, int server)
     if (myp_begin_session(&session) != MYP_OK)
         stop("no session begins");
     forget_statements();
+    current = &query, exchange = cleared = 0;
     for (int goes_on = 1; goes_on && poll(ready, 2, -1) > 0;)
         for (int from = 0; goes_on && from < 2; from++) {
             if (!ready[from].revents)

@@ -56,7 +56,7 @@ static void conversations(void)
     CHECK(myp_begin_conversation(0, 0, MYP_OPENING_AFTER_LOGIN, &c) == MYP_OK && myp_is_idle(&c, &rests) == MYP_OK && rests == 0);
     CHECK(myp_next_packet(&c, MYP_SIDE_SERVER, ok, 7, &p) == MYP_OK && p.kind == MYP_PACKET_OK && myp_is_idle(&c, &rests) == MYP_OK && rests == 1);
     CHECK(myp_next_packet(&c, MYP_SIDE_CLIENT, (const uint8_t *)"\x03" "select 1", 9, &p) == MYP_OK && p.kind == MYP_PACKET_COMMAND && p.command == MYP_COM_QUERY);
-    CHECK(myp_next_packet(&c, MYP_SIDE_CLIENT, (const uint8_t *)"\x0e", 1, &p) == MYP_ERROR_INVALID_DATA && p.command == MYP_COM_QUERY);
+    CHECK(p.exchange == 1 && myp_next_packet(&c, MYP_SIDE_CLIENT, (const uint8_t *)"\xef", 1, &p) == MYP_ERROR_INVALID_DATA && p.command == MYP_COM_QUERY);
     CHECK(myp_next_packet(&c, MYP_SIDE_SERVER, (const uint8_t *)"\x01", 1, &p) == MYP_OK && p.kind == MYP_PACKET_COLUMN_COUNT && p.columns == 1 && p.metadata_follows == 1 && p.command == 0);
     CHECK(myp_next_packet(&c, MYP_SIDE_SERVER, column, sizeof column - 1, &p) == MYP_OK && p.kind == MYP_PACKET_COLUMN);
     CHECK(myp_next_packet(&c, MYP_SIDE_SERVER, (const uint8_t *)"\x01" "1", 2, &p) == MYP_ERROR_INVALID_DATA && p.kind == MYP_PACKET_COLUMN);
@@ -69,6 +69,38 @@ static void conversations(void)
     CHECK(myp_next_packet(&copy, MYP_SIDE_SERVER, (const uint8_t *)"\xff\x15\x04#28000no", 11, &p) == MYP_OK && p.kind == MYP_PACKET_ERROR);
     copy.place = 99;
     CHECK(myp_is_idle(&copy, &rests) == MYP_ERROR_INVALID_INPUT && rests == 0 && myp_next_packet(&copy, MYP_SIDE_SERVER, eof, 5, &p) == MYP_ERROR_INVALID_INPUT && copy.place == 99);
+}
+
+/* Eight commands wait while a query is answered, a ninth is refused until one of them is reached, and the answers come in order. */
+static void pipelined(void)
+{
+    static const uint8_t column[] = "\x03" "def" "\0\0\0\x01" "1\0\x0c\x3f\0\x01\0\0\0\x03\x81\0\0\0\0", cursor[] = { 0xfe, 0, 0, 0x42, 0 };
+    static const uint8_t ok[] = { 0, 0, 0, 2, 0, 0, 0 }, error[] = "\xff\x15\x04#28000no", ping[] = "\x0e", fetch[] = "\x17\1\0\0\0\1\1\0\0\0", close[] = "\x19\1\0\0\0";
+    myp_conversation c = MYP_CONVERSATION_INIT, before;
+    myp_packet p = MYP_PACKET_INIT;
+    uint8_t rests = 7;
+    CHECK(myp_begin_conversation(0, 0, MYP_OPENING_BETWEEN_COMMANDS, &c) == MYP_OK);
+    CHECK(myp_next_packet(&c, MYP_SIDE_CLIENT, (const uint8_t *)"\x03" "select 1", 9, &p) == MYP_OK && p.exchange == 1);
+    CHECK(myp_next_packet(&c, MYP_SIDE_CLIENT, fetch, 10, &p) == MYP_OK && p.exchange == 2 && myp_next_packet(&c, MYP_SIDE_CLIENT, close, 5, &p) == MYP_OK && p.exchange == 3);
+    for (uint64_t n = 4; n < 10; n++)
+        CHECK(myp_next_packet(&c, MYP_SIDE_CLIENT, ping, 1, &p) == MYP_OK && p.kind == MYP_PACKET_COMMAND && p.command == MYP_COM_PING && p.exchange == n);
+    before = c;
+    CHECK(myp_next_packet(&c, MYP_SIDE_CLIENT, ping, 1, &p) == MYP_ERROR_TOO_MANY_COMMANDS && !memcmp(&c, &before, sizeof c) && p.exchange == 9);
+    CHECK(myp_next_packet(&c, MYP_SIDE_CLIENT, (const uint8_t *)"\xef", 1, &p) == MYP_ERROR_INVALID_DATA && !memcmp(&c, &before, sizeof c));
+    CHECK(myp_next_packet(&c, MYP_SIDE_SERVER, error, 11, &p) == MYP_OK && p.kind == MYP_PACKET_ERROR && p.exchange == 1 && c.exchange == 2 && c.commands == 9);
+    CHECK(myp_next_packet(&c, MYP_SIDE_CLIENT, (const uint8_t *)"\x01", 1, &p) == MYP_OK && p.command == MYP_COM_QUIT && p.exchange == 10);
+    CHECK(myp_next_packet(&c, MYP_SIDE_CLIENT, ping, 1, &p) == MYP_ERROR_INVALID_DATA && p.exchange == 10);
+    /* the execution opens a cursor, so no rows come */
+    CHECK(myp_next_packet(&c, MYP_SIDE_SERVER, (const uint8_t *)"\x01", 1, &p) == MYP_OK && p.kind == MYP_PACKET_COLUMN_COUNT && p.exchange == 2);
+    CHECK(myp_next_packet(&c, MYP_SIDE_SERVER, column, sizeof column - 1, &p) == MYP_OK && p.exchange == 2 && myp_next_packet(&c, MYP_SIDE_SERVER, cursor, 5, &p) == MYP_OK && p.exchange == 2);
+    for (uint64_t n = 4; n < 10; n++)
+        CHECK(myp_is_idle(&c, &rests) == MYP_OK && rests == 0 && myp_next_packet(&c, MYP_SIDE_SERVER, ok, 7, &p) == MYP_OK && p.kind == MYP_PACKET_OK && p.exchange == n);
+    CHECK(myp_is_idle(&c, &rests) == MYP_OK && rests == 1 && c.exchange == 10 && c.commands == 10 && myp_next_packet(&c, MYP_SIDE_SERVER, ok, 7, &p) == MYP_ERROR_INVALID_DATA);
+    /* fewer commands than were answered, and nine that wait */
+    for (uint64_t n = 9; n < 20; n += 10) {
+        before.exchange = 10, before.commands = n;
+        CHECK(myp_is_idle(&before, &rests) == MYP_ERROR_INVALID_INPUT && myp_next_packet(&before, MYP_SIDE_SERVER, ok, 7, &p) == MYP_ERROR_INVALID_INPUT);
+    }
 }
 
 static uint32_t next_of(myp_conversation *c, uint32_t from, const uint8_t *payload, size_t len, uint8_t *kind)
@@ -308,12 +340,12 @@ static void nulls(void)
 
 int main(void)
 {
-    for (uint32_t code = MYP_OK; code <= MYP_ERROR_COMPRESSED; code++) { /* the header and the library say the same of a code */
+    for (uint32_t code = MYP_OK; code <= MYP_ERROR_TOO_MANY_COMMANDS; code++) { /* the header and the library say the same of a code */
         myp_bytes words = MYP_BYTES_INIT;
         CHECK(myp_code_text(code, &words) == MYP_OK && words.len == strlen(myp_error_text(code)) && !memcmp(words.data, myp_error_text(code), words.len));
     }
     myp_bytes kept = { (const uint8_t *)"kept", 4 };
-    CHECK(myp_code_text(MYP_ERROR_COMPRESSED + 1, &kept) == MYP_ERROR_INVALID_INPUT && myp_code_text(UINT32_MAX, &kept) == MYP_ERROR_INVALID_INPUT && IS(kept, "kept"));
+    CHECK(myp_code_text(MYP_ERROR_TOO_MANY_COMMANDS + 1, &kept) == MYP_ERROR_INVALID_INPUT && myp_code_text(UINT32_MAX, &kept) == MYP_ERROR_INVALID_INPUT && IS(kept, "kept"));
     CHECK(myp_supported_capabilities() == (0x7fffffffu & ~(MYP_CLIENT_COMPRESS | MYP_CLIENT_ZSTD_COMPRESSION_ALGORITHM)) && myp_supported_mariadb_capabilities() == (0x3fu & ~MYP_MARIADB_CLIENT_COM_MULTI));
     CHECK(myp_version() == MYP_VERSION && !strcmp(myp_error_text(MYP_OK), "success") && !strcmp(myp_error_text(MYP_END), "end of the list"));
     CHECK(sizeof(myp_bytes) == 16 && sizeof(myp_value) == 40 && sizeof(myp_column_type) == 2 && sizeof(myp_header) == 8);
@@ -321,10 +353,11 @@ int main(void)
     CHECK(sizeof(myp_change) == 56 && sizeof(myp_login) == 112 && sizeof(myp_change_user) == 96 && sizeof(myp_ssl_request) == 16 && sizeof(myp_connection_attribute) == 32 && sizeof(myp_bulk_rule) == 16);
     CHECK(sizeof(myp_register_replica) == 72 && sizeof(myp_interval) == 16 && sizeof(myp_sid) == 72 && sizeof(myp_ssl_request) == 16);
     CHECK(sizeof(myp_server_version) == 6 && sizeof(myp_field_list_column) == 144 && sizeof(myp_column_attribute) == 24 && sizeof(myp_stream_packet) == 24 && sizeof(myp_table_dump) == 40 && sizeof(myp_semi_sync_ack) == 24 && sizeof(myp_command) == 56 && sizeof(myp_bulk_head) == 24 && sizeof(myp_parameter) == 64 && sizeof(myp_execution_options) == 8);
-    CHECK(sizeof(myp_long_data) == 24 && sizeof(myp_execution_head) == 24 && sizeof(myp_bound_param) == 3 && sizeof(myp_dump) == 32 && sizeof(myp_gtid_dump) == 64 && sizeof(myp_sid_places) == 56 && sizeof(myp_execution) == 24 && sizeof(myp_conversation) == 32 && sizeof(myp_packet) == 16 && sizeof(myp_frame) == 24);
+    CHECK(sizeof(myp_long_data) == 24 && sizeof(myp_execution_head) == 24 && sizeof(myp_bound_param) == 3 && sizeof(myp_dump) == 32 && sizeof(myp_gtid_dump) == 64 && sizeof(myp_sid_places) == 56 && sizeof(myp_execution) == 24 && sizeof(myp_conversation) == 56 && sizeof(myp_packet) == 24 && sizeof(myp_frame) == 24);
     headers();
     replies();
     conversations();
+    pipelined();
     sessions();
     connection();
     answers();

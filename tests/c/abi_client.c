@@ -232,7 +232,7 @@ static void bulk(void)
     myp_value v[5] = { MYP_VALUE_INIT, MYP_VALUE_INIT, MYP_VALUE_INIT, MYP_VALUE_INIT, MYP_VALUE_INIT };
     for (size_t i = 0; i < 5; i++)
         v[i].kind = MYP_VALUE_INT, v[i].number = i + 1;
-    static const myp_column_type number[] = { { MYP_TYPE_LONGLONG, 0 }, { MYP_TYPE_LONGLONG, 1 } }, tiny = { MYP_TYPE_TINY, 0 };
+    static const myp_column_type number[] = { { MYP_TYPE_LONGLONG, 0 }, { MYP_TYPE_LONGLONG, 1 } }, none = { 100, 0 };
     CHECK(myp_write_bulk(1, 0, 31, number, 1, v, 5, out, sizeof out, &n, &rows) == MYP_OK && rows == 2 && is_hex(out, n, "fa0100000080000800000100000000000000000200000000000000"));
     CHECK(myp_write_bulk(1, 64, 30, number, 1, v + 2, 3, out, 27, &n, &rows) == MYP_OK && rows == 1 && is_hex(out, n, "fa01000000c0000800000300000000000000"));
     CHECK(myp_write_bulk(1, 0, 1000, number, 2, v, 4, out, sizeof out, &n, &rows) == MYP_OK && rows == 2 && n == 11 + 36);
@@ -244,7 +244,7 @@ static void bulk(void)
     CHECK(myp_write_bulk(1, 0, 3, number, 1, v, 5, out, sizeof out, &n, &rows) == MYP_ERROR_INVALID_INPUT);
     CHECK(myp_write_bulk(1, 0, 31, number, 0, v, 5, out, sizeof out, &n, &rows) == MYP_ERROR_INVALID_INPUT);
     CHECK(myp_write_bulk(1, 0, 31, number, 2, v, 5, out, sizeof out, &n, &rows) == MYP_ERROR_INVALID_INPUT);
-    CHECK(myp_write_bulk(1, 0, 31, &tiny, 1, v, 5, out, sizeof out, &n, &rows) == MYP_ERROR_INVALID_INPUT);
+    CHECK(myp_write_bulk(1, 0, 31, &none, 1, v, 5, out, sizeof out, &n, &rows) == MYP_ERROR_INVALID_INPUT);
     v[1].kind = MYP_VALUE_DOUBLE, rows = 9;
     CHECK(myp_write_bulk(1, 0, 31, number, 1, v, 5, out, sizeof out, &n, &rows) == MYP_ERROR_INVALID_INPUT && rows == 0 && n == 0 && out[0] == 7);
     v[1].kind = 8;
@@ -258,9 +258,53 @@ static void bulk(void)
     CHECK(myp_bulk_cut_is_fewest(&one, 27, 1, sizes, 5, few, 3, &yes) == MYP_OK && yes == 0);
 }
 
+/* values under narrow types, DEFAULT and IGNORE: MariaDB's page of COM_STMT_BULK_EXECUTE has the indicators 0 to 3 */
+static void bulk_of_cells(void)
+{
+    static const myp_column_type types[] = { { MYP_TYPE_TINY, 0 }, { MYP_TYPE_SHORT, 1 }, { MYP_TYPE_LONG, 0 }, { MYP_TYPE_FLOAT, 0 }, { MYP_TYPE_DATE, 0 }, { MYP_TYPE_VAR_STRING, 0 } };
+    static const uint8_t widths[] = { MYP_TYPE_TINY, MYP_TYPE_SHORT, MYP_TYPE_YEAR, MYP_TYPE_INT24, MYP_TYPE_LONG };
+    static const int64_t ends[] = { 127, 32767, 32767, 2147483647, 2147483647 };
+    myp_value v[12] = { myp_int(-2), myp_uint(65535), myp_int(-3), myp_float(1.5f), myp_date(2026, 11, 30), myp_text("hi", 2),
+                        myp_default(), myp_null(), myp_ignore(), myp_default(), myp_ignore(), myp_null() };
+    uint8_t out[100], given[6];
+    size_t n = 9, used = 0, rows = 9;
+    char whole[200];
+    snprintf(whole, sizeof whole, "%s%s%s", "fa010000008000" "010002800300" "04000a00fd00", "00fe" "00ffff" "00fdffffff" "000000c03f" "0004ea070b1e" "00026869", "020103020301");
+    CHECK(myp_write_bulk(1, 0, 1000, types, 6, v, 12, out, sizeof out, &n, &rows) == MYP_OK && rows == 2 && is_hex(out, n, whole));
+    uint64_t sizes[2] = { 7, 7 };
+    CHECK(myp_bulk_row_sizes(types, 6, v, 12, sizes, 2, &rows) == MYP_OK && rows == 2 && sizes[0] == 2 + 3 + 5 + 5 + 6 + 4 && sizes[1] == 6 && n == 19 + sizes[0] + sizes[1]);
+    /* row by row the same bytes */
+    memset(out, 7, sizeof out);
+    CHECK(myp_begin_bulk(1, 0, types, 6, out, sizeof out, &used) == MYP_OK && used == 19);
+    CHECK(myp_add_bulk_row(types, 6, v, 6, 1000, out, sizeof out, &used, &n) == MYP_OK && myp_add_bulk_row(types, 6, v + 6, 6, 1000, out, sizeof out, &used, &n) == MYP_OK && is_hex(out, used, whole));
+    /* and a server reads them */
+    myp_bulk_head b = MYP_BULK_HEAD_INIT;
+    myp_column_type t[6];
+    myp_value w[6] = { MYP_VALUE_INIT, MYP_VALUE_INIT, MYP_VALUE_INIT, MYP_VALUE_INIT, MYP_VALUE_INIT, MYP_VALUE_INIT };
+    CHECK(myp_read_bulk_head(out, used, &b) == MYP_OK && myp_read_bulk_types(&b.rows, t, 6) == MYP_OK && !memcmp(t, types, sizeof t));
+    CHECK(myp_next_bulk_row(&b.rows, t, 6, w, 6, given, 6) == MYP_OK && w[0].number == (uint64_t)-2 && w[1].number == 65535 && w[2].number == (uint64_t)-3 && myp_as_double(w + 3) == 1.5 && w[4].days == 2026 && w[4].day == 30);
+    CHECK(myp_next_bulk_row(&b.rows, t, 6, w, 6, given, 6) == MYP_OK && !memcmp(given, "\2\1\3\2\3\1", 6) && myp_next_bulk_row(&b.rows, t, 6, w, 6, given, 6) == MYP_END);
+    /* the ends of each width, and what is past them */
+    for (size_t i = 0; i < 5; i++) {
+        myp_column_type signed_type = { widths[i], 0 }, unsigned_type = { widths[i], 1 };
+        myp_value low = myp_int(-ends[i] - 1), high = myp_int(ends[i]), below = myp_int(-ends[i] - 2), above = myp_int(ends[i] + 1), most = myp_uint(2 * (uint64_t)ends[i] + 1), past = myp_uint(2 * (uint64_t)ends[i] + 2);
+        CHECK(myp_write_bulk(1, 0, 100, &signed_type, 1, &low, 1, out, sizeof out, &n, &rows) == MYP_OK && myp_write_bulk(1, 0, 100, &signed_type, 1, &high, 1, out, sizeof out, &n, &rows) == MYP_OK);
+        CHECK(myp_write_bulk(1, 0, 100, &signed_type, 1, &below, 1, out, sizeof out, &n, &rows) == MYP_ERROR_INVALID_INPUT && myp_write_bulk(1, 0, 100, &signed_type, 1, &above, 1, out, sizeof out, &n, &rows) == MYP_ERROR_INVALID_INPUT);
+        CHECK(myp_write_bulk(1, 0, 100, &unsigned_type, 1, &most, 1, out, sizeof out, &n, &rows) == MYP_OK && myp_write_bulk(1, 0, 100, &unsigned_type, 1, &past, 1, out, sizeof out, &n, &rows) == MYP_ERROR_INVALID_INPUT);
+        CHECK(myp_write_bulk(1, 0, 100, &unsigned_type, 1, &low, 1, out, sizeof out, &n, &rows) == MYP_ERROR_INVALID_INPUT && rows == 0 && n == 0);
+    }
+    /* they are of bulk requests alone */
+    uint8_t as_long_data = 7;
+    CHECK(myp_write_text_row(v + 6, 1, out, sizeof out, &n) == MYP_ERROR_INVALID_INPUT && myp_write_binary_row(types, 1, v + 6, 1, out, sizeof out, &n) == MYP_ERROR_INVALID_INPUT);
+    CHECK(execute(0, v + 6, 1, NULL, 0, 0, out, sizeof out, &n, &as_long_data) == MYP_ERROR_INVALID_INPUT && execute(0, v + 8, 1, NULL, 0, 0, out, sizeof out, &n, &as_long_data) == MYP_ERROR_INVALID_INPUT && as_long_data == 7);
+    myp_value other = myp_null();
+    other.kind = MYP_VALUE_IGNORE + 1;
+    CHECK(myp_write_bulk(1, 0, 100, types, 1, &other, 1, out, sizeof out, &n, &rows) == MYP_ERROR_INVALID_INPUT && rows == 0);
+}
+
 static void sizes_of_rows(void)
 {
-    static const myp_column_type types[] = { { MYP_TYPE_LONGLONG, 0 }, { MYP_TYPE_VAR_STRING, 0 } }, tiny = { MYP_TYPE_TINY, 0 };
+    static const myp_column_type types[] = { { MYP_TYPE_LONGLONG, 0 }, { MYP_TYPE_VAR_STRING, 0 } }, none = { 100, 0 };
     myp_value v[4] = { myp_int(1), myp_text("abc", 3), MYP_VALUE_INIT, MYP_VALUE_INIT }; /* of each value one byte, and its own: 1 + 8 + 1 + 4, 1 + 1 */
     uint64_t sizes[3] = { 7, 7, 7 };
     size_t rows = 9;
@@ -269,7 +313,7 @@ static void sizes_of_rows(void)
     sizes[0] = 7;
     CHECK(myp_bulk_row_sizes(types, 2, v, 4, sizes, 1, &rows) == MYP_ERROR_BUFFER_TOO_SMALL && rows == 2 && sizes[0] == 7);
     CHECK(myp_bulk_row_sizes(types, 2, v, 3, sizes, 3, &rows) == MYP_ERROR_INVALID_INPUT && rows == 0 && sizes[0] == 7);
-    CHECK(myp_bulk_row_sizes(types, 0, v, 4, sizes, 3, &rows) == MYP_ERROR_INVALID_INPUT && myp_bulk_row_sizes(&tiny, 1, v + 2, 2, sizes, 3, &rows) == MYP_ERROR_INVALID_INPUT);
+    CHECK(myp_bulk_row_sizes(types, 0, v, 4, sizes, 3, &rows) == MYP_ERROR_INVALID_INPUT && myp_bulk_row_sizes(&none, 1, v + 2, 2, sizes, 3, &rows) == MYP_ERROR_INVALID_INPUT);
     v[2].kind = MYP_VALUE_BYTES;
     CHECK(myp_bulk_row_sizes(types, 2, v, 4, sizes, 3, &rows) == MYP_ERROR_INVALID_INPUT && rows == 0 && sizes[0] == 7);
     v[2].kind = 8;
@@ -278,14 +322,14 @@ static void sizes_of_rows(void)
 
 static void bulk_by_row(void)
 {
-    static const myp_column_type number[] = { { MYP_TYPE_LONGLONG, 0 }, { MYP_TYPE_LONGLONG, 1 } }, tiny = { MYP_TYPE_TINY, 0 };
+    static const myp_column_type number[] = { { MYP_TYPE_LONGLONG, 0 }, { MYP_TYPE_LONGLONG, 1 } }, none = { 100, 0 };
     uint8_t out[64];
     size_t n = 9, needed = 9, few = 8, many = sizeof out + 1;
     myp_value one = myp_int(1), two = myp_int(2);
     CHECK(myp_begin_bulk(1, 64, number, 2, out, sizeof out, &n) == MYP_OK && is_hex(out, n, "fa01000000c00008000880"));
     CHECK(myp_begin_bulk(1, 0, number, 1, out, 8, &n) == MYP_ERROR_BUFFER_TOO_SMALL && n == 9);
     CHECK(myp_begin_bulk(1, 1, number, 1, out, sizeof out, &n) == MYP_ERROR_INVALID_INPUT && n == 0);
-    CHECK(myp_begin_bulk(1, 0, number, 0, out, sizeof out, &n) == MYP_ERROR_INVALID_INPUT && myp_begin_bulk(1, 0, &tiny, 1, out, sizeof out, &n) == MYP_ERROR_INVALID_INPUT);
+    CHECK(myp_begin_bulk(1, 0, number, 0, out, sizeof out, &n) == MYP_ERROR_INVALID_INPUT && myp_begin_bulk(1, 0, &none, 1, out, sizeof out, &n) == MYP_ERROR_INVALID_INPUT);
     memset(out, 7, sizeof out);
     CHECK(myp_begin_bulk(1, 0, number, 1, out, sizeof out, &n) == MYP_OK && is_hex(out, n, "fa0100000080000800"));
     CHECK(myp_add_bulk_row(number, 1, &one, 1, 31, out, sizeof out, &n, &needed) == MYP_OK && is_hex(out, n, "fa0100000080000800000100000000000000") && out[18] == 7);
@@ -443,6 +487,7 @@ void client_checks(void)
     offsets();
     query_attributes();
     bulk();
+    bulk_of_cells();
     sizes_of_rows();
     bulk_by_row();
     fewest();

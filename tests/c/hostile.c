@@ -86,6 +86,31 @@ void lost(const char *call, uint32_t code)
     puts("");
 }
 
+/* A conversation, and a struct of any bytes: it is no conversation, or one that goes on or refuses the packet, and is one still. */
+static void read_any(const uint8_t *p, size_t len, uint32_t caps)
+{
+    static myp_conversation stands = MYP_CONVERSATION_INIT;
+    static const uint32_t others = 1u << MYP_ERROR_COMPRESSED | 1u << MYP_ERROR_TOO_MANY_COMMANDS;
+    myp_conversation any;
+    myp_packet next;
+    uint8_t rests = 0;
+    if (!stands.opening && myp_begin_conversation(caps, 0, MYP_OPENING_BETWEEN_COMMANDS, &stands))
+        lost("myp_begin_conversation", MYP_ERROR_INVALID_INPUT);
+    for (size_t i = 0; i < sizeof any; i++)
+        ((uint8_t *)&any)[i] = (uint8_t)(varied() % (i < 40 || i > 43 ? 256 : 16));
+    if (varied() % 8) /* up to eight commands wait, or nine */
+        any.commands = any.exchange + varied() % 10;
+    memset(&next, 7, sizeof next);
+    uint32_t side = (uint32_t)varied() % 3, none = myp_is_idle(&any, &rests);
+    unsigned long before = refused;
+    CALL_OR(others, next, myp_next_packet(&any, side, p, len, &next));
+    if ((none || side == 2) && refused == before)
+        lost("myp_next_packet of no conversation", MYP_OK);
+    if (myp_is_idle(&any, &rests) != none)
+        lost("myp_is_idle", none);
+    CALL_OR(others, stands, myp_next_packet(&stands, (uint32_t)varied() % 2, p, len, &next));
+}
+
 static void read_all(size_t len)
 {
     const uint8_t *p = page_end - len;
@@ -102,16 +127,7 @@ static void read_all(size_t len)
     memset(&version, 7, sizeof version);
     CALL(version, myp_read_server_version(p, len, &version));
     CALL(version, myp_read_mariadb_version(p, len, &version));
-    static myp_conversation stands = MYP_CONVERSATION_INIT;
-    if (!stands.opening && myp_begin_conversation(caps, 0, MYP_OPENING_BETWEEN_COMMANDS, &stands))
-        lost("myp_begin_conversation", MYP_ERROR_INVALID_INPUT);
-    myp_conversation any;
-    myp_packet next;
-    for (size_t i = 0; i < sizeof any; i++)
-        ((uint8_t *)&any)[i] = (uint8_t)(varied() % (i < 24 ? 256 : 16));
-    memset(&next, 7, sizeof next);
-    CALL_OR(MYP_ERROR_COMPRESSED, next, myp_next_packet(&any, (uint32_t)varied() % 3, p, len, &next));
-    CALL(stands, myp_next_packet(&stands, (uint32_t)varied() % 2, p, len, &next));
+    read_any(p, len, caps);
     myp_statement s;
     memset(&s, 7, sizeof s);
     CALL(s, myp_read_statement(p, len, caps, &s));

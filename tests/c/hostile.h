@@ -17,12 +17,12 @@ uint64_t varied(void);                                          /* numbers at ra
 void place(const char *what, myp_bytes bytes);                  /* the byte string lies in the packet */
 void lost(const char *call, uint32_t code);                     /* an answer that no call is to give */
 
-/* calls a reader with `out` as it was set before; after a refusal, by one of the first codes or by `other`, it is compared */
-#define CALL_OR(other, out, call) do { __typeof__(out) before; memcpy(&before, &out, sizeof out); \
+/* calls a reader with `out` as it was set before; after a refusal, by one of the first codes or of these bits, it is compared */
+#define CALL_OR(others, out, call) do { __typeof__(out) before; memcpy(&before, &out, sizeof out); \
     uint32_t code = (call); done++; if (code) { refused++; \
-        if (code > MYP_ERROR_INVALID_INPUT && code != (other)) lost(#call, code); \
+        if (code > MYP_ERROR_INVALID_INPUT && !((others) >> code & 1)) lost(#call, code); \
         if (memcmp(&before, &out, sizeof out)) changed++; } } while (0)
-#define CALL(out, call) CALL_OR(MYP_OK, out, call)
+#define CALL(out, call) CALL_OR(0u, out, call)
 
 /* What a client reads one after another; what a replica says, and what a server reads; and what was read, written and read again. */
 void read_client(const uint8_t *packet, size_t len);

@@ -86,6 +86,26 @@ def rows_in(lines):
     return sum(int(it[3]) for it in asked), sum(int(it[5]) for it in asked), len(asked)
 
 
+# rows with DEFAULT and IGNORE, by the Python package: what is inserted, what is updated, and what the table then holds
+CELLS = """
+import sys
+from mysql_packets import Cell, Library, Session
+from insert import Server
+server = Server(Session(Library(sys.argv[1])), "127.0.0.1", int(sys.argv[2]), "native", "secret", "live")
+server.query("CREATE OR REPLACE TABLE cells (id INT, name VARCHAR(20) DEFAULT 'none', n INT DEFAULT 9)")
+server.insert("INSERT INTO cells VALUES (?, ?, ?)", [(1, "a", 1), (2, Cell.DEFAULT, Cell.DEFAULT), (3, None, Cell.DEFAULT), (4, "d", None)])
+server.insert("UPDATE cells SET name = ?, n = ? WHERE id = ?", [("b", Cell.IGNORE, 1), (Cell.IGNORE, 7, 2), (Cell.DEFAULT, Cell.DEFAULT, 4)])
+"""
+STORED = ["1\tb\t1", "2\tnone\t7", "3\tNULL\t9", "4\tnone\t9"]
+
+
+def cells(prefix, port, ask):
+    """What is wrong with a table after such requests."""
+    ran = subprocess.run([sys.executable, "-c", CELLS, prefix, str(port)], capture_output=True, text=True, timeout=120, cwd=TOP / "examples/python")
+    stored = ask("select id, name, n from cells order by id")
+    return [] if stored == STORED and ran.returncode == 0 else [f"cells: {ran.stderr}{stored}"]
+
+
 def main(prefix):
     missing = server.missing()
     if missing:
@@ -111,14 +131,19 @@ def main(prefix):
             passed, wrong = passed + (not lacks), wrong + [f"recorder, {name}: {lacks}"] * bool(lacks)
         ran = subprocess.run([sys.executable, TOP / "examples/python/insert.py", prefix, "127.0.0.1", str(port), "native", "secret", "live"],
                              capture_output=True, text=True, timeout=120)
-        count = subprocess.run([server.found("mariadb"), "--no-defaults", "-h127.0.0.1", f"-P{port}", "-unative", "-psecret", "live", "-Be",
-                                "select count(*), sum(id), count(height), sum(name = concat('name ', id)), sum(height = id / 4) from people"],
-                               capture_output=True, text=True)
-        wanted = "100000\t4999950000\t33334\t100000\t33334"
-        if ran.stdout == "100000 rows in 1 request\n" and count.stdout.splitlines()[1:] == [wanted]:
+
+        def ask(query):
+            client = [server.found("mariadb"), "--no-defaults", "-h127.0.0.1", f"-P{port}", "-unative", "-psecret", "live", "-BNe", query]
+            answer = subprocess.run(client, capture_output=True, text=True)
+            return answer.stdout.splitlines() + answer.stderr.splitlines()
+
+        count = ask("select count(*), sum(id), count(height), sum(name = concat('name ', id)), sum(height = id / 4) from people")
+        if ran.stdout == "100000 rows in 1 request\n" and count == ["100000\t4999950000\t33334\t100000\t33334"]:
             passed += 1
         else:
-            wrong.append(f"insert.py: {ran.stdout}{ran.stderr}{count.stdout}{count.stderr}")
+            wrong.append(f"insert.py: {ran.stdout}{ran.stderr}{count}")
+        faults = cells(prefix, port, ask)
+        passed, wrong = passed + (not faults), wrong + faults
     return summary("live in C", passed, wrong)
 
 

@@ -56,7 +56,7 @@ static void check(int line, const char *call, uint32_t code, int good)
     while (good && len > 0) { \
         len--; \
         WITHOUT_MEMORY(call); \
-        good = code <= MYP_ERROR_COMPRESSED && code != MYP_ERROR_TOO_LARGE && ASKED_FOR_NONE; \
+        good = code <= MYP_ERROR_TOO_MANY_COMMANDS && code != MYP_ERROR_TOO_LARGE && ASKED_FOR_NONE; \
     } \
     check(__LINE__, "a cut packet, " #call, code, good); } while (0)
 #define READS(text, call, field) do { len = sizeof(text) - 1, memcpy(packet, text, len); READ(call, field); } while (0)
@@ -69,7 +69,7 @@ static void numbers(void)
     ROW(myp_supported_capabilities() & MYP_CLIENT_PROTOCOL_41, MYP_CLIENT_PROTOCOL_41, 1);
     ROW(myp_supported_mariadb_capabilities() & MYP_MARIADB_CLIENT_EXTENDED_METADATA, MYP_MARIADB_CLIENT_EXTENDED_METADATA, 1);
     ROW(myp_code_text(MYP_END, &text), MYP_OK, text.len == strlen(myp_error_text(MYP_END)));
-    ROW(myp_code_text(MYP_ERROR_COMPRESSED + 1, &text), MYP_ERROR_INVALID_INPUT, text.len == strlen(myp_error_text(MYP_END)));
+    ROW(myp_code_text(MYP_ERROR_TOO_MANY_COMMANDS + 1, &text), MYP_ERROR_INVALID_INPUT, text.len == strlen(myp_error_text(MYP_END)));
 }
 
 static void headers(void)
@@ -98,6 +98,11 @@ static void conversations(void)
           (conversation = session, myp_next_packet(&conversation, MYP_SIDE_CLIENT, packet, len, &next)), next.kind == MYP_PACKET_LOGIN);
     ROW(myp_is_idle(&session, &rests), MYP_OK, rests == 0);
     READS("\0\0\0\2\0\0\0", (conversation = begun, myp_next_packet(&conversation, MYP_SIDE_SERVER, packet, len, &next)), next.kind == MYP_PACKET_OK);
+    /* a query, and the commands that wait for its answer */
+    ROW(myp_begin_conversation(0, 0, MYP_OPENING_BETWEEN_COMMANDS, &begun), MYP_OK, begun.opening == MYP_OPENING_BETWEEN_COMMANDS);
+    for (uint64_t n = 1; n < 10; n++)
+        ROW(myp_next_packet(&begun, MYP_SIDE_CLIENT, (const uint8_t *)"\3do 1", 5, &next), MYP_OK, next.exchange == n);
+    ROW(myp_next_packet(&begun, MYP_SIDE_CLIENT, (const uint8_t *)"\3do 1", 5, &next), MYP_ERROR_TOO_MANY_COMMANDS, next.exchange == 9);
 }
 
 static void text_numbers(void)

@@ -140,7 +140,7 @@ def inside():
         stream = b"".join(len(it).to_bytes(3, "little") + b"\0" + it for it in payloads)
         return [it for at in range(0, len(stream), 7) for it in watching.observe(side, stream[at : at + 7])]
 
-    expect("observed greeting", [it[:2] + it[3:] for it in observed("server", greeting)], [("server", "handshake", hello)])
+    expect("observed greeting", [it[:2] + it[3:] for it in observed("server", greeting)], [("server", "handshake", hello, 0)])
     it = observed("client", login)[0]
     expect("observed login", (it.kind, it.record[:3], it.payload), ("login", ("me", "live", "mysql_native_password"), login))
     expect("agreed", watching.capabilities, session.capabilities)
@@ -152,6 +152,15 @@ def inside():
     expect("observed execution", [it.record for it in observed("client", *execution)], [my.Execution(1, (b"abc", 7), ())])
     expect("observed rows", [it.record for it in observed("server", *answer) if it.kind == "binary_row"], rows)
     refused("a reply without a command", my.InvalidData, observed, "server", ok)
+    # two executions at once, then a query, a reset and an execution of a statement that it removed; and the answers to the first three
+    it = observed("client", *execution, *execution, b"\x03select 1", b"\x1f", *execution)
+    expect("pipelined commands", [(one.exchange, one.record) for one in it],
+           [(3, my.Execution(1, (b"abc", 7), ())), (4, my.Execution(1, (b"abc", 7), ())), (5, my.Command(3, "select 1", 0)), (6, my.Command(31, "", 0)), (7, my.Execution(1, None, ()))])
+    it = observed("server", *answer, *answer)
+    expect("rows of pipelined executions", [(one.exchange, one.record) for one in it if one.kind == "binary_row"], [(3, rows[0]), (3, rows[1]), (4, rows[0]), (4, rows[1])])
+    it = observed("client", *[b"\x0e"] * 6)
+    expect("eight wait", [one.exchange for one in it], [8, 9, 10, 11, 12, 13])
+    refused("a ninth", my.TooManyCommands, observed, "client", b"\x0e")
 
     # packets of the protocol's pages
     error = bytes.fromhex("ff48042348593030304e6f207461626c65732075736564")
@@ -182,6 +191,34 @@ def inside():
     expect("bulk", [len(it) <= 1000 for it in session.write_bulk(statement, [(n, "x" * 100) for n in range(20)], 1004)], [True] * 3)
     expect("header", (session.write_header(5, 7), session.read_header(b"\5\0\0\7")), (b"\5\0\0\7", (5, 7)))
 
+    # a server reads what a client writes, and a client what a server writes
+    client, server = my.Session(), my.Session()
+    flags = p.MYP_CLIENT_PROTOCOL_41 | p.MYP_CLIENT_SECURE_CONNECTION | p.MYP_CLIENT_PLUGIN_AUTH | p.MYP_CLIENT_CONNECT_WITH_DB | p.MYP_CLIENT_DEPRECATE_EOF
+    offered = my.Handshake("8.4.3", 7, flags, 0, 2, b"abcdefghijklmnopqrst", "caching_sha2_password")
+    hello = client.read_handshake(server.write_handshake(offered))
+    expect("a server's greeting", hello, offered)
+    client.agree(hello, client.wanted())
+    it = server.read_login(client.write_login(hello, "me", "password", "live", plugin="caching_sha2_password"))
+    expect("a client's login", (it.user, it.database, it.auth_plugin, it.auth_response.hex()),
+           ("me", "live", "caching_sha2_password", "6584c404bc44a3d014cacc4fc823edc02991a53d5ae825ea0f91c7a0f1f26653"))
+    server.agree(offered, it.capabilities, it.mariadb_capabilities)
+    expect("agreed by both", server.capabilities, client.capabilities)
+    said = my.OkPacket(3, 4, 2, 1, "", ())
+    expect("a server's OK packet", (server.write_ok(said), client.read_ok(server.write_ok(said))), (bytes.fromhex("000304" "0200" "0100"), said))
+    expect("a server's error", server.write_error(my.ServerError(1096, "HY000", "No tables used")), error)
+    expect("a server's statement", client.read_statement(server.write_statement(statement)), statement)
+    expect("a count of columns", client.read_column_count(server.write_column_count(300)), 300)
+    column = my.Column("test", "t", "t", "a", "a", 63, 11, p.MYP_TYPE_LONG, 32, 0)
+    expect("a server's column", client.read_column(server.write_column(column)), column)
+    expect("a text row", server.write_text_row(["ab", None, 5]), b"\2ab\xfb\0015")
+    expect("a binary row", client.read_binary_row(server.write_binary_row([7, None], [column, column]), [column, column]), (7, None))
+    refused("a number past its column", my.InvalidInput, server.write_binary_row, [2**32], [column])
+    expect("a command", server.read_command(b"\x03select 1"), my.Command(3, "select 1", 0))
+    sent = client.write_execution(statement, ["abc", 7])[0]
+    expect("an execution", server.read_execution(sent, [None, None]), (my.Execution(1, (b"abc", 7), ()), [(p.MYP_TYPE_VAR_STRING, 0), (p.MYP_TYPE_LONGLONG, 0)]))
+    known = [(p.MYP_TYPE_TINY, 0), (p.MYP_TYPE_SHORT, 1)]
+    expect("of types that are known", server.read_execution(bytes.fromhex("17010000000001000000" "00" "00" "fe" "ffff"), known), (my.Execution(1, (-2, 65535), ()), known))
+
     # replication
     gtids = "3e11fa47-71ca-11e1-9e33-c80aa9429562:1-8:_x9:4-5,\na0b1c2d3-e4f5-6789-abcd-ef0123456789:10-11"
     dump = session.write_dump(7, gtids)
@@ -207,6 +244,17 @@ def inside():
     invalid("an aware datetime", None, 0, session.write_execution, statement, [aware])
     expect("ints and floats in one column", b"".join(session.write_bulk(statement, [(1,), (2.5,)])),
            bytes.fromhex("fa01000000" "8000" "0500" "00" "000000000000f03f" "00" "0000000000000440"))
+    expect("types and a cursor", session.write_execution(statement, [-2, 65535], ["TINY", "SHORT UNSIGNED"], "READ_ONLY"),
+           [bytes.fromhex("17010000000101000000" "00" "01" "01000280" "fe" "ffff")])
+    invalid("no type", None, 0, session.write_execution, statement, [1], ["TINY SIGNED"])
+    refused("a number past its type", my.InvalidInput, session.write_execution, statement, [128], ["TINY"])
+    asked = my.Session()
+    asked.capabilities = p.MYP_CLIENT_QUERY_ATTRIBUTES
+    expect("an attribute", asked.write_execution(statement, [5], attributes={"d": "x"}),
+           [bytes.fromhex("17010000000801000000" "02" "00" "01" "080000" "fd000164" "0500000000000000" "0178")])
+    expect("DEFAULT and IGNORE", b"".join(session.write_bulk(statement, [(1, my.Cell.DEFAULT), (my.Cell.IGNORE, "a"), (None, my.Cell.IGNORE)])),
+           bytes.fromhex("fa01000000" "8000" "0800" "fd00" "00" "0100000000000000" "02" "03" "00" "0161" "01" "03"))
+    invalid("DEFAULT as a parameter", None, 0, session.write_execution, statement, [my.Cell.DEFAULT])
     expect("a decimal is its text", session.write_execution(statement, [decimal.Decimal("1.50")]), [bytes.fromhex("170100000000010000000001fd0004312e3530")])
     expect("a date", session.write_execution(statement, [datetime.date(2010, 10, 17)]), [bytes.fromhex("170100000000010000000001" "0c00" "04da070a11")])
     refused("a row past the limit", my.RowTooLarge, list, session.write_bulk(statement, [("x" * 2000,)], 1004))

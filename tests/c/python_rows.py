@@ -64,6 +64,8 @@ KINDS = [
     lambda it: it.choice([span(it), moment(it).time()]),
     lambda it: uuid.UUID(int=it.randrange(2**128)),
 ]
+# what stands for a value, and its indicator
+CELLS = {mysql_packets.Cell.DEFAULT: 2, mysql_packets.Cell.IGNORE: 3}
 # values that can't be sent, whatever stands beside them
 REFUSED = [2**64, -(2**63) - 1, [1, 2], (1,), {}, object(), Color.RED, datetime.datetime(2024, 1, 1, tzinfo=UTC), datetime.time(1, tzinfo=UTC), 1j, "\ud800"]
 
@@ -74,16 +76,18 @@ def midnight(value):
 
 def expected(column):
     """What a reader of the request must find of a column's values."""
-    values = [it for it in column if it is not None]
+    values = [it for it in column if it is not None and not isinstance(it, mysql_packets.Cell)]
     if any(isinstance(it, float) for it in values):
-        return [it if it is None else ("bits", int.from_bytes(struct.pack("<d", it), "little")) for it in column]
-    if any(isinstance(it, decimal.Decimal) for it in values):
-        return [it if it is None else str(it).encode() for it in column]
-    return [expected_alone(it) for it in column]
+        alone = lambda it: ("bits", int.from_bytes(struct.pack("<d", it), "little"))  # noqa: E731
+    elif any(isinstance(it, decimal.Decimal) for it in values):
+        alone = lambda it: str(it).encode()  # noqa: E731
+    else:
+        alone = expected_alone
+    return [("cell", CELLS[it]) if isinstance(it, mysql_packets.Cell) else it if it is None else alone(it) for it in column]
 
 
 def expected_alone(value):
-    if value is None or isinstance(value, bytes):
+    if isinstance(value, bytes):
         return value
     if isinstance(value, int):
         return ("number", int(value))
@@ -106,7 +110,8 @@ def found(requests, width):
         (_, _, sent), answered = statements.bulk_head(buf, types or [(6, 0)] * width)
         types = answered if sent else types
         while buf.data:
-            rows.append([statements.bulk_value(buf, *it)[1] for it in types])
+            row = [statements.bulk_value(buf, *it) for it in types]
+            rows.append([("cell", indicator) if indicator in CELLS.values() else value for indicator, value in row])
     return rows
 
 
@@ -120,7 +125,7 @@ def listed(chance):
     columns = []
     for _ in range(width):
         kind = chance.choice(KINDS)
-        columns.append([None if chance.random() < 0.15 else kind(chance) for _ in range(count)])
+        columns.append([chance.choice([None, *CELLS]) if chance.random() < 0.25 else kind(chance) for _ in range(count)])
     rows = [list(it) for it in zip(*columns)]
     fate = chance.random()
     if fate < 0.2 and count > 1:

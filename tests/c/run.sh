@@ -91,6 +91,7 @@ nm -g --defined-only "$prefix/lib/libmysql_packets.a" 2>"$work/log" | sed -n 's/
 nm -D --defined-only "$prefix/lib/libmysql_packets.so" | sed -n 's/^[0-9a-f]* T //p' | sed 's/@.*//' | sort -u >"$work/shared"
 expect 'the archive has other symbols than the header' diff -- "$work/header" "$work/archive"
 expect 'the shared library has other symbols than the header' diff -- "$work/header" "$work/shared"
+expect 'the shared library refers to a function that takes memory' test -z "$(nm -u "$prefix/lib/libmysql_packets.so" | grep -E ' (malloc|calloc|realloc)(@|$)')"
 expect 'the shared library has no soname' grep -q 'soname: \[libmysql_packets.so.0\]' <(readelf -d "$prefix/lib/libmysql_packets.so")
 printf '%d passed, %d failed\n' "$passed" "$failed"
 ((failed == 0))

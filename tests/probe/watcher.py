@@ -126,6 +126,8 @@ class Watcher:
         self.params, self.is_bound, self.early = {}, set(), []
         # the exchange of the last command that is too long to be held: up to it nothing is known of statements
         self.lost = -1
+        # what is known of the parameters of an execution that came early, once the server comes to it
+        self.reached = {}
 
     def ok(self, payload, header):
         capabilities = self.session.flags
@@ -296,6 +298,7 @@ class Watcher:
     def serve(self, number):
         """The server has come to the exchange of this number."""
         while self.early and self.early[0][0] <= number:
+            self.reach(*self.early[0])
             self.begin(*self.early.pop(0))
 
     def begin(self, exchange, payload):
@@ -304,6 +307,17 @@ class Watcher:
         if exchange > self.lost:
             self.command(payload)
             self.bind(payload)
+
+    def reach(self, exchange, payload):
+        """The parameters of an execution that came early, with the number of its exchange, where its statement and its types are known."""
+        if exchange <= self.lost or payload[:1] != b"\x17" or len(payload) < 10:
+            return
+        try:
+            fields = self.executed(payload, False)
+        except (Eof, Invalid):
+            fields = {"refused": None}
+        if "parameter_types" not in fields and len(payload) > 10:
+            self.reached = {"parameters_of": exchange, **{name: it for name, it in fields.items() if name != "refused"}}
 
     def lose(self):
         """Something is lost: nothing is known of statements, nor of the commands that wait."""
@@ -412,8 +426,10 @@ class Watcher:
             return {**refused, "expected": kinds} if kinds else refused, False
         kind = word.split(":")[0]
         head.update(exchange=number, kind=kind)
+        self.reached = {}
         if packet.side != CLIENT:
             self.serve(number)
+            head.update(self.reached)
         if kind == "ssl_request" and self.is_deciphered:
             self.session.tls_established()
         try:

@@ -316,7 +316,7 @@ class Session:
     # ---- packets
 
     def next(self, side, payload):
-        """The kind of a packet, and the number of its command. A refusal ends it."""
+        """The kind of a packet, and the number of its command. A refusal ends it, except for that of a command that has no place to wait."""
         if self.before:
             return self.before(side, payload), 0
         return self.of_client(payload) if side == CLIENT else self.of_server(payload)
@@ -337,15 +337,14 @@ class Session:
         following = self.answer(payload)
         if following is None or (self.waiting and self.waiting[-1][1][:1] == bytes([QUIT])):
             raise Refused
+        if len(self.waiting) >= self.limit and not place.is_rest:
+            raise Refused("Full")
         self.last += 1
-        kind = f"command:{payload[0] if payload else 0}"
         if place.is_rest:
             self.number, self.place = self.last, following
-        elif len(self.waiting) >= self.limit:
-            raise Refused("Full")
         else:
             self.waiting.append((self.last, payload))
-        return kind, self.last
+        return f"command:{payload[0] if payload else 0}", self.last
 
     def of_server(self, payload):
         place, number = self.place, self.number

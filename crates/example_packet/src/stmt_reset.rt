@@ -19,14 +19,14 @@ impl ConstFault for InvalidComStmtResetHeader {
     const MESSAGE: &'static str = "Invalid header for COM_STMT_RESET";
 }
 
-/// `COM_STMT_RESET`: the data that was sent ahead for a prepared statement is dropped, and its cursor is closed.
+/// `COM_STMT_RESET`: drops the data that was sent ahead for a prepared statement, and closes its cursor.
 ///
 /// | Bytes | Field |
 /// |---|---|
 /// | 1 | the byte `1a` |
 /// | 4 | `stmt_id`, little-endian |
 ///
-/// Fewer than five bytes are refused as `UnexpectedEof`, another first byte as `InvalidData`.
+/// Fewer than five bytes are `UnexpectedEof`, another first byte is `InvalidData`.
 #[derive(Clone, Debug, PartialEq, Eq, Drop)]
 pub struct ComStmtReset {
     header: ConstU8<InvalidComStmtResetHeader, 0x1a>,
@@ -34,7 +34,7 @@ pub struct ComStmtReset {
 }
 
 impl ComStmtReset {
-    /// The reset of the statement of that number.
+    /// Creates the reset of the statement of this number.
     pub fn new(stmt_id: u32) -> Self
         ensures stmt_id { spec.stmt_id result ≡ stmt_id }
     {

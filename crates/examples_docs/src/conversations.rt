@@ -1,12 +1,12 @@
 //! Frames, and which packet comes next.
 
 use mysql_packets::conversation::{
-    Conversation, ConversationState, InitialPhase, LoginState, PacketKind, Pipeline, Session,
+    Conversation, InitialPhase, LoginState, PacketKind, Pipeline, PipelineState, Session,
     SessionError, Side, UnexpectedPacket, agreed_on,
 };
 use mysql_packets::error::Error;
 use mysql_packets::frames::{next_frame, sequence_id_at, write_frames, write_packet};
-use mysql_packets::observer::{Observer, ServerPacket};
+use mysql_packets::observer::{ClientRecord, Observer, ServerPacket};
 use mysql_packets::packets::{SessionCapabilities, StmtPacket};
 use mysql_packets::statements::RowColumn;
 use std::alloc::Global;
@@ -45,13 +45,28 @@ pub fn ends_answer(
     Ok(conversation.is_idle())
 }
 
-/// The kind of a row.
+/// The kind of a row, and its exchange.
 pub fn row_kind(
-    state: &ConversationState,
+    state: &PipelineState,
     agreed: SessionCapabilities,
     payload: &[u8],
-) -> Option<PacketKind> {
+) -> Option<(PacketKind, u64)> {
     state.row(agreed, payload)
+}
+
+/// Two commands at once, by the numbers of a pipeline: the exchange of the first reply.
+pub fn first_reply(
+    alloc: Global,
+    agreed: SessionCapabilities,
+    commands: [&[u8]; 2],
+    reply: &[u8],
+) -> Result<u64, SessionError> {
+    let mut state = PipelineState::new(InitialPhase::Commands);
+    for command in commands {
+        state.next(alloc, agreed, Side::Client, command)?;
+    }
+    let (_kind, exchange) = state.next(alloc, agreed, Side::Server, reply)?;
+    Ok(exchange)
 }
 
 /// A session that goes on from its numbers.
@@ -93,6 +108,15 @@ pub fn kind_after_a_loss(
 ) -> Result<PacketKind, Error> {
     observer.resume(agreed);
     Ok(observer.next(Side::Client, command)?.kind)
+}
+
+/// Whether the parameters of the pipelined execution that the server has reached are known.
+pub fn knows_reached(observer: &Observer) -> Result<bool, Error> {
+    let Some(execution) = observer.reached_execution() else {
+        return Ok(false);
+    };
+    let record = observer.reached_packet(execution.payload())?;
+    Ok(matches!(&record, ClientRecord::Execution(_, _)))
 }
 
 /// Whether a payload of the server is a row.

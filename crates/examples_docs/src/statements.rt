@@ -7,9 +7,9 @@ use mysql_packets::conversation::PacketKind;
 use mysql_packets::error::Error;
 use mysql_packets::io::{Fault, ParseBuf};
 use mysql_packets::packets::{
-    BulkRequestWriter, BulkRowError, BulkValue, Column, ComStmtExecuteHead, ComStmtExecuteRef,
-    ComStmtSendLongDataRef, ExecuteParam, NullBitmap, SessionCapabilities, StmtPacketWithMetadata,
-    TypedExecuteParam,
+    BulkRequestWriter, BulkRowError, BulkValue, Column, ComStmtExecuteHead,
+    ComStmtExecuteOptionsBuilder, ComStmtExecuteRef, ComStmtSendLongDataRef, ExecuteParam,
+    NullBitmap, SessionCapabilities, StmtPacketWithMetadata, TypedExecuteParam,
 };
 use mysql_packets::proto::MySerialize;
 use mysql_packets::row::{BinaryRowError, BinaryRowView, StoredRow, write_binary_row};
@@ -39,6 +39,19 @@ pub fn execution<'a>(alloc: Global, payload: &'a [u8]) -> Result<(u32, &'a [u8])
 pub fn cursor(stmt_id: u32, out: &mut Vec<u8>) -> Result<(), Error> {
     let head = ComStmtExecuteHead::new(stmt_id, CursorType::CURSOR_TYPE_READ_ONLY);
     Ok(head.serialize(out)?)
+}
+
+/// The builder of an execution like one that was read, with other attributes.
+pub fn like_one_read<'a>(
+    head: &ComStmtExecuteHead,
+    sends_types: bool,
+    attributes: Option<&'a [TypedExecuteParam<'a>]>,
+) -> ComStmtExecuteOptionsBuilder<'a, TypedExecuteParam<'a>> {
+    ComStmtExecuteOptionsBuilder {
+        sends_types,
+        attributes,
+        ..ComStmtExecuteOptionsBuilder::from_head(head)
+    }
 }
 
 /// The parameter and the bytes that are sent ahead for it.

@@ -121,7 +121,11 @@ impl Proxy {
             Side::Client => self.client_as_read(kind, payload, &mut written),
             Side::Server => self.server_as_read(kind, payload, &mut written),
         }?;
-        self.values = self.values.saturating_add(passed.values);
+        let reached = self.reached_values();
+        self.values = self
+            .values
+            .saturating_add(passed.values)
+            .saturating_add(reached);
         if passed.is_as_read {
             self.as_read = self.as_read.saturating_add(1);
         } else {
@@ -130,6 +134,22 @@ impl Proxy {
         }
         write_frames(out, number, &written)?;
         Ok(())
+    }
+
+    /// Reads the parameters of the pipelined execution that the server has reached by this packet, if it has reached one.
+    ///
+    /// When such an execution came, its statement was not known, or an earlier command could still change it.
+    fn reached_values(&self) -> u64 {
+        let Some(execution) = self.observer.reached_execution() else {
+            return 0;
+        };
+        let read: Result<ClientRecord<'_, '_>, FaultOf<'_>> = self
+            .observer
+            .reached_packet(execution.payload());
+        match read {
+            Ok(ClientRecord::Execution(_head, params)) => params_of(params),
+            _ => 0,
+        }
     }
 
     /// Writes the record of a client's packet, and reads the parameters of an execution.

@@ -21,7 +21,7 @@ fn text_of(content: &RawBytes<'_, LenEnc>, alloc: Global) -> Result<String, Allo
 
 /// A key with its value.
 ///
-/// In contracts it is the pair of their bytes.
+/// In a clause it is the pair of their bytes.
 #[derive(Drop)]
 pub(crate) struct Attribute<'a> {
     pub(crate) key: RawBytes<'a, LenEnc>,
@@ -37,7 +37,7 @@ impl<'a> Model for Attribute<'a> {
 }
 
 impl<'a> Attribute<'a> {
-    /// The attribute of this key and this value.
+    /// Creates an attribute of this key and this value.
     #[inline(always)]
     pub(crate) fn new(key: RawBytes<'a, LenEnc>, value: RawBytes<'a, LenEnc>) -> Self
         ensures value { result ≡ (key.entry, value.entry) }

@@ -25,10 +25,10 @@ use std::marker::Model;
 
 /// A client's connection attributes: keys and values, with each key once, in the order of their first occurrence.
 ///
-/// On the wire they are one length-encoded string, whose content is the pairs: the key and the value, each a length-encoded
-/// string. A key that is repeated keeps its first place and takes the last value.
+/// They are encoded as one length-encoded string, whose content is the pairs: the key and the value, each a
+/// length-encoded string. A repeated key keeps its first position and takes the last value.
 ///
-/// In contracts it is the list of the pairs.
+/// In a clause it is the list of the pairs.
 #[derive(Drop)]
 pub(crate) struct Attributes<'a> {
     list: Vec<Attribute<'a>>,
@@ -48,7 +48,7 @@ impl<'a> Model for Attributes<'a> {
 /// The number of pairs that are searched for a key one by one. More pairs go into a map.
 const FEW: usize = 16;
 
-/// Reads a few pairs to the end. If there are many, or a key is repeated, all are read again, into a map.
+/// Reads a few pairs to the end. If there are many, or a key is repeated, all are read again into a map.
 #[tactic(auto, using(crate::proofs::PairsRead::new_pairs, crate::proofs::Merging::distinct))]
 fn read_few<'s, 'a>(inside: ParseBuf<'a>) -> Result<Attributes<'a>, FaultOf<'s>>
     requires some { inside ≢ [] }
@@ -78,7 +78,7 @@ fn read_many<'s, 'a>(inside: ParseBuf<'a>) -> Result<Attributes<'a>, FaultOf<'s>
     Ok(Attributes { list })
 }
 
-/// The attributes that these bytes are the pairs of.
+/// Reads the attributes whose pairs these bytes are.
 #[tactic(auto, using(crate::proofs::PairsRead::pair_loops))]
 pub(crate) fn read_pairs<'s, 'a>(inside: ParseBuf<'a>) -> Result<Attributes<'a>, FaultOf<'s>>
     ensures value { Answers (is_any (pairs_room (length inside.entry))) result [] (spec.pairs.reads inside.entry) }
@@ -92,7 +92,7 @@ pub(crate) fn read_pairs<'s, 'a>(inside: ParseBuf<'a>) -> Result<Attributes<'a>,
 }
 
 impl<'a> Attributes<'a> {
-    /// The attributes of these texts.
+    /// Creates attributes of these texts.
     #[tactic(auto, using(crate::proofs::Merging::merges))]
     pub(crate) fn from_texts(
         alloc: Global,
@@ -117,8 +117,8 @@ impl<'a> Attributes<'a> {
         let _list = &self.list;
     }
 
-    /// Copies the attributes as text, with U+FFFD for invalid UTF-8. If two keys become the same text, it keeps the first place
-    /// and takes the later value.
+    /// Copies the attributes as text, with U+FFFD for invalid UTF-8. If two keys become the same text, it keeps
+    /// the first position and takes the later value.
     #[tactic(auto, using(crate::proofs::Merging::merges))]
     pub(crate) fn texts(&self, alloc: Global) -> Result<IndexMap<String, String>, AllocError>
         ensures value { IfOk result (λ texts. map spec.text_pair texts.entries ≡ spec.lossy_pairs self.now) }
@@ -164,7 +164,7 @@ impl<'a> Attributes<'a> {
     }
 }
 
-/// The attributes that are written where they may be left out: none are an empty list.
+/// Optional attributes as they are written: `None` is an empty list.
 #[derive(Drop)]
 pub(crate) struct GivenAttributes<'b, 'a>(pub(crate) &'b Option<Attributes<'a>>);
 
@@ -189,7 +189,7 @@ impl Parts for GivenAttributes<'_, '_> {
     }
 }
 
-/// The attributes of these texts, where there are any.
+/// Creates attributes of these texts, if any.
 pub(crate) fn attributes_of(
     alloc: Global,
     texts: Option<IndexMap<String, String>>,

@@ -1,4 +1,4 @@
-//! Further data of an authentication.
+//! Further authentication data.
 #![tactic(auto, using(mysql_wire::proofs::Packets::packets), unfolding(crate::specs::AuthMoreData::auth_more_data))]
 
 ghost use Rattle.std.specs.Prelude.{[], ◌≡◌, IfOk, IsOk};
@@ -34,7 +34,7 @@ pub struct AuthMoreData<'a> {
 }
 
 impl<'a> AuthMoreData<'a> {
-    /// The packet of this data.
+    /// Creates a packet of this data.
     #[inline]
     pub fn new(data: CowSlice<'a, u8>) -> Self
         ensures value { result ≡ spec.more_data_of (cow_slice_items «data».entry) }

@@ -1,4 +1,4 @@
-//! Borrowed further data of an authentication.
+//! Borrowed further authentication data.
 #![tactic(auto, using(mysql_wire::proofs::Packets::packets), unfolding(crate::specs::AuthMoreData::auth_more_data))]
 
 ghost use Rattle.std.specs.Prelude.{◌≡◌, ⊤};
@@ -16,7 +16,7 @@ use std::marker::Model;
 
 /// Further data from the server during authentication: an [`AuthMoreData`] that borrows from the packet.
 ///
-/// It is read of the same bytes with the same faults, and in a clause it is that packet.
+/// It is read from the same bytes with the same faults, and in a clause it is that packet.
 ///
 /// ```
 /// let more: AuthMoreDataRef<'_> = buf.parse(())?;
@@ -89,7 +89,7 @@ impl Debug for AuthMoreDataRef<'_> {
     }
 }
 
-/// As an [`AuthMoreData`].
+/// Read like an [`AuthMoreData`].
 impl<'de> MyDeserialize<'de> for AuthMoreDataRef<'de> {
     const SIZE: Option<usize> = None;
 

@@ -24,17 +24,17 @@ const CLIENT_ED25519: &[u8] = b"client_ed25519";
 
 const PARSEC: &[u8] = b"parsec";
 
-/// How a client proves who it is: the plugin that both sides run.
+/// An authentication plugin, which proves who the client is.
 ///
-/// On the wire it is its name. Reading takes the rest of the buffer as the name, without one zero at its end; writing puts a
-/// zero after the name.
+/// It is encoded as its name. Reading takes the rest of the buffer as the name, without one zero at its end;
+/// writing appends a zero to the name.
 ///
 /// ```
 /// let plugin = request.auth_plugin();
 /// scramble.clear();
 /// scramble.extend_from_slice(match plugin {
-///     AuthPlugin::Ed25519 => request.plugin_data_raw(),
-///     _ => request.plugin_data(),
+/// AuthPlugin::Ed25519 => request.plugin_data_raw(),
+/// _ => request.plugin_data(),
 /// })?;
 /// ```
 #[derive(Clone, Debug, PartialEq, Eq, Hash, Drop)]
@@ -61,7 +61,7 @@ pub enum AuthPlugin<'a> {
 }
 
 impl<'a> AuthPlugin<'a> {
-    /// The plugin of this name, one zero at its end aside. `parsec` has no rounds yet, and a salt of zeros.
+    /// Returns the plugin of this name, without one zero at its end. `parsec` has 0 rounds and a salt of zeros.
     #[tactic(auto, unfolding(crate::specs::AuthPlugin::plugin_named))]
     pub fn from_bytes(name: &'a [u8]) -> AuthPlugin<'a>
         ensures value { result ≡ spec.plugin_of name.now }
@@ -125,7 +125,7 @@ impl<'a> AuthPlugin<'a> {
 
     /// Converts to an owned plugin. Only the name of a plugin without a variant of its own is copied.
     ///
-    /// If the allocation fails, the plugin is dropped; the bytes that it borrowed aren't affected.
+    /// If the allocation fails, the plugin is dropped; the borrowed bytes aren't affected.
     #[tactic(auto, using(crate::proofs::Known::known_plugins))]
     pub fn into_owned(self, alloc: Global) -> Result<AuthPlugin<'static>, AllocError>
         ensures value { IfOk result (λ owned. owned ≡ self.entry) }
@@ -152,8 +152,8 @@ impl<'a> AuthPlugin<'a> {
         AuthPlugin::Other(RawBytes::new(CowSlice::Borrowed(self.as_bytes())))
     }
 
-    /// Sets what a server sends in addition to the scramble: for `parsec` the number of rounds and the salt, as
-    /// [`parse_parsec_salt`] reads them.
+    /// Sets the data that a server sends in addition to the scramble: for `parsec` the number of rounds and the
+    /// salt, in the form of [`parse_parsec_salt`].
     ///
     /// Returns `None`, and leaves the plugin unchanged, if it needs no such data or the payload has another form.
     pub fn read_add_data(&mut self, payload: &[u8]) -> Option<()>

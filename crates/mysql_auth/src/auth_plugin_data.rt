@@ -8,22 +8,22 @@ use mysql_wire::{EofBytes, Parts, RawBytes, Sink, Skip, parts};
 use std::alloc::{AllocError, Global};
 use std::borrow::CowSlice;
 
-/// A client's proof of its password, by the plugin that computed it.
+/// A client's authentication response, by the plugin that computed it.
 ///
 /// It is only written: the bytes, and a zero after those of `Old` and `Clear`.
 #[derive(Clone, Debug, PartialEq, Eq, Drop)]
 pub enum AuthPluginData<'a> {
-    /// Of `mysql_old_password`.
+    /// The response of `mysql_old_password`.
     Old([u8; 8]),
-    /// Of `mysql_native_password`.
+    /// The response of `mysql_native_password`.
     Native([u8; 20]),
-    /// Of `caching_sha2_password`.
+    /// The response of `caching_sha2_password`.
     Sha2([u8; 32]),
-    /// Of `mysql_clear_password`: the password.
+    /// The response of `mysql_clear_password`: the password.
     Clear(RawBytes<'a, EofBytes>),
-    /// Of `client_ed25519`.
+    /// The response of `client_ed25519`.
     Ed25519([u8; 64]),
-    /// Of `parsec`.
+    /// The response of `parsec`.
     Parsec([u8; 96]),
 }
 
@@ -44,7 +44,7 @@ impl AuthPluginData<'_> {
 
     /// Converts to owned data. Only a password is copied.
     ///
-    /// If the allocation fails, the data is dropped; the bytes that it borrowed aren't affected.
+    /// If the allocation fails, the data is dropped; the borrowed bytes aren't affected.
     pub fn into_owned(self, alloc: Global) -> Result<AuthPluginData<'static>, AllocError>
         ensures value { IfOk result (λ owned. owned ≡ self.entry) }
         ensures fixed { spec.IsFixed self.entry → is_ok result ≡ true }

@@ -13,23 +13,24 @@ use bitflags::Flags;
 use mysql_wire::{AnyWidth, CapabilityFlags, EofBytes, FaultOf, MyDeserialize, ParseBuf, RawBytes};
 use std::borrow::CowSlice;
 
-/// A server's answer to a handshake response, and to each packet of a plugin after it, until the login succeeds or fails. The
-/// bytes borrow from the payload.
+/// A server's reply to a handshake response, and to each packet of a plugin after it, until the login succeeds
+/// or fails. The bytes borrow from the payload.
 ///
 /// | First byte | Reply |
 /// |---|---|
 /// | `00` | [`OkPacket`](AuthReply::OkPacket) |
 /// | `ff` | [`ErrPacket`](AuthReply::ErrPacket) |
-/// | `fe` | [`OldSwitch`](AuthReply::OldSwitch) where it is the only one, else [`Switch`](AuthReply::Switch) |
+/// | `fe` | [`OldSwitch`](AuthReply::OldSwitch) if it is the only byte, otherwise [`Switch`](AuthReply::Switch) |
 /// | `01` | [`MoreData`](AuthReply::MoreData) |
-/// | `02` | [`NextFactor`](AuthReply::NextFactor) where both sides agreed to `MULTI_FACTOR_AUTHENTICATION` |
+/// | `02` | [`NextFactor`](AuthReply::NextFactor) if both sides agreed on `MULTI_FACTOR_AUTHENTICATION` |
 /// | another, or none | [`PluginData`](AuthReply::PluginData) |
 ///
-/// A plugin speaks as it likes: MariaDB puts `01` in front of its data only where that begins with `00`, `01`, `fe` or
-/// `ff`, and MySQL, which alone knows of factors, in any case (`server_mpvio_write_packet` in MariaDB's `sql/sql_acl.cc` and
-/// MySQL's `sql/auth/sql_authentication.cc`). So no reply has two meanings.
+/// A plugin's data may begin with any byte. MariaDB puts `01` before data that begins with `00`, `01`, `fe` or
+/// `ff`, and MySQL, the only server with factors, before all data (`server_mpvio_write_packet` in MariaDB's
+/// `sql/sql_acl.cc` and MySQL's `sql/auth/sql_authentication.cc`). So no reply is ambiguous.
 ///
-/// A switch or a factor whose plugin name has no zero is `UnexpectedEof`. Any other payload is valid. It takes no memory.
+/// A switch or a factor whose plugin name has no zero is `UnexpectedEof`. Any other payload is valid. It takes
+/// no memory.
 ///
 /// ```
 /// let reply: AuthReply<'_> = ParseBuf::new(alloc, payload).parse(agreed)?;
@@ -37,13 +38,13 @@ use std::borrow::CowSlice;
 /// ```
 #[derive(Clone, Debug, PartialEq, Eq, Drop)]
 pub enum AuthReply<'a> {
-    /// The login is done: the payload of an OK packet.
+    /// The login succeeded: the payload of an OK packet.
     OkPacket(RawBytes<'a, EofBytes>),
     /// The login failed: the payload of an error.
     ErrPacket(RawBytes<'a, EofBytes>),
-    /// Another plugin shall go on.
+    /// A request to switch to another plugin.
     Switch(AuthSwitchRequestRef<'a>),
-    /// The plugin of MySQL before 4.1 shall go on: an [`OldAuthSwitchRequest`].
+    /// A request to switch to the plugin of MySQL before 4.1: an [`OldAuthSwitchRequest`].
     OldSwitch,
     /// Data of the plugin, after the byte `01`.
     MoreData(AuthMoreDataRef<'a>),
@@ -53,7 +54,7 @@ pub enum AuthReply<'a> {
     PluginData(RawBytes<'a, EofBytes>),
 }
 
-/// The rest of the buffer.
+/// Takes the rest of the buffer.
 #[inline]
 fn all_of<'a>(buf: &mut ParseBuf<'a>) -> RawBytes<'a, EofBytes>
     ensures value { result ≡ buf.old }
@@ -62,7 +63,7 @@ fn all_of<'a>(buf: &mut ParseBuf<'a>) -> RawBytes<'a, EofBytes>
     RawBytes::new(CowSlice::Borrowed(buf.eat_all()))
 }
 
-/// A switch; the one to the oldest plugin is a single byte.
+/// Reads a switch; the one to the oldest plugin is a single byte.
 fn read_switch<'s, 'a>(buf: &mut ParseBuf<'a>) -> Result<AuthReply<'a>, FaultOf<'s>>
     ensures value { Answers false result buf.new ((spec.switch_reply buf.old).reads buf.old) }
     ensures tail { OnErr result (IsTail buf.new buf.old) }
@@ -74,7 +75,7 @@ fn read_switch<'s, 'a>(buf: &mut ParseBuf<'a>) -> Result<AuthReply<'a>, FaultOf<
     Ok(AuthReply::Switch(buf.parse(())?))
 }
 
-/// A request for the next factor, where both sides know of factors, or a plugin's data.
+/// Reads a request for the next factor, if both sides support factors, otherwise a plugin's data.
 fn read_factor<'s, 'a>(
     capabilities: CapabilityFlags,
     buf: &mut ParseBuf<'a>,

@@ -10,11 +10,11 @@ impl PluginRequestHeader for InvalidAuthSwitchRequestHeader {
     const NAME: &'static str = "AuthSwitchRequest";
 }
 
-/// The first byte of a switch, the old one too: `fe`.
+/// The first byte of a switch, also of the old one: `fe`.
 pub type AuthSwitchRequestHeader = ConstU8<InvalidAuthSwitchRequestHeader, 0xfe>;
 
-/// A server's request to switch to another plugin (`Protocol::AuthSwitchRequest`): the byte `fe`, the plugin's name,
-/// which ends in a zero, and the plugin's data to the end of the packet. Plugins put a zero after a scramble
+/// A server's request to switch to another plugin (`Protocol::AuthSwitchRequest`): the byte `fe`, the plugin's
+/// name, zero-terminated, and the plugin's data to the end of the packet. Plugins put a zero after a scramble
 /// (`send_plugin_request_packet` in `sql/auth/sql_authentication.cc`).
 ///
 /// A packet that begins with another byte is `InvalidData`; an empty one, or a name without its zero, is

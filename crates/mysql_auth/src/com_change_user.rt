@@ -31,8 +31,8 @@ pub type ComChangeUserHeader = ConstU8<InvalidComChangeUserHeader, COM_CHANGE_US
 /// The byte `11`; the user's name, zero-terminated; the authentication response, after a length of one byte; the database's
 /// name, zero-terminated; and, if bytes are left, [`ComChangeUserMoreData`].
 ///
-/// Another first byte is `InvalidData`; missing bytes are `UnexpectedEof`. Only the attributes take memory. Of a response the
-/// first 255 bytes are written, and of a name those before its first zero.
+/// Another first byte is `InvalidData`; missing bytes are `UnexpectedEof`. Only the attributes take memory. At
+/// most the first 255 bytes of the response are written, and the bytes of a name before its first zero.
 ///
 /// ```
 /// let more = ComChangeUserMoreData::new(45).with_auth_plugin(Some(
@@ -65,7 +65,7 @@ impl Drop for ComChangeUser<'_> {
     }
 }
 
-/// These bytes, or none.
+/// Returns these bytes, or none.
 pub(crate) fn bytes_or_empty<'a, R>(content: Option<CowSlice<'a, u8>>) -> RawBytes<'a, R>
     ensures value { result ≡ option_map_or cow_slice_items content.entry [] }
 {
@@ -75,7 +75,7 @@ pub(crate) fn bytes_or_empty<'a, R>(content: Option<CowSlice<'a, u8>>) -> RawByt
     }
 }
 
-/// These bytes, where they are given.
+/// Returns these bytes, if they are given.
 pub(crate) fn bytes_if_given<'a, R>(content: Option<CowSlice<'a, u8>>) -> Option<RawBytes<'a, R>>
     ensures value { result ≡ option_map cow_slice_items content.entry }
 {
@@ -131,9 +131,11 @@ impl<'a> ComChangeUser<'a> {
         self
     }
 
-    /// Returns the form to send in a session: it has the plugin and the attributes exactly if the agreed flags ask for them.
+    /// Returns the form to send in a session: it has the plugin and the attributes exactly if the agreed flags
+    /// ask for them.
     ///
-    /// A proxy uses it to write a change as it was read, and a client that agreed on no attributes to write its own.
+    /// A proxy uses it to write a change back as it was read, and a client to write its own without attributes
+    /// if these aren't agreed on.
     #[inline]
     pub fn for_session(&self, capabilities: CapabilityFlags) -> ForSession<'_, Self>
         ensures value { result ≡ (capabilities, self.now) }
@@ -141,7 +143,7 @@ impl<'a> ComChangeUser<'a> {
         ForSession::new(self, capabilities)
     }
 
-    /// The character set of more data has two bytes, and each key occurs once among its attributes.
+    /// The character set of the optional fields has two bytes, and each key occurs once among their attributes.
     pub(crate) fn more_data_is_one(&self)
         ensures width { (given : ComChangeUserMoreData) → spec.more_data_in self.now ≡ Some given → spec.character_set given < 2 ^ 16 }
         ensures once { (given : ComChangeUserMoreData) (pairs : List Attribute) → spec.more_data_in self.now ≡ Some given → spec.connect_attributes given ≡ Some pairs → merged pairs ≡ pairs }
@@ -186,7 +188,7 @@ impl Default for ComChangeUser<'_> {
     }
 }
 
-/// More data, where bytes are left.
+/// Reads the optional fields, if bytes are left.
 #[tactic(auto, unfolding(crate::specs::ComChangeUser::last_part))]
 fn read_more_data<'s, 'a>(
     capabilities: CapabilityFlags,

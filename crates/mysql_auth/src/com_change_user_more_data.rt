@@ -24,9 +24,9 @@ use std::alloc::{AllocError, Global};
 /// plugin's name, zero-terminated; under `CLIENT_CONNECT_ATTRS` the attributes, as in a
 /// [`HandshakeResponse`](crate::HandshakeResponse).
 ///
-/// A writer isn't passed the flags: it writes a plugin where one is given, and always attributes, an empty list if none are
-/// given. [`for_session`](ComChangeUserMoreData::for_session) writes what the flags ask for. Reading takes memory for the
-/// attributes alone.
+/// The writer doesn't know the flags: it writes a plugin if one is set, and always attributes, an empty list if
+/// none are set. [`for_session`](ComChangeUserMoreData::for_session) writes the fields that the flags ask for.
+/// Reading takes memory only for the attributes.
 ///
 /// ```
 /// let more = ComChangeUserMoreData::new(45).with_auth_plugin(Some(
@@ -56,7 +56,7 @@ impl Drop for ComChangeUserMoreData<'_> {
 }
 
 impl<'a> ComChangeUserMoreData<'a> {
-    /// This character set, without a plugin and without attributes.
+    /// Creates the optional fields with this character set, without a plugin and without attributes.
     pub fn new(character_set: u16) -> Self
         ensures value { result ≡ spec.more_data_of character_set None None }
     {
@@ -125,7 +125,7 @@ impl<'a> ComChangeUserMoreData<'a> {
 }
 
 impl<'a> ComChangeUserMoreData<'a> {
-    /// The attributes as they are written.
+    /// Returns the attributes in the form in which they are written.
     #[inline(always)]
     pub(crate) fn given_attributes(&self) -> GivenAttributes<'_, 'a>
         ensures value { result ≡ spec.connect_attributes self.now }
@@ -150,7 +150,7 @@ impl<'a> ComChangeUserMoreData<'a> {
     }
 }
 
-/// The attributes, where the flags say that they are there.
+/// Reads the attributes, if the flags ask for them.
 #[tactic(auto, unfolding(crate::specs::ComChangeUser::sent_attributes))]
 fn read_attributes<'s, 'a>(
     capabilities: CapabilityFlags,

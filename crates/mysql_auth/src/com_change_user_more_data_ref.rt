@@ -23,8 +23,8 @@ use std::marker::Model;
 
 /// The optional fields of a change of user: a [`ComChangeUserMoreData`] that borrows from the packet, and takes no memory.
 ///
-/// It is read from the same bytes with the same faults, except `Memory`. In a clause it is that data, with its attributes as
-/// they were sent.
+/// It is read from the same bytes with the same faults, except for `Memory`. In a clause it is that data, with
+/// its attributes as they were sent.
 ///
 /// ```
 /// let change: ComChangeUserRef<'_> = ParseBuf::new(alloc, payload).parse(agreed)?;
@@ -56,14 +56,14 @@ impl<'a> ComChangeUserMoreDataRef<'a> {
         self.character_set.0
     }
 
-    /// As [`HandshakeResponseRef::auth_plugin`](crate::HandshakeResponseRef::auth_plugin).
+    /// Like [`HandshakeResponseRef::auth_plugin`](crate::HandshakeResponseRef::auth_plugin).
     pub fn auth_plugin(&self) -> Option<AuthPlugin<'a>>
         ensures value { result ≡ spec.auth_plugin self.now }
     {
         plugin_given(&self.auth_plugin)
     }
 
-    /// As [`HandshakeResponseRef::auth_plugin_name`](crate::HandshakeResponseRef::auth_plugin_name).
+    /// Like [`HandshakeResponseRef::auth_plugin_name`](crate::HandshakeResponseRef::auth_plugin_name).
     #[inline]
     pub fn auth_plugin_name(&self) -> Option<&'a [u8]>
         ensures value { option_map (λ s. plugin_of s.now) result ≡ spec.auth_plugin self.now }
@@ -72,7 +72,7 @@ impl<'a> ComChangeUserMoreDataRef<'a> {
         name_given(&self.auth_plugin)
     }
 
-    /// As [`HandshakeResponseRef::connect_attributes`](crate::HandshakeResponseRef::connect_attributes).
+    /// Like [`HandshakeResponseRef::connect_attributes`](crate::HandshakeResponseRef::connect_attributes).
     #[inline]
     pub fn connect_attributes(&self) -> Option<ConnectAttributesRef<'a>>
         ensures value { result ≡ spec.connect_attributes self.now }
@@ -80,8 +80,8 @@ impl<'a> ComChangeUserMoreDataRef<'a> {
         iter_given(&self.connect_attributes)
     }
 
-    /// Converts to a [`ComChangeUserMoreData`], which still borrows the texts. Only the attributes take memory, with each key
-    /// once.
+    /// Converts to a [`ComChangeUserMoreData`], which still borrows the texts and has each key once. Only the
+    /// attributes take memory.
     pub fn to_more_data(&self, alloc: Global) -> Result<ComChangeUserMoreData<'a>, AllocError>
         ensures value { IfOk result (λ more. more ≡ spec.more_with_each_key_once self.now) }
         // Without attributes it doesn't allocate.
@@ -105,7 +105,7 @@ impl<'a> ComChangeUserMoreDataRef<'a> {
         }
     }
 
-    /// The data without its attributes, which are left.
+    /// Reads the data before its attributes, which remain in the buffer.
     pub(crate) fn read_before_attributes<'s>(
         capabilities: CapabilityFlags,
         buf: &mut ParseBuf<'a>,
@@ -147,7 +147,7 @@ impl Debug for ComChangeUserMoreDataRef<'_> {
     }
 }
 
-/// The plugin, where the flags say that it is named.
+/// Reads the plugin, if the flags ask for it.
 #[tactic(auto, unfolding(crate::specs::ComChangeUser::named_plugin))]
 fn read_plugin<'s, 'a>(
     capabilities: CapabilityFlags,
@@ -161,7 +161,7 @@ fn read_plugin<'s, 'a>(
     Ok(Some(AuthPluginRef::to_zero(buf)?))
 }
 
-/// The attributes, where the flags say that they are there.
+/// Reads the attributes, if the flags ask for them.
 #[tactic(auto, unfolding(crate::specs::ComChangeUser::pairs_as_sent))]
 fn read_attributes<'s, 'a>(
     capabilities: CapabilityFlags,

@@ -26,8 +26,8 @@ use std::marker::Model;
 /// The change of a session's user, whose texts stay in the packet: a [`ComChangeUser`] for as long as the packet lives,
 /// without memory.
 ///
-/// It is read from the same bytes with the same faults, except `Memory`. In a clause it is that change, with its attributes as
-/// they were sent.
+/// It is read from the same bytes with the same faults, except for `Memory`. In a clause it is that change,
+/// with its attributes as they were sent.
 ///
 /// ```
 /// let change: ComChangeUserRef<'_> = ParseBuf::new(alloc, payload).parse(agreed)?;
@@ -72,7 +72,7 @@ impl<'a> ComChangeUserRef<'a> {
         bytes_of(&self.database)
     }
 
-    /// More data, where it was sent.
+    /// The optional fields, if they were sent.
     #[inline]
     pub fn more_data(&self) -> Option<&ComChangeUserMoreDataRef<'a>>
         ensures value { option_map (λ more. more.now) result ≡ spec.more_data_in self.now }
@@ -97,7 +97,8 @@ impl<'a> ComChangeUserRef<'a> {
         }
     }
 
-    /// Converts to a [`ComChangeUser`], which still borrows the texts. Only the attributes take memory, with each key once.
+    /// Converts to a [`ComChangeUser`], which still borrows the texts and has each key once. Only the
+    /// attributes take memory.
     pub fn to_change(&self, alloc: Global) -> Result<ComChangeUser<'a>, AllocError>
         ensures value { IfOk result (λ change. change ≡ spec.with_each_key_once self.now) }
         // Without attributes it doesn't allocate.
@@ -110,7 +111,7 @@ impl<'a> ComChangeUserRef<'a> {
         Ok(self.with_more_data(more_data))
     }
 
-    /// The change without its more data, which is left.
+    /// Reads the change before its optional fields, which remain in the buffer.
     pub(crate) fn read_before_more_data<'s>(
         buf: &mut ParseBuf<'a>,
     ) -> Result<ComChangeUserRef<'a>, FaultOf<'s>>
@@ -160,7 +161,7 @@ impl Debug for ComChangeUserRef<'_> {
     }
 }
 
-/// More data, where bytes are left.
+/// Reads the optional fields, if bytes are left.
 #[tactic(auto, unfolding(crate::specs::ComChangeUser::last_part_as_sent))]
 fn read_more_data<'s, 'a>(
     capabilities: CapabilityFlags,

@@ -11,7 +11,7 @@ use std::fmt;
 use std::fmt::Debug;
 use std::marker::Model;
 
-/// A key with its value, which stay in the packet: each a length-encoded string.
+/// A borrowed connection attribute: a key and its value, each a length-encoded string.
 ///
 /// In a clause it is the pair of their bytes.
 ///

@@ -22,8 +22,8 @@ use std::marker::Model;
 /// A client's connection attributes, which borrow from the packet: an iterator over the keys and values in the order in which
 /// they were sent, without memory.
 ///
-/// A key may be repeated: its last value counts, at its first place. All pairs are read when the iterator is created, so none
-/// of them fails later. In a clause it is the list of the remaining pairs.
+/// A key may be repeated: its last value counts, at its first position. All pairs are read when the iterator is
+/// created, so none of them fails later. In a clause it is the list of the remaining pairs.
 ///
 /// ```
 /// let login: HandshakeResponseRef<'_> = ParseBuf::new(alloc, payload).parse(())?;
@@ -61,7 +61,7 @@ fn check_pairs<'s>(pairs: ParseBuf<'_>) -> Result<(), FaultOf<'s>>
     Ok(())
 }
 
-/// Takes the first pair off the front, where one is left.
+/// Takes the first pair off the front, if one is left.
 fn next_pair<'a>(pairs: &mut ParseBuf<'a>) -> Option<ConnectAttributeRef<'a>>
     requires { ArePairs pairs.old }
     ensures next { NextPair (pairs_in pairs.old) result (pairs_in pairs.new) }
@@ -75,7 +75,7 @@ fn next_pair<'a>(pairs: &mut ParseBuf<'a>) -> Option<ConnectAttributeRef<'a>>
 }
 
 impl<'a> ConnectAttributesRef<'a> {
-    /// Reads the attributes after the length of all.
+    /// Reads the attributes after their total length.
     #[tactic(auto, using(mysql_wire::proofs::Packets::packets), unfolding(crate::specs::Attributes::attributes_as_sent))]
     pub(crate) fn read<'s>(buf: &mut ParseBuf<'a>) -> Result<ConnectAttributesRef<'a>, FaultOf<'s>>
         ensures value { Answers false result buf.new ((spec.attributes_as_sent.form tt).reads buf.old) }
@@ -85,7 +85,7 @@ impl<'a> ConnectAttributesRef<'a> {
         Ok(ConnectAttributesRef { pairs })
     }
 
-    /// Iterates over the pairs from the first one on.
+    /// Returns an iterator over the remaining pairs.
     #[inline]
     pub fn iter(&self) -> ConnectAttributesRef<'a>
         ensures value { result ≡ self.now }
@@ -95,7 +95,7 @@ impl<'a> ConnectAttributesRef<'a> {
         }
     }
 
-    /// The bytes of the pairs that are left: each key and each value a length-encoded string.
+    /// The bytes of the remaining pairs: each key and each value a length-encoded string.
     #[inline]
     pub fn as_bytes(&self) -> &'a [u8]
         ensures value { pairs_in result.now ≡ self.now }
@@ -147,7 +147,7 @@ pub(crate) fn attributes_given<'a>(
     }
 }
 
-/// Whether both give the same pairs, one after another.
+/// Whether both yield the same pairs, in the same order.
 fn give_the_same(one: &ConnectAttributesRef<'_>, other: &ConnectAttributesRef<'_>) -> bool
     ensures value { result ≡ pointwise spec.attribute_eq one.now other.now }
 {

@@ -1,4 +1,4 @@
-//! A name that runs to the end, and a zero at its end.
+//! A name to the end of the packet, with an optional zero at its end.
 
 ghost use Rattle.std.specs.Prelude.{false, ◌≡◌, ◌+◌, ◌++◌, ◌≤◌, vec_len, vec_capacity, length, List, ℕ, refl, OnErr};
 ghost use Rattle.mysql_wire.specs.Writing.{saturated};
@@ -19,8 +19,8 @@ pub(crate) fn without_last_zero(bytes: &[u8]) -> &[u8]
     }
 }
 
-/// All the bytes that are left, without one zero at their end. MySQL before 5.5.10 and 5.6.2 sent the plugin's name in a
-/// handshake without its zero (bug 59453).
+/// All remaining bytes, without one zero at their end. MySQL before 5.5.10 and 5.6.2 sent the plugin's name in
+/// a handshake without its zero (bug 59453).
 ///
 /// A content is written up to its first zero, and then a zero.
 #[derive(Clone, Copy, Debug)]

@@ -1,4 +1,4 @@
-//! A change of user as a session writes it.
+//! A change of user as it is written in a session.
 #![tactic(auto, using(mysql_wire::proofs::Packets::packets), unfolding(crate::specs::ComChangeUser::session_change_user, crate::specs::ComChangeUser::session_last_part, crate::specs::ComChangeUser::session_more_data))]
 
 ghost use Rattle.std.specs.Prelude.{◌≡◌, [], option_map};
@@ -18,12 +18,13 @@ use bitflags::Flags;
 use mysql_wire::{CapabilityFlags, Parts, Sink, parts};
 use std::marker::Model;
 
-/// A [`ComChangeUser`] or [`ComChangeUserMoreData`] that is written by the flags that both sides agreed on: the plugin's name
-/// exactly under `CLIENT_PLUGIN_AUTH`, and the attributes exactly under `CLIENT_CONNECT_ATTRS`.
+/// A [`ComChangeUser`] or [`ComChangeUserMoreData`] that is written under the flags that both sides agreed on:
+/// the plugin's name exactly under `CLIENT_PLUGIN_AUTH`, and the attributes exactly under
+/// `CLIENT_CONNECT_ATTRS`.
 ///
-/// If the flags ask for a plugin or attributes that aren't given, an empty name or an empty list is written. A packet that was
-/// read under the same flags is written back unchanged, except that each key of its attributes is written once. It takes no
-/// memory.
+/// If the flags ask for a plugin or attributes that aren't set, an empty name or an empty list is written. A
+/// packet that was read under the same flags is written back unchanged, except that each key of its attributes
+/// is written once. It takes no memory.
 ///
 /// In a clause it is the pair of the flags and the packet.
 ///
@@ -62,7 +63,7 @@ impl<'b, P> ForSession<'b, P> {
     }
 }
 
-/// The plugin that is written, where the flags ask for one: without a plugin that of an empty name.
+/// Returns the plugin to write, if the flags ask for one; if no plugin is set, it has an empty name.
 #[tactic(auto, unfolding(crate::specs::PluginName::plugin_null))]
 fn plugin_asked<'b>(
     capabilities: CapabilityFlags,
@@ -79,7 +80,7 @@ fn plugin_asked<'b>(
     }
 }
 
-/// The attributes that are written, where the flags ask for them.
+/// Returns the attributes to write, if the flags ask for them.
 fn attributes_asked<'b, 'a>(
     capabilities: CapabilityFlags,
     given: GivenAttributes<'b, 'a>,
@@ -105,7 +106,7 @@ impl Parts for ForSession<'_, ComChangeUserMoreData<'_>> {
     }
 }
 
-/// More data, as a session writes it.
+/// Returns the optional fields in the form that is written in a session.
 fn more_data_asked<'b, 'a>(
     capabilities: CapabilityFlags,
     more: &'b Option<ComChangeUserMoreData<'a>>,

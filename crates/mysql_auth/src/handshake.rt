@@ -28,9 +28,8 @@ const NONCE_LEN: usize = 20;
 
 /// The initial handshake (`Protocol::HandshakeV10`).
 ///
-/// The protocol's version and the server's, which ends in a zero; 31 bytes; under
-/// `CLIENT_SECURE_CONNECTION` the second scramble; under `CLIENT_PLUGIN_AUTH` the name of a plugin,
-/// to the end. In the 31 bytes:
+/// The protocol version; the server's version, zero-terminated; 31 bytes; under `CLIENT_SECURE_CONNECTION` the
+/// second scramble; under `CLIENT_PLUGIN_AUTH` the name of a plugin, to the end. In the 31 bytes:
 ///
 /// | Bytes | Field |
 /// |---|---|
@@ -41,13 +40,12 @@ const NONCE_LEN: usize = 20;
 /// | 1 | `default_collation` |
 /// | 2 | `status_flags` |
 /// | 2 | the high half of `capabilities` |
-/// | 1 | the length of both scrambles: 8 less, but at least 13, is that of the second |
+/// | 1 | the length of both scrambles; the second has 8 bytes less, but at least 13 |
 /// | 6 | skipped |
 /// | 4 | `mariadb_ext_capabilities` |
 ///
-/// A server that refuses a connection sends an error in place of the handshake, as `ff 1004 "Too many connections"`. No
-/// flags are agreed yet, and no server puts an SQL state into it: an `ErrPacket` reads it with `CapabilityFlags::empty()`
-/// as its context, and refuses it under `CLIENT_PROTOCOL_41`.
+/// A server that refuses a connection sends an error instead of the handshake, such as `ff 1004 "Too many
+/// connections"`: `GreetingError` of `mysql_replies` reads it.
 ///
 /// ```
 /// let greeting: HandshakePacket<'_> = ParseBuf::new(connection.alloc, payload).parse(())?;
@@ -71,7 +69,7 @@ impl Drop for HandshakePacket<'_> {
     }
 }
 
-/// The 20 bytes of both scrambles.
+/// Returns the first 20 bytes of both scrambles joined, or if they are shorter, these with zeros after them.
 fn nonce_of(alloc: Global, scramble_1: &[u8], scramble_2: &[u8]) -> Result<Vec<u8>, AllocError>
     ensures value { IfOk result (λ nonce. nonce.items ≡ spec.resized 20 (scramble_1.now ++ scramble_2.now)) }
 {
@@ -84,7 +82,7 @@ fn nonce_of(alloc: Global, scramble_1: &[u8], scramble_2: &[u8]) -> Result<Vec<u
 }
 
 impl<'a> HandshakePacket<'a> {
-    /// A handshake of these, without capabilities of MariaDB's own.
+    /// Creates a handshake without MariaDB capabilities.
     pub fn new(
         protocol_version: u8,
         server_version: CowSlice<'a, u8>,
@@ -127,7 +125,7 @@ impl<'a> HandshakePacket<'a> {
         }
     }
 
-    /// Sets MariaDB's own capabilities.
+    /// Sets the extended capabilities of a MariaDB server.
     pub fn with_mariadb_ext_capabilities(self, flags: MariadbCapabilities) -> Self
         ensures value { result ≡ spec.with_mariadb flags self.entry }
     {
@@ -167,9 +165,9 @@ impl<'a> HandshakePacket<'a> {
         self.head.server_version.as_str(alloc)
     }
 
-    /// The server's version: the first three numbers with dots between them that the text begins with.
+    /// The server's version: the three numbers, separated by dots, that the text begins with.
     ///
-    /// The first two numbers have one or two digits; the third has its first one to three digits.
+    /// The first two numbers have one or two digits; of the third, at most three digits are read.
     pub fn server_version_parsed(&self) -> Option<(u16, u16, u16)>
         ensures some { IfSome result (HasVersion (spec.server_version self.now)) }
         ensures none { IfNone result ((v : ℕ × ℕ × ℕ) → HasVersion (spec.server_version self.now) v → ⊥) }
@@ -177,8 +175,8 @@ impl<'a> HandshakePacket<'a> {
         server_version(self.server_version_ref())
     }
 
-    /// MariaDB's version: three such numbers directly followed by `-MariaDB`, at the start of the text or after a `5.5.5-`
-    /// there.
+    /// MariaDB's version: three such numbers directly followed by `-MariaDB`, at the start of the text or after
+    /// `5.5.5-` at the start.
     pub fn maria_db_server_version_parsed(&self) -> Option<(u16, u16, u16)>
         ensures some { IfSome result (IsMariadbVersion (spec.server_version self.now)) }
         ensures none { IfNone result ((v : ℕ × ℕ × ℕ) → IsMariadbVersion (spec.server_version self.now) v → ⊥) }
@@ -186,7 +184,7 @@ impl<'a> HandshakePacket<'a> {
         mariadb_server_version(self.server_version_ref())
     }
 
-    /// The connection's number.
+    /// The connection id.
     pub fn connection_id(&self) -> u32
         ensures value { result ≡ spec.connection_id self.now }
     {
@@ -208,7 +206,7 @@ impl<'a> HandshakePacket<'a> {
         self.head.default_collation.0
     }
 
-    /// The session's state.
+    /// The status flags of the session.
     pub fn status_flags(&self) -> StatusFlags
         ensures value { result ≡ spec.status_flags self.now }
     {
@@ -255,7 +253,7 @@ impl<'a> HandshakePacket<'a> {
         self.head.capabilities()
     }
 
-    /// The second scramble, where one was sent.
+    /// The second scramble, if one was sent.
     pub fn scramble_2_ref(&self) -> Option<&[u8]>
         ensures value { option_map (λ s. s.now) result ≡ spec.scramble_2 self.now }
     {
@@ -265,7 +263,7 @@ impl<'a> HandshakePacket<'a> {
         }
     }
 
-    /// The plugin's name, where one was sent.
+    /// The plugin's name, if one was sent.
     pub fn auth_plugin_name_ref(&self) -> Option<&[u8]>
         ensures value { option_map (λ s. s.now) result ≡ spec.auth_plugin_name self.now }
     {
@@ -275,7 +273,7 @@ impl<'a> HandshakePacket<'a> {
         }
     }
 
-    /// The plugin's name as text, where one was sent, with U+FFFD for invalid UTF-8. Valid UTF-8 is borrowed.
+    /// The plugin's name as text, if one was sent, with U+FFFD for invalid UTF-8. Valid UTF-8 is borrowed.
     pub fn auth_plugin_name_str(&self, alloc: Global) -> Result<Option<CowStr<'_>>, AllocError>
         ensures text { IfOk result (λ text. option_map cow_str_bytes text ≡ option_map lossy_text (spec.auth_plugin_name self.now)) }
         ensures utf8 { OptionBorrowsUtf8 (spec.auth_plugin_name self.now) result }
@@ -296,7 +294,7 @@ impl<'a> HandshakePacket<'a> {
         }
     }
 
-    /// The scramble that a plugin is given: both scrambles, cut to 20 bytes or filled with zeros.
+    /// Returns the scramble for the plugin: both scrambles, cut to 20 bytes or filled up with zeros.
     pub fn nonce(&self, alloc: Global) -> Result<Vec<u8>, AllocError>
         ensures value { IfOk result (λ nonce. nonce.items ≡ spec.nonce self.now) }
     {
@@ -312,7 +310,7 @@ impl<'a> HandshakePacket<'a> {
         }
     }
 
-    /// The length of both scrambles that is written.
+    /// The length of both scrambles, as it is written.
     fn data_length(&self) -> u8
         ensures value { result ≡ spec.data_length self.now }
     {

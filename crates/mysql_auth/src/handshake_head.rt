@@ -11,8 +11,8 @@ use mysql_wire::{
 use std::alloc::{AllocError, Global};
 use std::cmp::max;
 
-/// The length of the second scramble, from the length of both in the handshake: without the first 8 bytes, and at least 13.
-/// Servers send `SCRAMBLE_LENGTH` bytes and a zero after them (`send_server_handshake_packet` in
+/// The length of the second scramble, from the length of both in the handshake: without the first 8 bytes, and
+/// at least 13. Servers send `SCRAMBLE_LENGTH` bytes and a zero (`send_server_handshake_packet` in
 /// `sql/auth/sql_authentication.cc`).
 #[inline]
 pub(crate) fn scramble_length(data_length: u8) -> usize
@@ -23,7 +23,7 @@ pub(crate) fn scramble_length(data_length: u8) -> usize
 
 /// The fields that every handshake has: the versions, and 31 bytes.
 ///
-/// The length of both scrambles, which is among these bytes, isn't kept: it follows from the second scramble.
+/// The length of both scrambles, one of these bytes, isn't kept: it follows from the second scramble.
 #[derive(Debug, PartialEq, Eq, Hash, Drop)]
 pub(crate) struct HandshakeHead<'a> {
     pub(crate) protocol_version: RawInt<u8>,

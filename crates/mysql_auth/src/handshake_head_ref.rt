@@ -16,7 +16,7 @@ use mysql_wire::{
 use std::borrow::CowSlice;
 use std::marker::Model;
 
-/// The first scramble, which borrows from the packet. In a clause it is its eight bytes.
+/// The first scramble, borrowed from the packet. In a clause it is its eight bytes.
 #[derive(Drop)]
 pub(crate) struct FirstScramble<'a> {
     pub(crate) bytes: &'a [u8; 8],
@@ -29,7 +29,7 @@ impl<'a> Model for FirstScramble<'a> {
 }
 
 impl<'a> FirstScramble<'a> {
-    /// The next eight bytes, which are there.
+    /// Takes the next eight bytes, which must remain in the buffer.
     #[inline]
     #[tactic(auto, using(mysql_wire::proofs::Arrays::arrays))]
     fn eat(buf: &mut ParseBuf<'a>) -> FirstScramble<'a>
@@ -43,8 +43,8 @@ impl<'a> FirstScramble<'a> {
     }
 }
 
-/// The fields that every handshake has: the versions, and 31 bytes, which borrow from the packet. In a clause it is a
-/// [`HandshakeHead`].
+/// The fields that every handshake has, borrowed from the packet: the versions, and 31 bytes. In a clause it is
+/// a [`HandshakeHead`].
 #[derive(Drop)]
 pub(crate) struct HandshakeHeadRef<'a> {
     pub(crate) protocol_version: RawInt<u8>,
@@ -78,7 +78,7 @@ impl<'a> Model for HandshakeHeadRef<'a> {
     } };
 }
 
-/// The bytes of a place.
+/// Returns the bytes of a position in the packet.
 #[inline(always)]
 pub(crate) fn bytes_of<'a>(place: &ParseBuf<'a>) -> &'a [u8]
     ensures value { result.now ≡ place.now }
@@ -98,7 +98,7 @@ pub(crate) fn place_given<'a>(place: &Option<ParseBuf<'a>>) -> Option<ParseBuf<'
     }
 }
 
-/// The bytes, which are shown as text.
+/// Returns the bytes in a form that is printed as text.
 #[inline]
 pub(crate) fn shown(bytes: &[u8]) -> RawBytes<'_, EofBytes>
     ensures value { result ≡ bytes.now }
@@ -158,7 +158,7 @@ impl<'a> HandshakeHeadRef<'a> {
         }
     }
 
-    /// The head with these versions, and the length of both scrambles.
+    /// Reads the 31 bytes, and returns the head with these versions, and the length of both scrambles.
     fn read_block(
         protocol_version: RawInt<u8>,
         server_version: &'a [u8],
@@ -194,7 +194,7 @@ impl<'a> HandshakeHeadRef<'a> {
         (head, data_length)
     }
 
-    /// The head, and the length of both scrambles.
+    /// Reads the head, and the length of both scrambles.
     pub(crate) fn read<'s>(
         buf: &mut ParseBuf<'a>,
     ) -> Result<(HandshakeHeadRef<'a>, u8), FaultOf<'s>>

@@ -24,7 +24,7 @@ use std::marker::Model;
 /// The initial handshake, whose texts and scrambles stay in the packet: a [`HandshakePacket`] for as long as the packet
 /// lives.
 ///
-/// It is read of the same bytes with the same faults, and in a clause it is that handshake.
+/// It is read from the same bytes with the same faults, and in a clause it is that handshake.
 ///
 /// ```
 /// let greeting: HandshakePacketRef<'_> = ParseBuf::new(alloc, payload).parse(())?;
@@ -61,7 +61,7 @@ impl<'a> HandshakePacketRef<'a> {
         bytes_of(&self.head.server_version)
     }
 
-    /// The connection's number.
+    /// The connection id.
     #[inline]
     pub fn connection_id(&self) -> u32
         ensures value { result ≡ spec.connection_id self.now }
@@ -96,7 +96,7 @@ impl<'a> HandshakePacketRef<'a> {
         self.head.default_collation.0
     }
 
-    /// The session's state.
+    /// The status flags of the session.
     #[inline]
     pub fn status_flags(&self) -> StatusFlags
         ensures value { result ≡ spec.status_flags self.now }
@@ -112,7 +112,7 @@ impl<'a> HandshakePacketRef<'a> {
         self.head.mariadb_capabilities.0
     }
 
-    /// The second scramble, where one was sent.
+    /// The second scramble, if one was sent.
     #[inline]
     pub fn scramble_2(&self) -> Option<&'a [u8]>
         ensures value { option_map (λ s. s.now) result ≡ spec.scramble_2 self.now }
@@ -123,7 +123,7 @@ impl<'a> HandshakePacketRef<'a> {
         }
     }
 
-    /// The plugin's name, where one was sent.
+    /// The plugin's name, if one was sent.
     #[inline]
     pub fn auth_plugin_name(&self) -> Option<&'a [u8]>
         ensures value { option_map (λ s. s.now) result ≡ spec.auth_plugin_name self.now }
@@ -200,7 +200,7 @@ impl Debug for HandshakePacketRef<'_> {
     }
 }
 
-/// As a [`HandshakePacket`].
+/// Read like a [`HandshakePacket`].
 impl<'de> MyDeserialize<'de> for HandshakePacketRef<'de> {
     const SIZE: Option<usize> = None;
 

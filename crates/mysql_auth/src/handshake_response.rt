@@ -35,19 +35,19 @@ use std::borrow::CowSlice;
 
 /// A client's response to a handshake (`Protocol::HandshakeResponse41`).
 ///
-/// The first 32 bytes are those of an [`SslRequest`]. They are followed by
+/// The first 32 bytes are those of an [`SslRequest`]. These fields follow:
 ///
-/// | Field | In the bytes |
+/// | Field | Encoding |
 /// |---|---|
 /// | `user` | up to a zero |
-/// | `scramble_buf` | under `CLIENT_PLUGIN_AUTH_LENENC_CLIENT_DATA` after a length-encoded length; else under `CLIENT_SECURE_CONNECTION` after a length of one byte; else up to a zero |
+/// | `scramble_buf` | under `CLIENT_PLUGIN_AUTH_LENENC_CLIENT_DATA` after a length-encoded length; otherwise, under `CLIENT_SECURE_CONNECTION`, after a length of one byte; otherwise up to a zero |
 /// | `db_name` | under `CLIENT_CONNECT_WITH_DB`: up to a zero |
 /// | `auth_plugin` | under `CLIENT_PLUGIN_AUTH`: its name, up to a zero or the end; it is written with the zero |
 /// | `connect_attributes` | under `CLIENT_CONNECT_ATTRS`: a length-encoded string, whose content is length-encoded keys and values, one after another |
-/// | `zstd_level` | under `CLIENT_ZSTD_COMPRESSION_ALGORITHM`: one byte, where a byte is left |
+/// | `zstd_level` | under `CLIENT_ZSTD_COMPRESSION_ALGORITHM`: one byte, if a byte is left |
 ///
-/// Missing bytes are `UnexpectedEof`; a length that begins with `fb` or `ff` is `InvalidData`. Reading takes memory for
-/// the attributes alone.
+/// Missing bytes are `UnexpectedEof`; a length that begins with `fb` or `ff` is `InvalidData`. Reading takes
+/// memory only for the attributes.
 #[derive(Clone, Debug, PartialEq, Eq)]
 pub struct HandshakeResponse<'a> {
     pub(crate) head: SslRequest,
@@ -74,13 +74,13 @@ impl Drop for HandshakeResponse<'_> {
     }
 }
 
-/// A scramble in the form that it is written in.
+/// A scramble in the form in which it is written.
 type WrittenScramble<'a> = Either<
     RawBytes<'a, LenEnc>,
     Either<RawBytes<'a, U8Bytes>, RawBytes<'a, NullBytes>>,
 >;
 
-/// Returns the flags, of which each of the three is set exactly if its option is given.
+/// Returns the flags, with each of the three set exactly if its option is given.
 #[tactic(auto)]
 fn with_options(
     mut capabilities: CapabilityFlags,
@@ -112,7 +112,7 @@ fn collation_for(server_version: (u16, u16, u16)) -> u8
 }
 
 impl<'a> HandshakeResponse<'a> {
-    /// A response of these, without capabilities of MariaDB's own.
+    /// Creates a response without MariaDB capabilities.
     ///
     /// The flags for a database, a plugin and attributes are set exactly if these are given; the other flags are those of
     /// `capabilities`. A missing scramble or user is empty. The collation is one that a server of that version supports: 45
@@ -175,7 +175,7 @@ impl<'a> HandshakeResponse<'a> {
         })
     }
 
-    /// Sets MariaDB's own capabilities.
+    /// Sets the extended capabilities of a MariaDB client.
     pub fn with_mariadb_ext_capabilities(mut self, flags: MariadbCapabilities) -> Self
         ensures value { result ≡ spec.with_mariadb flags self.entry }
     {
@@ -183,7 +183,7 @@ impl<'a> HandshakeResponse<'a> {
         self
     }
 
-    /// Sets the collation, in place of the default for the server's version.
+    /// Sets the collation, instead of the default for the server's version.
     pub fn with_collation(mut self, collation: u8) -> Self
         ensures value { result ≡ spec.with_collation collation self.entry }
     {
@@ -193,7 +193,7 @@ impl<'a> HandshakeResponse<'a> {
 
     /// Sets the zstd compression level, 1 to 22, or removes it.
     ///
-    /// Servers read it where `CLIENT_ZSTD_COMPRESSION_ALGORITHM` is among the capabilities
+    /// Servers read it if `CLIENT_ZSTD_COMPRESSION_ALGORITHM` is among the capabilities
     /// (`parse_client_handshake_packet` in MySQL's `sql/auth/sql_authentication.cc`).
     pub fn with_zstd_level(mut self, level: Option<u8>) -> Self
         ensures value { result ≡ spec.with_zstd_level level self.entry }
@@ -232,9 +232,10 @@ impl<'a> HandshakeResponse<'a> {
     /// Returns the request for TLS that precedes this response: its flags with `CLIENT_SSL`, its packet size, its collation and
     /// its MariaDB capabilities.
     ///
-    /// MySQL and MariaDB read the response by the flags of the request before it, instead of the response's own.
-    /// [`new`](HandshakeResponse::new) sets some flags by what is given, so after a request with other flags a server may read
-    /// one field of the response as another, for example the database's name as the plugin's.
+    /// MySQL and MariaDB read the response under the flags of the request before it, instead of the response's
+    /// own. [`new`](HandshakeResponse::new) sets some flags according to its arguments, so after a request with
+    /// other flags a server may read one field of the response as another, for example the database's name as
+    /// the plugin's.
     pub fn ssl_request(&self) -> SslRequest
         ensures capabilities { (ssl.capabilities result).0 ≡ ssl.with_client_ssl (spec.capabilities self.now).0 }
         ensures max_packet_size { ssl.max_packet_size result ≡ spec.max_packet_size self.now }
@@ -260,7 +261,7 @@ impl<'a> HandshakeResponse<'a> {
         self.user.as_bytes()
     }
 
-    /// The database's name, where one was sent.
+    /// The database's name, if one was sent.
     pub fn db_name(&self) -> Option<&[u8]>
         ensures value { option_map (λ s. s.now) result ≡ spec.db_name self.now }
     {
@@ -280,7 +281,7 @@ impl<'a> HandshakeResponse<'a> {
 
     /// The attributes in their order, if they were sent, as text with U+FFFD for invalid UTF-8.
     ///
-    /// If two keys become the same text, it keeps the first place and takes the later value.
+    /// If two keys become the same text, it keeps the first position and takes the later value.
     pub fn connect_attributes(
         &self,
         alloc: Global,
@@ -297,7 +298,7 @@ impl<'a> HandshakeResponse<'a> {
         }
     }
 
-    /// The level of compression by zstd, where one was sent.
+    /// The zstd compression level, if one was sent.
     #[inline]
     pub fn zstd_level(&self) -> Option<u8>
         ensures value { result ≡ spec.zstd_level self.now }
@@ -308,14 +309,15 @@ impl<'a> HandshakeResponse<'a> {
         }
     }
 
-    /// The fields before the attributes, without the compression level.
+    /// The fields before the attributes, without the compression level, for callers that write the attributes
+    /// themselves.
     pub fn before_attributes(&self) -> HandshakeResponseHead<'_, 'a>
         ensures { result.0.now ≡ self.now }
     {
         HandshakeResponseHead(self)
     }
 
-    /// Each number has its width.
+    /// Each number fits its width.
     pub(crate) fn widths(&self)
         ensures value { SslRequestFits self.now.head }
     {
@@ -331,7 +333,7 @@ impl<'a> HandshakeResponse<'a> {
         }
     }
 
-    /// The scramble in the form that the flags ask for.
+    /// Returns the scramble in the form that the flags ask for.
     #[tactic(auto, unfolding(crate::specs::HandshakeResponse::scramble))]
     fn written_scramble(&self) -> WrittenScramble<'_>
         ensures bytes { either_bytes lenenc_string_bytes (either_bytes u8_string_bytes null_bytes) result ≡ (spec.scramble self.now.head).bytes (spec.scramble_buf self.now) }
@@ -348,7 +350,7 @@ impl<'a> HandshakeResponse<'a> {
     }
 }
 
-/// The attributes, where they were sent.
+/// Reads the attributes, if they were sent.
 #[tactic(auto, unfolding(crate::specs::HandshakeResponse::sent_attributes))]
 fn read_attributes<'s, 'a>(
     head: &SslRequest,
@@ -365,7 +367,7 @@ fn read_attributes<'s, 'a>(
     Ok(Some(buf.parse(())?))
 }
 
-/// The level of compression, where it was sent.
+/// Reads the compression level, if it was sent.
 #[tactic(auto, using(mysql_wire::proofs::Packets::packets), unfolding(crate::specs::HandshakeResponse::sent_zstd_level))]
 pub(crate) fn read_zstd_level(head: &SslRequest, buf: &mut ParseBuf<'_>) -> Option<RawInt<u8>>
     ensures value { ((spec.sent_zstd_level head.now).form tt).reads buf.old ≡ Ok (result, buf.new) }

@@ -29,8 +29,8 @@ use std::marker::Model;
 
 /// A client's response to a handshake: a [`HandshakeResponse`] that borrows from the packet, and takes no memory.
 ///
-/// It is read from the same bytes with the same faults, except `Memory`. In a clause it is that response, with its attributes
-/// as they were sent.
+/// It is read from the same bytes with the same faults, except for `Memory`. In a clause it is that response,
+/// with its attributes as they were sent.
 ///
 /// ```
 /// let login: HandshakeResponseRef<'_> = ParseBuf::new(alloc, payload).parse(())?;
@@ -70,7 +70,7 @@ impl<'a> HandshakeResponseRef<'a> {
         self.head.capabilities()
     }
 
-    /// The largest packet that the client takes, in bytes.
+    /// The maximum length of a packet that the client accepts, in bytes.
     #[inline]
     pub fn max_packet_size(&self) -> u32
         ensures value { result ≡ spec.max_packet_size self.now }
@@ -157,7 +157,7 @@ impl<'a> HandshakeResponseRef<'a> {
         }
     }
 
-    /// The level once more.
+    /// Copies the compression level.
     fn level_again(&self) -> Option<RawInt<u8>>
         ensures value { result ≡ self.now.zstd_level }
     {
@@ -190,7 +190,8 @@ impl<'a> HandshakeResponseRef<'a> {
         }
     }
 
-    /// Converts to a [`HandshakeResponse`], which still borrows the texts. Only the attributes take memory, with each key once.
+    /// Converts to a [`HandshakeResponse`], which still borrows the texts and has each key once. Only the
+    /// attributes take memory.
     pub fn to_response(&self, alloc: Global) -> Result<HandshakeResponse<'a>, AllocError>
         ensures value { IfOk result (λ response. response ≡ spec.with_each_key_once self.now) }
         // Without attributes it doesn't allocate.
@@ -200,7 +201,7 @@ impl<'a> HandshakeResponseRef<'a> {
         Ok(self.with_last(attributes, self.level_again()))
     }
 
-    /// The response without its attributes and its level of compression, which are left.
+    /// Reads the response before its attributes and its compression level, which remain in the buffer.
     #[tactic(auto, using(mysql_wire::proofs::Packets::packets))]
     pub(crate) fn read_before_attributes<'s>(
         buf: &mut ParseBuf<'a>,
@@ -224,7 +225,7 @@ impl<'a> HandshakeResponseRef<'a> {
     }
 }
 
-/// A scramble in the form that the flags ask for.
+/// Reads a scramble in the form that the flags ask for.
 #[tactic(auto, unfolding(crate::specs::HandshakeResponse::scramble))]
 fn read_scramble<'s, 'a>(
     head: &SslRequest,
@@ -242,7 +243,7 @@ fn read_scramble<'s, 'a>(
     }
 }
 
-/// The database's name, where it was sent.
+/// Reads the database's name, if it was sent.
 #[tactic(auto, using(mysql_wire::proofs::Packets::packets), unfolding(crate::specs::HandshakeResponse::database))]
 fn read_database<'s, 'a>(
     head: &SslRequest,
@@ -259,7 +260,7 @@ fn read_database<'s, 'a>(
     Ok(Some(<NullBytes as BytesRepr>::deserialize((), buf)?))
 }
 
-/// The plugin, where it was named.
+/// Reads the plugin, if it was named.
 #[tactic(auto, unfolding(crate::specs::HandshakeResponse::plugin))]
 fn read_plugin<'a>(head: &SslRequest, buf: &mut ParseBuf<'a>) -> Option<AuthPluginRef<'a>>
     ensures value { ((spec.plugin head.now).form tt).reads buf.old ≡ Ok (result, buf.new) }
@@ -273,7 +274,7 @@ fn read_plugin<'a>(head: &SslRequest, buf: &mut ParseBuf<'a>) -> Option<AuthPlug
     Some(AuthPluginRef::to_zero_or_end(buf))
 }
 
-/// The attributes, where they were sent.
+/// Reads the attributes, if they were sent.
 #[tactic(auto, unfolding(crate::specs::HandshakeResponse::pairs_as_sent))]
 fn read_attributes<'s, 'a>(
     head: &SslRequest,

@@ -1,7 +1,7 @@
 //! Laws over the grammars and the defined bytes of this crate's packets.
 //!
-//! Each law but those on sizes is a function with nothing in it, whose contract holds for all values. The laws that begin
-//! with `this` speak of the value at hand.
+//! Each law except those on sizes is an empty function, whose contract holds for all values. The laws that
+//! begin with `this` are about a given value.
 #![tactic(auto, using(mysql_wire::proofs::Packets::packets, crate::proofs::WholePackets::whole_packets, crate::proofs::HandshakeFits::handshakes, crate::proofs::HandshakeResponseFits::responses, crate::proofs::ChangeUserFits::changes))]
 
 ghost use Rattle.std.specs.Prelude.{◌≡◌, ◌++◌, ℕ, List, [], Some, None, true};
@@ -58,14 +58,13 @@ pub use values::{
     this_handshake_round_trips, this_more_data_round_trips, this_ssl_request_round_trips,
 };
 
-/// A plugin is read back, where the plugin is that of its name and nothing follows. So is what is written of a plugin that was
-/// read.
+/// A plugin is read back if nothing follows, and if it is the plugin of its name, as every plugin that was read is.
 pub fn auth_plugin_round_trips()
     ensures spelled { (p : AuthPlugin) → plugin_named (plugin_name p) ≡ p → (auth_plugin.form tt).Spells p (auth_plugin.bytes p) [] }
     ensures read { (p : AuthPlugin) (bytes rest : List ℕ) → (auth_plugin.form tt).Spells p bytes rest → (auth_plugin.form tt).Spells p (auth_plugin.bytes p) [] }
 {}
 
-/// Further data is read back if nothing follows.
+/// Further authentication data is read back if nothing follows.
 pub fn auth_more_data_round_trips()
     ensures spelled { (p : AuthMoreData) → (auth_more_data.form tt).Spells p (auth_more_data.bytes p) [] }
 {}
@@ -85,12 +84,12 @@ pub fn old_auth_switch_request_round_trips()
     ensures spelled { (p : OldAuthSwitchRequest) (rest : List ℕ) → (old_auth_switch_request.form tt).Spells p (old_auth_switch_request.bytes p ++ rest) rest }
 {}
 
-/// A switch is read back if nothing follows and no zero is in the plugin's name.
+/// A switch is read back if nothing follows and the plugin's name has no zero.
 pub fn auth_switch_request_round_trips()
     ensures spelled { (p : AuthSwitchRequest) → HasNoZero (switch_name p) → (auth_switch_request.form tt).Spells p (auth_switch_request.bytes p) [] }
 {}
 
-/// A request for the next factor is read back if nothing follows and no zero is in the plugin's name.
+/// A request for the next factor is read back if nothing follows and the plugin's name has no zero.
 pub fn auth_next_factor_round_trips()
     ensures spelled { (p : AuthNextFactor) → HasNoZero (factor_name p) → (auth_next_factor.form tt).Spells p (auth_next_factor.bytes p) [] }
 {}
@@ -100,50 +99,51 @@ pub fn ssl_request_round_trips()
     ensures spelled { (p : SslRequest) (rest : List ℕ) → SslRequestFits p → (ssl_request.form tt).Spells p (ssl_request.bytes p ++ rest) rest }
 {}
 
-/// A handshake is read back.
+/// A handshake is read back under the condition `HandshakeFits`.
 pub fn handshake_round_trips()
     ensures spelled { (p : HandshakePacket) (rest : List ℕ) → HandshakeFits p rest → (handshake.form tt).Spells p (handshake.bytes p ++ rest) rest }
 {}
 
-/// A response to a handshake is read back.
+/// A response to a handshake is read back under the condition `HandshakeResponseFits`.
 pub fn handshake_response_round_trips()
     ensures spelled { (p : HandshakeResponse) (rest : List ℕ) → HandshakeResponseFits p rest → (handshake_response.form tt).Spells p (handshake_response.bytes p ++ rest) rest }
 {}
 
-/// A change of user is read back, under the flags that both sides know. So is what a session writes.
+/// A change of user is read back under the flags of both sides, and so is its [`ForSession`](crate::ForSession) form.
 pub fn change_user_round_trips()
     ensures spelled { (c : CapabilityFlags) (p : ComChangeUser) (rest : List ℕ) → ChangeUserFits c p rest → (change_user.form c).Spells p (change_user.bytes p ++ rest) rest }
     ensures session { (c : CapabilityFlags) (p : ComChangeUser) (rest : List ℕ) → SessionChangeUserFits c p rest → (change_user.form c).Spells p ((session_change_user c).bytes p ++ rest) rest }
 {}
 
-/// A change of user's more data is read back, under the flags that both sides know. So is what a session writes.
+/// The optional fields of a change of user are read back under the flags of both sides, and so is their
+/// [`ForSession`](crate::ForSession) form.
 pub fn more_data_round_trips()
     ensures spelled { (c : CapabilityFlags) (p : ComChangeUserMoreData) (rest : List ℕ) → MoreDataFits c p → (more_data.form c).Spells p (more_data.bytes p ++ rest) rest }
     ensures session { (c : CapabilityFlags) (p : ComChangeUserMoreData) (rest : List ℕ) → SessionMoreDataFits c p → (more_data.form c).Spells p ((session_more_data c).bytes p ++ rest) rest }
 {}
 
-/// No zero is in the version of a handshake that was read.
+/// The server's version in a handshake that was read has no zero.
 #[tactic(auto, using(crate::proofs::ReadPackets::read_packets))]
 pub fn read_handshake_has_no_zero()
     ensures version { (p : HandshakePacket) (bytes rest : List ℕ) → (handshake.form tt).Spells p bytes rest → HasNoZero (server_version p) }
 {}
 
-/// The parts of a response that was read fit, where its lengths do.
+/// The parts of a response that was read fit if its lengths do.
 #[tactic(auto, using(crate::proofs::ReadPackets::read_packets))]
 pub fn read_handshake_response_fits()
     ensures fits { (p : HandshakeResponse) (bytes rest more : List ℕ) → (handshake_response.form tt).Spells p bytes rest → ResponseIsShort p more → ResponsePartsFit p more }
 {}
 
-/// The parts of more data that was read fit for the session, where the length of its attributes does. With attributes they
-/// fit for each writer.
+/// The parts of optional fields that were read fit the [`ForSession`](crate::ForSession) form if the length of
+/// their attributes does. With attributes they fit both forms.
 #[tactic(auto, using(crate::proofs::ReadPackets::read_packets))]
 pub fn read_more_data_fits()
     ensures fits { (c : CapabilityFlags) (p : ComChangeUserMoreData) (bytes rest : List ℕ) → (more_data.form c).Spells p bytes rest → AreShortIn (connect_attributes p) → SessionMoreDataPartsFit c p }
     ensures attributes { (c : CapabilityFlags) (p : ComChangeUserMoreData) (bytes rest : List ℕ) → (more_data.form c).Spells p bytes rest → AreShortIn (connect_attributes p) → sends_attributes c ≡ true → MoreDataPartsFit c p }
 {}
 
-/// The parts of a change of user that was read fit for the session, where its lengths do. With attributes they fit for each
-/// writer. Without more data nothing may follow it.
+/// The parts of a change of user that was read fit the [`ForSession`](crate::ForSession) form if its lengths
+/// do. With attributes they fit both forms. Without optional fields nothing may follow it.
 pub fn read_change_user_fits()
     ensures fits { (c : CapabilityFlags) (p : ComChangeUser) (bytes rest more : List ℕ) → (change_user.form c).Spells p bytes rest → ChangeUserIsShort p more → SessionChangeUserPartsFit c p more }
     ensures attributes { (c : CapabilityFlags) (p : ComChangeUser) (bytes rest more : List ℕ) → (change_user.form c).Spells p bytes rest → ChangeUserIsShort p more → sends_attributes c ≡ true → ChangeUserPartsFit c p more }
@@ -155,7 +155,7 @@ pub fn one_version()
     ensures one_mariadb { (text : List ℕ) (v w : ℕ × ℕ × ℕ) → HasMariadbVersion text v → HasMariadbVersion text w → v ≡ w }
 {}
 
-/// Each packet states its size: a request for TLS takes 32 bytes, a switch to the oldest plugin one, and no other packet states one.
+/// A request for TLS takes 32 bytes, a switch to the oldest plugin one, and no other packet has a constant size.
 #[tactic(auto)]
 pub fn each_packet_has_its_size() -> bool
     ensures value { result ≡ true }
@@ -163,7 +163,7 @@ pub fn each_packet_has_its_size() -> bool
     login_packets_have_their_sizes() && authentication_packets_have_their_sizes()
 }
 
-/// The packets of a login and of a change of user.
+/// Checks the packets of a login and of a change of user.
 #[tactic(auto)]
 fn login_packets_have_their_sizes() -> bool
     ensures value { result ≡ true }
@@ -175,7 +175,7 @@ fn login_packets_have_their_sizes() -> bool
         && crate::ComChangeUserMoreData::<'static>::SIZE.is_none()
 }
 
-/// The other packets of an authentication.
+/// Checks the other packets of an authentication.
 #[tactic(auto)]
 fn authentication_packets_have_their_sizes() -> bool
     ensures value { result ≡ true }

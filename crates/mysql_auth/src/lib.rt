@@ -1,5 +1,5 @@
-//! The connection phase: the handshake, the response to it, the request for TLS, switches to another plugin, packets with keys
-//! and further data, and the change of a session's user.
+//! The connection phase: the handshake, the response to it, the request for TLS, switches to another plugin,
+//! packets with keys and further data, and the change of user.
 #![tactic(auto)]
 
 mod attribute;

@@ -11,9 +11,9 @@ use mysql_wire::{FaultOf, LenEnc, ParseBuf, RawBytes};
 use std::alloc::{AllocError, Global};
 use std::marker::Model;
 
-/// Attributes that were put into a map one after another.
+/// Attributes that were inserted into a map one after another.
 ///
-/// In contracts it is the list of the pairs.
+/// In a clause it is the list of the pairs.
 #[derive(Drop)]
 pub(crate) struct Merged<'a>(IndexMap<RawBytes<'a, LenEnc>, RawBytes<'a, LenEnc>>);
 
@@ -25,7 +25,7 @@ impl<'a> Model for Merged<'a> {
     ghost view = { λ a. a.0.entries };
 }
 
-/// Reads pairs to the end. A key that is repeated keeps its first place and takes the last value.
+/// Reads pairs to the end. A repeated key keeps its first position and takes the last value.
 #[tactic(auto, using(crate::proofs::PairsRead::pair_loops))]
 pub(crate) fn read_merged<'s, 'a>(mut inside: ParseBuf<'a>) -> Result<Merged<'a>, FaultOf<'s>>
     ensures value { Answers (is_any (length inside.entry)) result [] (spec.pairs.reads inside.entry) }

@@ -9,8 +9,8 @@ use crate::auth_plugin::AuthPlugin;
 use crate::auth_switch_request::AuthSwitchRequestHeader;
 use mysql_wire::{ConstU8, FaultOf, Fixed, MyDeserialize, ParseBuf, Parts, Sink, parts};
 
-/// A server's request to switch to the plugin of MySQL before 4.1 (`Protocol::OldAuthSwitchRequest`), for a client
-/// without `CLIENT_PLUGIN_AUTH`: the byte `fe` alone.
+/// A server's request to switch to the plugin of MySQL before 4.1 (`Protocol::OldAuthSwitchRequest`), for a
+/// client without `CLIENT_PLUGIN_AUTH`: the single byte `fe`.
 ///
 /// Another byte is `InvalidData`, an empty packet `UnexpectedEof`.
 ///
@@ -23,7 +23,7 @@ pub struct OldAuthSwitchRequest {
 }
 
 impl OldAuthSwitchRequest {
-    /// The request. It has no fields.
+    /// Creates the request, which has no fields.
     #[inline]
     pub fn new() -> Self
         ensures value { result ≡ spec.the_request }

@@ -12,7 +12,7 @@ use crate::auth_plugin::AuthPlugin;
 use mysql_wire::{BytesRepr, FaultOf, NullBytes, ParseBuf};
 use std::marker::Model;
 
-/// A plugin's name without a zero, which borrows from the packet. In a clause it is the plugin.
+/// A plugin's name without a zero, borrowed from the packet. In a clause it is the plugin.
 #[derive(Drop)]
 pub(crate) struct AuthPluginRef<'a> {
     name: &'a [u8],
@@ -27,7 +27,7 @@ impl<'a> Model for AuthPluginRef<'a> {
 }
 
 impl<'a> AuthPluginRef<'a> {
-    /// The plugin of a name that ends in a zero. Without a zero: `UnexpectedEof`.
+    /// Reads the plugin of a zero-terminated name. A name without a zero is `UnexpectedEof`.
     pub(crate) fn to_zero<'s>(buf: &mut ParseBuf<'a>) -> Result<AuthPluginRef<'a>, FaultOf<'s>>
         ensures value { Answers false result buf.new ((spec.plugin_null.form tt).reads buf.old) }
     {
@@ -37,7 +37,7 @@ impl<'a> AuthPluginRef<'a> {
         })
     }
 
-    /// Returns the plugin of a name that ends at the first zero, or at the end.
+    /// Reads the plugin of a name that ends at the first zero, or at the end.
     pub(crate) fn to_zero_or_end(buf: &mut ParseBuf<'a>) -> AuthPluginRef<'a>
         ensures value { (spec.plugin_null_or_eof.form tt).reads buf.old ≡ Ok (result, buf.new) }
     {
@@ -85,7 +85,7 @@ pub(crate) fn again_given<'a>(plugin: &Option<AuthPluginRef<'a>>) -> Option<Auth
     }
 }
 
-/// The bytes of the name, where a plugin is named.
+/// The bytes of the name, if a plugin is named.
 #[inline]
 pub(crate) fn name_given<'a>(plugin: &Option<AuthPluginRef<'a>>) -> Option<&'a [u8]>
     ensures value { option_map (λ s. plugin_of s.now) result ≡ plugin.now }
@@ -97,7 +97,7 @@ pub(crate) fn name_given<'a>(plugin: &Option<AuthPluginRef<'a>>) -> Option<&'a [
     }
 }
 
-/// The plugin, where one is named.
+/// The plugin, if one is named.
 #[inline]
 pub(crate) fn plugin_given<'a>(plugin: &Option<AuthPluginRef<'a>>) -> Option<AuthPlugin<'a>>
     ensures value { result ≡ plugin.now }

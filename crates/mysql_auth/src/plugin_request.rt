@@ -1,4 +1,4 @@
-//! A server's requests for a plugin: the switch to it, and the next factor by it.
+//! A server's requests for a plugin: to switch to it, or to use it for the next factor.
 #![tactic(auto, using(mysql_wire::proofs::Packets::packets), unfolding(crate::specs::PluginRequest::plugin_request))]
 
 ghost use Rattle.std.specs.Prelude.{[], ◌≡◌, IfOk, IsOk};
@@ -19,18 +19,18 @@ use std::borrow::CowSlice;
 use std::fmt;
 use std::fmt::Debug;
 
-/// The marker of a request's first byte: which packet it begins.
+/// The marker of a request's first byte, which names the packet.
 pub trait PluginRequestHeader: ConstFault {
-    /// The packet's name, as it is shown.
+    /// The packet's name in `Debug` output.
     const NAME: &'static str;
 }
 
-/// A server's request for a plugin: its first byte `HEADER`, the plugin's name, which ends in a zero, and the plugin's data to
-/// the end of the packet.
+/// A server's request for a plugin: its first byte `HEADER`, the plugin's name, zero-terminated, and the
+/// plugin's data to the end of the packet.
 ///
-/// It is written once for both of them: [`AuthSwitchRequest`](crate::AuthSwitchRequest) and
-/// [`AuthNextFactor`](crate::AuthNextFactor). A packet that begins with another byte is `InvalidData`; an empty one, or a name
-/// without its zero, is `UnexpectedEof`.
+/// [`AuthSwitchRequest`](crate::AuthSwitchRequest) and [`AuthNextFactor`](crate::AuthNextFactor) are types of
+/// this form. A packet that begins with another byte is `InvalidData`; an empty one, or a name without its
+/// zero, is `UnexpectedEof`.
 #[derive_where(Clone)]
 pub struct PluginRequest<'a, T, const HEADER: u8> {
     header: ConstU8<T, HEADER>,
@@ -50,7 +50,7 @@ impl<T, const HEADER: u8> Drop for PluginRequest<'_, T, HEADER> {
 }
 
 impl<'a, T, const HEADER: u8> PluginRequest<'a, T, HEADER> {
-    /// The request for the plugin of this name, with this data.
+    /// Creates a request for the plugin of this name, with this data.
     #[inline]
     pub fn new(auth_plugin: CowSlice<'a, u8>, plugin_data: CowSlice<'a, u8>) -> Self
         ensures value { result ≡ spec.request_of (cow_slice_items auth_plugin.entry) (cow_slice_items plugin_data.entry) }
@@ -62,7 +62,7 @@ impl<'a, T, const HEADER: u8> PluginRequest<'a, T, HEADER> {
         }
     }
 
-    /// The plugin that is asked for: to switch to, or of the next factor.
+    /// The requested plugin: the one to switch to, or that of the next factor.
     #[inline]
     pub fn auth_plugin(&self) -> AuthPlugin<'_>
         ensures value { result ≡ plugin_of (spec.plugin_name self.now) }
@@ -70,11 +70,11 @@ impl<'a, T, const HEADER: u8> PluginRequest<'a, T, HEADER> {
         AuthPlugin::from_bytes(self.auth_plugin.as_bytes())
     }
 
-    /// The plugin's data, mostly a new scramble, without one zero at its end.
+    /// The plugin's data, usually a new scramble, without one zero at its end.
     ///
-    /// `mysql_native_password` and `caching_sha2_password` want this: their scramble of 20 bytes has a zero after it. A
-    /// scramble without one, as that of `client_ed25519`, may end in a zero of its own, which is missing here:
-    /// [`plugin_data_raw`](PluginRequest::plugin_data_raw) has it.
+    /// Use it for `mysql_native_password` and `caching_sha2_password`, whose scramble of 20 bytes is followed
+    /// by a zero. A scramble without that zero, such as that of `client_ed25519`, may itself end in a zero,
+    /// which is removed here: use [`plugin_data_raw`](PluginRequest::plugin_data_raw).
     #[inline]
     pub fn plugin_data(&self) -> &[u8]
         ensures value { result.now ≡ without_last_zero (spec.plugin_data self.now) }
@@ -82,11 +82,11 @@ impl<'a, T, const HEADER: u8> PluginRequest<'a, T, HEADER> {
         without_last_zero(self.plugin_data.as_bytes())
     }
 
-    /// The plugin's data, whole: each byte after the zero of the plugin's name, to the end of the packet.
+    /// All of the plugin's data: the bytes after the zero of the plugin's name, to the end of the packet.
     ///
-    /// `client_ed25519` and `parsec` want this: their scramble is 32 random bytes with no zero after them. Of
-    /// `mysql_native_password` and `caching_sha2_password` it is the scramble of 20 bytes and a zero, which
-    /// [`plugin_data`](PluginRequest::plugin_data) takes off.
+    /// Use it for `client_ed25519` and `parsec`, whose scramble is 32 random bytes without a zero after them.
+    /// For `mysql_native_password` and `caching_sha2_password` it is the scramble of 20 bytes and a zero, which
+    /// [`plugin_data`](PluginRequest::plugin_data) removes.
     #[inline]
     pub fn plugin_data_raw(&self) -> &[u8]
         ensures value { result.now ≡ spec.plugin_data self.now }

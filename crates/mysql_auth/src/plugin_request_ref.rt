@@ -22,7 +22,7 @@ use std::marker::{Model, PhantomData};
 
 /// A server's request for a plugin, whose texts stay in the packet: a [`PluginRequest`] for as long as the packet lives.
 ///
-/// It is read of the same bytes with the same faults, and in a clause it is that request.
+/// It is read from the same bytes with the same faults, and in a clause it is that request.
 #[derive(Drop)]
 pub struct PluginRequestRef<'a, T, const HEADER: u8> {
     auth_plugin: &'a [u8],
@@ -37,7 +37,7 @@ impl<'a, T, const HEADER: u8> Model for PluginRequestRef<'a, T, HEADER> {
 }
 
 impl<'a, T, const HEADER: u8> PluginRequestRef<'a, T, HEADER> {
-    /// The name of the plugin that is asked for.
+    /// The name of the requested plugin.
     #[inline]
     pub fn auth_plugin_name(&self) -> &'a [u8]
         ensures value { result.now ≡ spec.plugin_name self.now }
@@ -45,7 +45,7 @@ impl<'a, T, const HEADER: u8> PluginRequestRef<'a, T, HEADER> {
         self.auth_plugin
     }
 
-    /// The plugin that is asked for: to switch to, or of the next factor.
+    /// The requested plugin: the one to switch to, or that of the next factor.
     #[inline]
     pub fn auth_plugin(&self) -> AuthPlugin<'a>
         ensures value { result ≡ plugin_of (spec.plugin_name self.now) }
@@ -53,7 +53,7 @@ impl<'a, T, const HEADER: u8> PluginRequestRef<'a, T, HEADER> {
         AuthPlugin::from_bytes(self.auth_plugin)
     }
 
-    /// The plugin's data, without one zero at its end, as [`PluginRequest::plugin_data`] says.
+    /// The plugin's data without one zero at its end, like [`PluginRequest::plugin_data`].
     #[inline]
     pub fn plugin_data(&self) -> &'a [u8]
         ensures value { result.now ≡ without_last_zero (spec.plugin_data self.now) }
@@ -61,7 +61,7 @@ impl<'a, T, const HEADER: u8> PluginRequestRef<'a, T, HEADER> {
         without_last_zero(self.plugin_data)
     }
 
-    /// The plugin's data, whole: each byte after the zero of the plugin's name, to the end of the packet.
+    /// All of the plugin's data: the bytes after the zero of the plugin's name, to the end of the packet.
     #[inline]
     pub fn plugin_data_raw(&self) -> &'a [u8]
         ensures value { result.now ≡ spec.plugin_data self.now }
@@ -95,7 +95,7 @@ impl<T, const HEADER: u8> Clone for PluginRequestRef<'_, T, HEADER> {
     }
 }
 
-/// As a [`PluginRequest`].
+/// Compared like a [`PluginRequest`].
 impl<T, const HEADER: u8> PartialEq for PluginRequestRef<'_, T, HEADER> {
     ghost eq = { spec.request_eq };
 
@@ -116,7 +116,7 @@ impl<T: PluginRequestHeader, const HEADER: u8> Debug for PluginRequestRef<'_, T,
     }
 }
 
-/// As a [`PluginRequest`].
+/// Read like a [`PluginRequest`].
 impl<'de, T: ConstFault, const HEADER: u8> MyDeserialize<'de> for PluginRequestRef<'de, T, HEADER> {
     const SIZE: Option<usize> = None;
 

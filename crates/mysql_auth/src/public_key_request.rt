@@ -10,7 +10,7 @@ use mysql_wire::{AnyWidth, ConstU8, FaultOf, MyDeserialize, ParseBuf, Parts, Sin
 /// The first byte of a request for a public key: `02`.
 pub type PublicKeyRequestHeader = ConstU8<InvalidPublicKeyRequest, 0x02>;
 
-/// A client's request for the server's public RSA key, of the plugin `caching_sha2_password`: the byte `02`.
+/// A client's request for the server's public RSA key, for the plugin `caching_sha2_password`: the byte `02`.
 ///
 /// Another byte is `InvalidData`, an empty packet `UnexpectedEof`.
 ///
@@ -24,7 +24,7 @@ pub struct PublicKeyRequest {
 }
 
 impl PublicKeyRequest {
-    /// The request. It has no fields.
+    /// Creates the request, which has no fields.
     #[inline]
     pub fn new() -> Self
         ensures value { result ≡ spec.the_request }

@@ -17,8 +17,8 @@ use std::borrow::{CowSlice, CowStr};
 /// The first byte of a public key response: `01`.
 pub type PublicKeyResponseHeader = ConstU8<InvalidPublicKeyResponse, 0x01>;
 
-/// A server's public RSA key, which a client asked for by a
-/// [`PublicKeyRequest`](crate::PublicKeyRequest): the byte `01`, and the key as PEM to the end of the packet.
+/// A server's public RSA key, which a client requested by a [`PublicKeyRequest`](crate::PublicKeyRequest): the
+/// byte `01`, and the key as PEM to the end of the packet.
 ///
 /// A packet that begins with another byte is `InvalidData`, an empty one `UnexpectedEof`.
 ///
@@ -33,7 +33,7 @@ pub struct PublicKeyResponse<'a> {
 }
 
 impl<'a> PublicKeyResponse<'a> {
-    /// The packet of this key.
+    /// Creates a packet of this key.
     #[inline]
     pub fn new(rsa_key: CowSlice<'a, u8>) -> Self
         ensures value { result ≡ spec.response_of (cow_slice_items rsa_key.entry) }

@@ -16,7 +16,7 @@ use std::marker::Model;
 
 /// A server's public RSA key, which stays in the packet: a [`PublicKeyResponse`] for as long as the packet lives.
 ///
-/// It is read of the same bytes with the same faults, and in a clause it is that packet.
+/// It is read from the same bytes with the same faults, and in a clause it is that packet.
 ///
 /// ```
 /// let response: PublicKeyResponse<'_> = ParseBuf::new(alloc, payload).parse(())?;
@@ -87,7 +87,7 @@ impl Debug for PublicKeyResponseRef<'_> {
     }
 }
 
-/// As a [`PublicKeyResponse`].
+/// Read like a [`PublicKeyResponse`].
 impl<'de> MyDeserialize<'de> for PublicKeyResponseRef<'de> {
     const SIZE: Option<usize> = None;
 

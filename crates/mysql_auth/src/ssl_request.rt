@@ -10,8 +10,8 @@ use mysql_wire::{
     ParseBuf, Parts, RawInt, Sink, Skip, parts,
 };
 
-/// A client's request to go on in TLS (`Protocol::SSLRequest`): the first 32 bytes of a
-/// handshake response, its numbers little-endian.
+/// A client's request to continue in TLS (`Protocol::SSLRequest`): the first 32 bytes of a handshake response,
+/// numbers little-endian.
 ///
 /// | Bytes | Field |
 /// |---|---|
@@ -19,7 +19,7 @@ use mysql_wire::{
 /// | 4 | `max_packet_size` |
 /// | 1 | `character_set` |
 /// | 19 | skipped, with any values; written as zeros |
-/// | 4 | what a MariaDB client can do besides |
+/// | 4 | the extended capabilities of a MariaDB client |
 ///
 /// Fewer than 32 bytes are `UnexpectedEof`.
 ///
@@ -41,7 +41,7 @@ pub struct SslRequest {
 }
 
 impl SslRequest {
-    /// A request of these, without capabilities of MariaDB's own.
+    /// Creates a request without MariaDB capabilities.
     pub fn new(capabilities: CapabilityFlags, max_packet_size: u32, character_set: u8) -> Self
         ensures value { result ≡ spec.request_of capabilities max_packet_size character_set (record { 0 = 0; 1 = record {} }) }
     {
@@ -54,7 +54,7 @@ impl SslRequest {
         }
     }
 
-    /// Sets MariaDB's own capabilities, which servers read from version 10.2 on.
+    /// Sets the extended capabilities of a MariaDB client, which servers read from version 10.2 on.
     pub fn with_mariadb_capabilities(mut self, flags: MariadbCapabilities) -> Self
         ensures value { result ≡ spec.with_mariadb flags self }
     {
@@ -62,14 +62,14 @@ impl SslRequest {
         self
     }
 
-    /// Gives the request these capabilities of MariaDB's own.
+    /// Sets the extended capabilities of a MariaDB client.
     pub(crate) fn set_mariadb_capabilities(&mut self, flags: MariadbCapabilities)
         ensures value { self.new ≡ spec.with_mariadb flags self.old }
     {
         self.mariadb_capabilities = Const::new(flags);
     }
 
-    /// Gives the request this character set.
+    /// Sets the character set.
     pub(crate) fn set_character_set(&mut self, character_set: u8)
         ensures value { self.new ≡ spec.with_character_set character_set self.old }
     {
@@ -84,7 +84,7 @@ impl SslRequest {
         self.capabilities.0
     }
 
-    /// The largest packet that the client takes, in bytes.
+    /// The maximum length of a packet that the client accepts, in bytes.
     #[inline]
     pub fn max_packet_size(&self) -> u32
         ensures value { result ≡ spec.max_packet_size self.now }
@@ -137,7 +137,7 @@ impl SslRequest {
         self.with_capabilities(CapabilityFlags::from_bits_retain(bits))
     }
 
-    /// Each number has its width.
+    /// Each number fits its width.
     pub(crate) fn widths(&self)
         ensures value { spec.SslRequestFits self.now }
     {

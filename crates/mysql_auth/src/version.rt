@@ -4,8 +4,8 @@ ghost use Rattle.std.specs.Prelude.{◌≡◌, ◌≤◌, ◌^◌, ◌<◌, ◌+
 ghost use Rattle.mysql_auth.specs.Version as spec;
 ghost use Rattle.mysql_auth.specs.Scan.{Scans};
 
-/// Parses a number of at most `most` digits at the front, and returns it with the rest of the text. `None` if there is no
-/// digit.
+/// Parses a number of at most `most` digits at the front, and returns it with the rest of the text, or `None`
+/// if there is no digit.
 #[tactic(auto, using(crate::proofs::Scanner::digit_counts))]
 fn number(text: &[u8], most: usize) -> Option<(u16, &[u8])>
     requires { most ≤ 3 }
@@ -51,7 +51,7 @@ fn mariadb_version(text: &[u8]) -> Option<((u16, u16, u16), &[u8])>
     Some((numbers, rest))
 }
 
-/// The version at the front of a server's version text.
+/// Parses the version at the front of a server's version text.
 pub(crate) fn server_version(text: &[u8]) -> Option<(u16, u16, u16)>
     ensures some { IfSome result (spec.HasVersion text.now) }
     ensures none { IfNone result ((v : ℕ × ℕ × ℕ) → spec.HasVersion text.now v → ⊥) }
@@ -62,7 +62,7 @@ pub(crate) fn server_version(text: &[u8]) -> Option<(u16, u16, u16)>
     }
 }
 
-/// The version of MariaDB at the front of a text.
+/// Parses the version of MariaDB at the front of a text.
 fn mariadb_version_at(text: &[u8]) -> Option<(u16, u16, u16)>
     ensures some { IfSome result (spec.HasMariadbVersion text.now) }
     ensures none { IfNone result ((v : ℕ × ℕ × ℕ) → spec.HasMariadbVersion text.now v → ⊥) }
@@ -73,7 +73,7 @@ fn mariadb_version_at(text: &[u8]) -> Option<(u16, u16, u16)>
     }
 }
 
-/// The version of MariaDB after `5.5.5-`.
+/// Parses the version of MariaDB after `5.5.5-`.
 fn mariadb_version_after(text: &[u8]) -> Option<(u16, u16, u16)>
     ensures some { IfSome result (spec.HasMariadbVersionAfter text.now) }
     ensures none { IfNone result ((v : ℕ × ℕ × ℕ) → spec.HasMariadbVersionAfter text.now v → ⊥) }

@@ -1,8 +1,8 @@
 //! A builder of bulk requests: its settings, and its requests.
 //!
 //! Declared column types are in `builder/columns.rt`, rows by value in `builder/owned.rt`, borrowed rows in
-//! `builder/borrowed.rt`, runs over rows and over parameters in `run.rt` and `params_run.rt`, and a whole run in
-//! `whole_run.rt`.
+//! `builder/borrowed.rt`, runs over rows and over parameters in `run.rt` and `params_run.rt`, and a whole run
+//! in `whole_run.rt`.
 
 ghost use Rattle.std.specs.Prelude.{◌≡◌, ◌≢◌, ◌+◌, ◌≤◌, ◌-◌, ◌↔◌, ◌++◌, ◌∷◌, [], length, map, IsTrue, MatchOption, IfSome, Some, None, true, false, sum_by, List, ℕ};
 ghost use Rattle.std.specs.Option.{option_copied};
@@ -31,17 +31,18 @@ mod owned;
 
 /// Collects rows for requests of a bulk execution, each within the packet limit.
 ///
-/// Rows are added until one does not fit; then a request is built of those that wait, and so on. The first request
-/// alone sends types, if `with_types_always` does not say otherwise.
+/// Rows are added until one does not fit; then a request is built of the waiting rows, and so on. Only the
+/// first request sends types, except with `with_types_always`.
 ///
-/// The types are those that `with_column_types` declares. If none are declared, they are those of each column's first value
-/// that is not `NULL`, and an integer is unsigned if any value of its column is; in two cases a server then stores other
-/// values, or stops in the middle:
+/// The types are those that `with_column_types` declares. If none are declared, they are those of each column's
+/// first value that is not `NULL`, and an integer is unsigned if any value of its column is. A server then
+/// stores other values, or stops in the middle, in two cases:
 ///
-/// * Values of a column are of different kinds: the server reads all of them under one type. -1 in a column with an unsigned 5
-///   is stored as 18446744073709551615, and 1 in a column with the double 1.5 as another number; there is no error.
-/// * A column is `NULL` in each row of the first request, which then declares `MYSQL_TYPE_NULL`: a later request, which sends
-///   no types, is rejected if the column has a value, after the rows of the first one are stored.
+/// * Values of a column are of different kinds: the server reads all of them under one type. -1 in a column with an
+///   unsigned 5 is stored as 18446744073709551615, and 1 in a column with the double 1.5 as another number; there is
+///   no error.
+/// * A column is `NULL` in each row of the first request, which then declares `MYSQL_TYPE_NULL`: a later request,
+///   which sends no types, is rejected if the column has a value, after the rows of the first one are stored.
 ///
 /// With declared types neither happens.
 ///
@@ -60,7 +61,7 @@ pub struct ComStmtBulkExecuteRequestBuilder<'a> {
     columns: Option<&'a [ParamType]>,
     arity: Option<usize>,
     types_due: bool,
-    /// The number of waiting rows, and their bytes in a request.
+    /// The number of waiting rows, and their length in a request in bytes.
     count: usize,
     size: u64,
     /// The values of the waiting rows, row after row.
@@ -124,7 +125,7 @@ impl<'a> Clone for ComStmtBulkExecuteRequestBuilder<'a> {
     }
 }
 
-/// Compares the settings and the values of the rows that wait.
+/// Compares the settings, and the values of the waiting rows.
 impl<'a> PartialEq for ComStmtBulkExecuteRequestBuilder<'a> {
     ghost use Rattle.mysql_bulk.specs.BuilderEq.{builder_eq, builder_per};
     ghost use Rattle.mysql_cuts.specs.contracts.rule.BulkRulePartialEq.TheImpl.Laws as of_rules;
@@ -146,7 +147,7 @@ impl<'a> PartialEq for ComStmtBulkExecuteRequestBuilder<'a> {
     }
 }
 
-/// The bytes of a given number of waiting rows with one more, if these may be one request.
+/// The length in bytes of a given number of waiting rows with one more, if these fit in one request.
 // (inlined: the length of a row of a known number of values is counted without a loop then)
 #[inline(always)]
 pub(crate) fn size_with<V: RowValue>(
@@ -166,7 +167,7 @@ pub(crate) fn size_with<V: RowValue>(
     size_within(rule, limit, row.len(), types, count, size, bytes)
 }
 
-/// The bytes of a given number of waiting rows with one more, as [`size_with`] has them.
+/// Computes [`size_with`] by a call: the length in bytes of a given number of waiting rows with one more.
 // (for the builder, where the number of values is mostly not known: they are counted by a call)
 #[inline(always)]
 fn size_by_call<V: RowValue>(
@@ -201,7 +202,7 @@ pub(crate) fn flags_of(types: bool, results: bool) -> StmtBulkExecuteFlags
 }
 
 impl<'a> ComStmtBulkExecuteRequestBuilder<'a> {
-    /// A builder without rows. A request has at most as many bytes as a packet may, less four. It takes no memory.
+    /// Creates a builder without rows. A request may be as long as a packet, minus four bytes. It takes no memory.
     pub fn new(alloc: Global, stmt_id: u32, max_allowed_packet: usize) -> Self
         requires { 4 ≤ max_allowed_packet }
         ensures { result ≡ record { stmt_id = stmt_id; limit = max_allowed_packet - 4; results = false; rule = record { types_always = false; max_rows = None }; names = None; columns = None; arity = None; types_due = true; waiting = [] } }
@@ -223,7 +224,7 @@ impl<'a> ComStmtBulkExecuteRequestBuilder<'a> {
         }
     }
 
-    /// Gives the names of the parameters, in the order of the statement, for `add_params`.
+    /// Sets the names of the parameters, in the order of the statement, for `add_params`.
     pub fn with_named_params(self, names: Option<&'a [Vec<u8>]>) -> Self
         ensures { result ≡ record self.entry { names = option_copied names.entry } }
     {
@@ -232,7 +233,7 @@ impl<'a> ComStmtBulkExecuteRequestBuilder<'a> {
         builder
     }
 
-    /// Asks the server for the results of each row.
+    /// Requests a result for each row from the server.
     pub fn with_results(self) -> Self
         ensures { result ≡ record self.entry { results = true } }
     {
@@ -241,7 +242,7 @@ impl<'a> ComStmtBulkExecuteRequestBuilder<'a> {
         builder
     }
 
-    /// Sends types in every request from now on, also where one was built before.
+    /// Sends types in every request from now on, even if a request was built before.
     pub fn with_types_always(self) -> Self
         requires { self.waiting ≡ [] }
         ensures { result ≡ record self.entry { types_due = true; rule = record self.entry.rule { types_always = true } } }
@@ -269,7 +270,7 @@ impl<'a> ComStmtBulkExecuteRequestBuilder<'a> {
         builder
     }
 
-    /// The rule that was set.
+    /// The current rule: when types are sent, and the maximum number of rows.
     pub fn rule(&self) -> BulkRule
         ensures { result ≡ self.now.rule }
     {
@@ -290,14 +291,14 @@ impl<'a> ComStmtBulkExecuteRequestBuilder<'a> {
         self.names == other.names && self.columns == other.columns
     }
 
-    /// Whether equal rows wait in both, where their rows have one length.
+    /// Whether the waiting rows of both are equal, given that their rows have the same length.
     fn same_rows_wait(&self, other: &Self) -> bool
         ensures { self.now.arity ≡ other.now.arity → result ≡ rows_eq self.now.waiting other.now.waiting }
     {
         self.count == other.count && self.values == other.values
     }
 
-    /// States the invariant of every builder, for the proof of a run. It has no effect.
+    /// Does nothing; its contract states the invariant of every builder, for the proof of a run.
     #[inline(always)]
     pub(crate) fn is_consistent(&self)
         ensures { IsConsistent self.now }
@@ -305,14 +306,14 @@ impl<'a> ComStmtBulkExecuteRequestBuilder<'a> {
         let _names = &self.names;
     }
 
-    /// The number of rows that wait.
+    /// The number of waiting rows.
     pub(crate) fn rows_waiting(&self) -> usize
         ensures { result ≡ length self.now.waiting }
     {
         self.count
     }
 
-    /// Whether a row of `arity` values may come after those that were accepted.
+    /// Whether a row of `arity` values may follow the rows that were accepted.
     fn takes_arity(&self, arity: usize) -> bool
         ensures { IsTrue result ↔ TakesArity self.now.arity arity }
     {
@@ -322,7 +323,7 @@ impl<'a> ComStmtBulkExecuteRequestBuilder<'a> {
         }
     }
 
-    /// The bytes of the waiting rows with one more, if these may be one request.
+    /// The length in bytes of the waiting rows with one more, if these fit in one request.
     #[inline(always)]
     fn size_after<V: RowValue>(&self, row: &[V]) -> Option<u64>
         ensures { MatchOption result (RowFits self.now (map V.content row.now) → ⊥)
@@ -338,10 +339,10 @@ impl<'a> ComStmtBulkExecuteRequestBuilder<'a> {
         )
     }
 
-    /// The request of the waiting rows, which wait no longer. It writes exactly the bytes of rows of their sizes, which are
-    /// within the limit, and it takes no memory.
+    /// Builds the request of the waiting rows, which then no longer wait. Its length is that of rows of their
+    /// sizes, which is within the limit, and it takes no memory.
     ///
-    /// `NoParams` where no row waits, and only there: the builder is unchanged then.
+    /// The error is `NoParams` exactly if no row waits; the builder is unchanged then.
     pub fn build(&mut self) -> Result<ComStmtBulkExecuteRequest, BulkExecuteRequestError>
         ensures { Builds self.old result self.new }
     {

@@ -19,7 +19,7 @@ pub enum BulkValue<'a> {
     Value(ValueRef<'a>),
     /// The default value of the column: BULK_INDICATOR_DEFAULT.
     Default,
-    /// The column is left as it is: BULK_INDICATOR_IGNORE.
+    /// The column is left unchanged: BULK_INDICATOR_IGNORE.
     Ignore,
 }
 
@@ -103,7 +103,7 @@ fn append_cell<O: Buffer>(param_type: ParamType, value: BulkValue<'_>, out: &mut
     }
 }
 
-/// Whether the row has one cell for each type, which fits it.
+/// Whether the row has one cell for each type, and each fits its type.
 pub(crate) fn spells_values(types: &[ParamType], row: &[BulkValue<'_>]) -> bool
     ensures { result ≡ spec.spells_cells types.now (map spec.cell_of row.now) }
 {

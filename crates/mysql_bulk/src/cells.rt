@@ -1,4 +1,4 @@
-//! Values as a request has them, each after its own indicator.
+//! Values in a request, each after its own indicator.
 
 ghost use Rattle.std.specs.Prelude.{◌≡◌, ◌+◌, ◌≤◌, ◌++◌, length, drop};
 ghost use Rattle.std.specs.List.{flat_map};

@@ -1,4 +1,4 @@
-//! The types that a caller declares for the columns.
+//! The column types that a caller declares.
 
 ghost use Rattle.std.specs.Prelude.{◌≡◌, ◌≤◌, ◌⊎◌, [], length, map, position, not, true, vec_capacity, if◌then◌else◌};
 ghost use Rattle.std.specs.Option.{option_copied};
@@ -51,7 +51,7 @@ pub fn is_declarable(kind: ParamType) -> bool
     is_declarable_type(column_type) && (bits == 0 || (bits == 128 && is_longlong(column_type)))
 }
 
-/// The first place of a type that may not be declared.
+/// The first position of a type that may not be declared.
 pub(crate) fn first_refused(types: &[ParamType]) -> Option<usize>
     ensures { result ≡ position (λ kind. not (spec.is_declarable kind)) types.now }
 {
@@ -74,7 +74,7 @@ pub fn can_encode(kind: ParamType, value: &ValueRef<'_>) -> bool
     }
 }
 
-/// Whether the row has one value for each type, which fits it.
+/// Whether the row has one value for each type, and each fits its type.
 pub(crate) fn spell_row<V: RowValue>(types: &[ParamType], row: &[V]) -> bool
     ensures { result ≡ spec.spell_row types.now (map V.content row.now) }
 {
@@ -89,8 +89,8 @@ pub(crate) fn spell_row<V: RowValue>(types: &[ParamType], row: &[V]) -> bool
     true
 }
 
-/// The types of the columns after another row, if they are to be sent: the declared ones, or otherwise those of its values and
-/// of the rows before it.
+/// The types of the columns after another row, if they are to be sent: the declared ones, otherwise those of
+/// its values and the rows before it.
 #[inline(always)]
 pub(crate) fn join_types<V: RowValue>(
     types: &mut Vec<ParamType>,
@@ -112,7 +112,7 @@ pub(crate) fn join_types<V: RowValue>(
     }
 }
 
-/// Writes down the declared types. There is capacity for them.
+/// Copies the declared types. There is capacity for them.
 fn declare(types: &mut Vec<ParamType>, declared: &[ParamType])
     requires empty { types.old.items ≡ [] }
     requires capacity { length declared.now ≤ vec_capacity types.old }

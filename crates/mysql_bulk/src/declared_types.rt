@@ -24,7 +24,7 @@ fn join_value<V: RowValue>(kind: &mut ParamType, value: &V)
     }
 }
 
-/// Writes down the types of the first row. There is capacity for them.
+/// Stores the types of the first row. There is capacity for them.
 #[inline(never)]
 #[tactic(auto, using(crate::proofs::DeclaredTypes::first_more))]
 fn first_types<V: RowValue>(types: &mut Vec<ParamType>, row: &[V])
@@ -48,8 +48,8 @@ fn further_types<V: RowValue>(types: &mut [ParamType], row: &[V])
     }
 }
 
-/// Joins the values of a row to the types of their columns so far, where types are due. There are none before the first
-/// row.
+/// Joins the values of a row to the types of their columns so far, if types are due. There are none before the
+/// first row.
 #[inline(always)]
 pub(crate) fn join_row<V: RowValue>(types: &mut Vec<ParamType>, types_due: bool, row: &[V])
     requires lengths { types_due ≡ true → (length types.old.items ≡ length row.now) ⊎ (types.old.items ≡ []) }

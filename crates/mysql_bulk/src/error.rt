@@ -6,13 +6,13 @@ use thiserror::Error;
 /// The error of a row or a request.
 #[derive(Clone, Debug, PartialEq, Drop, Error)]
 pub enum BulkExecuteRequestError {
-    /// The row has not as many values as the rows before it, or as types were declared.
+    /// The row does not have as many values as the rows before it, or as types were declared.
     #[error("Mixed statement arity")]
     MixedArity,
     /// A value of the row doesn't fit the declared type of its column. The row is returned.
     #[error("value does not fit the declared type of its column")]
     MixedTypes(Vec<Value>),
-    /// The row alone exceeds the limit of a request. The row is returned.
+    /// The row exceeds the limit of a request by itself. The row is returned.
     #[error("Got row bigger than max payload length")]
     RowTooLarge(Vec<Value>),
     /// Allocating the row failed. The row is returned.
@@ -30,24 +30,24 @@ pub enum BulkExecuteRequestError {
 #[derive(Clone, Copy, Debug, PartialEq, Eq, Error)]
 #[error("type cannot be declared for a column")]
 pub struct BulkColumnTypeError {
-    /// The place of the first such type.
+    /// The position of the first such type.
     pub place: usize,
 }
 
-/// The error of a borrowed row, which the caller still has.
+/// The error of a borrowed row, which the caller keeps.
 ///
 /// ```
 /// writer.add_row_values(&[BulkValue::Value(ValueRef::Int(id)), BulkValue::Default])
 /// ```
 #[derive(Clone, Copy, Debug, PartialEq, Eq, Error)]
 pub enum BulkRowError {
-    /// The row has not as many values as the rows before it, or as types were declared.
+    /// The row does not have as many values as the rows before it, or as types were declared.
     #[error("Mixed statement arity")]
     MixedArity,
     /// A value of the row doesn't fit the declared type of its column.
     #[error("value does not fit the declared type of its column")]
     MixedTypes,
-    /// The row alone is past the limit of a request.
+    /// The row exceeds the limit of a request by itself.
     #[error("Got row bigger than max payload length")]
     TooLarge,
     /// Allocating a copy of the row failed.
@@ -61,7 +61,7 @@ pub enum BulkExecuteRequestBuilderError {
     /// The error of the row or the request.
     #[error(transparent)]
     Request(BulkExecuteRequestError),
-    /// The parameters give no row.
+    /// The parameters can't be converted to a row.
     #[error(transparent)]
     Params(ParamsError),
 }

@@ -19,7 +19,7 @@ use std::borrow::CowSlice;
 use std::marker::Model;
 use thiserror::Error;
 
-/// The header of a bulk request is not 0xfa.
+/// The header of a bulk request is not `fa`.
 #[derive(Clone, Copy, Debug, Default, PartialEq, Eq, Hash, Error)]
 #[error("Invalid header for COM_STMT_BULK_EXECUTE")]
 pub struct InvalidComStmtBulkExecuteHeader;
@@ -31,7 +31,7 @@ impl ConstFault for InvalidComStmtBulkExecuteHeader {
 /// The first byte of a bulk request.
 pub type ComStmtBulkExecuteHeader = ConstU8<InvalidComStmtBulkExecuteHeader, COM_STMT_BULK_EXECUTE>;
 
-/// The statement's number, the flags, and the types where they are sent.
+/// The statement's number, the flags, and the types if they are sent.
 #[derive(Drop)]
 pub(crate) struct Head {
     pub(crate) stmt_id: u32,
@@ -54,7 +54,7 @@ pub(crate) fn sends_types(bulk_flags: StmtBulkExecuteFlags) -> bool
     bulk_flags.contains(StmtBulkExecuteFlags::SEND_TYPES_TO_SERVER)
 }
 
-/// The types of a list, which owns them or not.
+/// The types of a list, owned or borrowed.
 fn owned_types(
     alloc: Global,
     types: Seq<'_, ParamType, Unknown>,
@@ -79,7 +79,7 @@ fn read_types<'s>(count: usize, buf: &mut ParseBuf<'_>) -> Result<Vec<ParamType>
     Ok(owned_types(buf.alloc(), types)?)
 }
 
-/// Reads the types of `count` columns, where they are sent. For no column it takes no memory.
+/// Reads the types of `count` columns, if they are sent. Without columns it takes no memory.
 fn read_types_sent<'s>(
     sent: bool,
     count: usize,
@@ -118,7 +118,7 @@ pub(crate) fn read_head<'s>(count: usize, buf: &mut ParseBuf<'_>) -> Result<Head
 }
 
 impl Head {
-    /// The columns of the values: by the types of the request if it sends them, otherwise those that are passed.
+    /// The columns of the values: from the types of the request if it sends them, otherwise the given ones.
     pub(crate) fn value_columns(
         &self,
         alloc: Global,
@@ -134,7 +134,7 @@ impl Head {
     }
 }
 
-/// The columns that the types tell of.
+/// The columns of the types.
 fn columns_of(
     alloc: Global,
     types: &[ParamType],
@@ -148,7 +148,7 @@ fn columns_of(
     Ok(columns)
 }
 
-/// The column that a type tells of.
+/// The column of a type.
 fn column_of_type(t: ParamType) -> (ColumnType, ColumnFlags)
     ensures { result ≡ column_of_type t }
 {

@@ -46,20 +46,20 @@ pub use crate::param_value::param_value_has_no_constant_size;
 pub use crate::param_values::param_values_have_no_constant_size;
 pub use crate::request::request_has_no_constant_size;
 
-/// A request is as long as its size says.
+/// The encoded length of a request is its size.
 pub fn request_has_its_size()
     ensures { (request : BulkRequest) → length (request_bytes request) ≡ written_size request }
 {}
 
-/// The request that a builder builds of rows writes the bytes of a head, of their types where these are due, and of
+/// The request that a builder builds of rows has the length of its head, of the types if these are due, and of
 /// rows of their sizes.
 pub fn request_has_the_size_of_its_rows()
     ensures { (s : BuilderState) (rows : List (List Content)) (request : BulkRequest) → IsRequest s rows request →
         length (request_bytes request) ≡ request_size (packing s (first_length rows)) s.types_due rows }
 {}
 
-/// A cut into the fewest requests is one by the sizes of the rows too, so `cut_is_fewest` returns true for the ends that
-/// `build_all` returns, without an error, on a new builder.
+/// A cut into the fewest requests is also one by the sizes of the rows, so `cut_is_fewest` returns true for the
+/// ends that `build_all` returns, without an error, on a new builder.
 pub fn fewest_cut_is_named_by_its_ends()
     ensures { (rule : BulkRule) (limit : ℕ) (rows : List (List Content)) (cut : List (List (List Content))) →
         IsFewest (rows_packing rule limit (first_length rows)) rows cut → NamesFewest (weights rule limit (first_length rows)) (map row_size rows) (ends_after 0 cut) }
@@ -67,17 +67,19 @@ pub fn fewest_cut_is_named_by_its_ends()
 
 // ---- a caller's own loop over `next`
 
-/// A new builder is as every builder is.
+/// A new builder satisfies the invariant of every builder.
 pub fn new_builder_is_consistent()
     ensures { (s : BuilderState) → IsNew s → IsConsistent s }
 {}
 
-/// Over any input, a loop of `next` that ends by `None` gives what `build_all` gives of the rows of the input.
+/// A loop of `next` that ends with `None` has the same result as `build_all` for the rows of the input,
+/// whatever the input.
 pub fn loop_that_ends_sent_all_rows<I: Iterator<Item = Vec<Value>>>()
     ensures { (s u : RunState I) (requests : List BulkRequest) → WholeLoop (NextRequest I.next_gives) s requests None u → SentAllRows I.next_gives s requests u }
 {}
 
-/// One that ends by an `Err` gives what `build_all` gives of the rows of the input and any others after them.
+/// A loop of `next` that ends with an `Err` has the same result as `build_all` for the rows of the input and
+/// any others after them.
 pub fn loop_that_refuses_a_row<I: Iterator<Item = Vec<Value>>>()
     ensures { (s u : RunState I) (requests : List BulkRequest) (e : BulkExecuteRequestError) →
         WholeLoop (NextRequest I.next_gives) s requests (Some (refused.Request e)) u → RefusedRow I.next_gives s requests e u }
@@ -89,22 +91,23 @@ pub fn params_loop_that_ends_sent_all_rows<I: Iterator<Item = Params>>()
         WholeLoop (NextRequestOfParams I.next_gives names) s requests None u → SentAllRows (GivesRowOfParams I.next_gives names) s requests u }
 {}
 
-/// A run that ends with the error of a row.
+/// A loop over parameters that ends with the error of a row has the same result as `build_all` for the rows of
+/// the input and any others after them.
 pub fn params_loop_that_refuses_a_row<I: Iterator<Item = Params>>()
     ensures { (names : Names) (s u : RunState I) (requests : List BulkRequest) (e : BulkExecuteRequestError) →
         WholeLoop (NextRequestOfParams I.next_gives names) s requests (Some (refused.Request e)) u → RefusedRow (GivesRowOfParams I.next_gives names) s requests e u }
 {}
 
-/// A run that ends with `Params`: that is the error of the first parameters of the input that give no row, and no row before
-/// them has an error.
+/// A loop over parameters that ends with `Params` returns the error of the first parameters in the input that
+/// can't be converted to a row, and no row before them has an error.
 pub fn params_loop_that_refuses_params<I: Iterator<Item = Params>>()
     ensures { (names : Names) (s u : RunState I) (requests : List BulkRequest) (e : ParamsError) →
         WholeLoop (NextRequestOfParams I.next_gives names) s requests (Some (refused.Params e)) u → RefusedParams I.next_gives names s requests e u }
 {}
 
-/// A loop that adds rows to a builder, and builds a request if one doesn't fit, gives what `build_all` gives for these rows:
-/// with the request that is built after the last one, no row is lost, and from a new builder the requests are the fewest. This
-/// also holds if a row is an error.
+/// A loop that adds rows to a builder, and builds a request if one doesn't fit, has the same result as
+/// `build_all` for these rows: with the request that is built after the last one, no row is lost, and from a
+/// new builder the requests are the fewest. This also holds if a row is an error.
 pub fn collected_rows_are_sent_in_the_fewest_requests()
     ensures all { (s t u : BuilderState) (rows : List (List Content)) (requests : List BulkRequest) (last : BulkRequest) →
         IsConsistent s → Collects s rows requests t → BuildsRequest t last u → (ends : List ℕ) × RunGives s (s.waiting ++ rows) (requests ++ last ∷ []) ends None u }
@@ -114,8 +117,9 @@ pub fn collected_rows_are_sent_in_the_fewest_requests()
         IsConsistent s → Collects s rows requests t → AddsCopy t row (Err e) t → EndsRefused s rows requests row later e t }
 {}
 
-/// A row of values, DEFAULT and IGNORE, which its types spell, is read back under these types, whatever bytes follow: each
-/// value after its indicator, a number of a narrow type as a signed one; DEFAULT and IGNORE as their indicators.
+/// A row of values, DEFAULT and IGNORE that fit its types is read back under these types, whatever bytes
+/// follow: each value after its indicator, a number of a narrow type as a signed one; DEFAULT and IGNORE as
+/// their indicators.
 pub fn value_rows_round_trip()
     ensures cell { (t : ParamType) (cell : Cell) (bytes rest : List ℕ) → CellFits cell → cell_spelled t cell ≡ Some bytes
         → (param_value t.column_type (is_unsigned_type t)).Spells (cell_read t cell) (bytes ++ rest) rest }
@@ -125,10 +129,10 @@ pub fn value_rows_round_trip()
         → (values_of_columns (map column_of_type types)).reads (cells_bytes types row ++ rest) ≡ Ok (row_read types row, rest) }
 {}
 
-/// Rows of values, DEFAULT and IGNORE that are streamed through a writer under declared types of any width give what
-/// `build_all_values` gives for these rows: with the request that is finished after the last one, no row is lost, and if types
-/// were due the requests are the fewest, by their sizes under these types. This also holds if a row is an error, whatever
-/// follows it.
+/// Streaming rows of values, DEFAULT and IGNORE through a writer under declared types of any width has the same
+/// result as `build_all_values` for these rows: with the request that is finished after the last one, no row is
+/// lost, and if types were due the requests are the fewest, by their sizes under these types. This also holds
+/// if a row is an error, whatever follows it.
 pub fn streamed_values_are_sent_in_the_fewest_requests()
     ensures all { (w u v : WriterState) (before rows : List (List Cell)) (requests : List (List ℕ)) → HoldsCells w before → StreamsCells w rows requests u → u.count ≢ 0 → LetsGo u v
         → CellsRunGives w before rows (requests ++ u.bytes ∷ []) None v }
@@ -137,9 +141,9 @@ pub fn streamed_values_are_sent_in_the_fewest_requests()
     ensures new { (w : WriterState) → w.count ≡ 0 → w.size ≡ 0 → w.bytes ≡ [] → HoldsCells w [] }
 {}
 
-/// Rows that are streamed through a new writer, where each request is finished once a row doesn't fit with those that wait, are
-/// sent in the fewest requests: the last one is that of the rows that wait at the end. If a row is an error, it is the right
-/// one, and the requests before it are full from the front.
+/// Rows that are streamed through a new writer are sent in the fewest requests, if each request is finished
+/// once a row doesn't fit with the waiting rows; the last request is that of the rows that wait at the end. If
+/// a row is an error, it is the right one, and the requests before it are full from the front.
 pub fn streamed_rows_are_sent_in_the_fewest_requests()
     ensures all { (w u : WriterState) (rows : List (List Content)) (requests : List (List ℕ)) →
         Holds w [] → w.types_due ≡ true → Streams w rows requests u → rows ≢ [] → AreFewest w rows (requests ++ u.bytes ∷ []) }
@@ -149,7 +153,7 @@ pub fn streamed_rows_are_sent_in_the_fewest_requests()
 
 // ---- what is written is read back
 
-/// A value is read back, whatever bytes follow, where it agrees with its column's type.
+/// A value is read back, whatever bytes follow, if it agrees with its column's type.
 pub fn param_value_round_trips()
     ensures agrees { (column : BulkColumn) (value : Content) → Agrees column.0 (has column.1.0 UNSIGNED_FLAG) value → ParamValueAgrees column (with_indicator value) }
     ensures spelled { (column : BulkColumn) (value : ParamValue) (rest : List ℕ) → ParamValueAgrees column value →
@@ -175,21 +179,21 @@ pub fn request_of_one_row_round_trips()
         (bulk_request columns).reads (request_bytes request ++ rest) ≡ Ok (request, rest) }
 {}
 
-/// A request of rows is read back as these rows, where each has as many values as there are columns, at least one, which agree
-/// with the types that the request tells of, or else with those handed in.
+/// A request of rows is read back as these rows if each has as many values as there are columns, at least one,
+/// and they agree with the types that the request sends, or otherwise with the given ones.
 pub fn request_rows_round_trips()
     ensures spelled { (columns : List BulkColumn) (request : BulkRequest) (rows : List (List Content)) → RowsFit columns request rows → (bulk_rows columns).Spells rows (request_bytes request) [] }
     ensures read { (columns : List BulkColumn) (request : BulkRequest) (rows : List (List Content)) → RowsFit columns request rows → (bulk_rows columns).reads (request_bytes request) ≡ Ok (rows, []) }
 {}
 
-/// The request that a builder builds of its rows is read again as these rows.
+/// The request that a builder builds of its rows is read back as these rows.
 pub fn built_rows_round_trips()
     ensures { (s : BuilderState) (columns : List BulkColumn) (rows : List (List Content)) (request : BulkRequest) →
         IsRequest s rows request → PartAgrees s columns rows → (bulk_rows columns).reads (request_bytes request) ≡ Ok (rows, []) }
 {}
 
-/// If types were declared, a request is read as the rows that it was built from, whose integers are signed or unsigned as the
-/// types say: under the types that it sends, or under the same types if it sends none.
+/// If types were declared, a request is read back as the rows that it was built from, with integers signed or
+/// unsigned as the types say: under the types that it sends, or under the same types if it sends none.
 pub fn rows_under_declared_types_round_trips()
     ensures { (s : BuilderState) (types : List ParamType) (rows : List (List Content)) (request : BulkRequest) →
         IsRequest s rows request → IsDeclaredPart s types rows →

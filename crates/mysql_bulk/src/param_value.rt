@@ -62,21 +62,21 @@ impl StmtBulkExecuteParamValue {
         StmtBulkExecuteParamValue { indicator, value }
     }
 
-    /// How the value is given.
+    /// The indicator: how the value is given.
     pub fn indicator(&self) -> MariadbBulkIndicator
         ensures value { result ≡ self.now.indicator }
     {
         self.indicator
     }
 
-    /// The value: `NULL` where none follows the indicator.
+    /// The value; `NULL` if none follows the indicator.
     pub fn value(&self) -> &Value
         ensures value { content_of result.now ≡ self.now.content }
     {
         &self.value
     }
 
-    /// The value alone.
+    /// Returns the value without its indicator.
     pub(crate) fn into_value(self) -> Value
         ensures { content_of result ≡ self.content }
     {

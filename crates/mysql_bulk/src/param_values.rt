@@ -17,7 +17,7 @@ use std::alloc::{AllocError, Global};
 use std::convert::AsSlice;
 use std::marker::Model;
 
-/// Reads a value of each column. It takes memory once the first one is read. After an error the buffer is unchanged.
+/// Reads a value for each column. It takes memory once the first one is read. After an error the buffer is unchanged.
 pub(crate) fn read_values<'s>(
     columns: &[(ColumnType, ColumnFlags)],
     buf: &mut ParseBuf<'_>,
@@ -51,7 +51,7 @@ impl Model for StmtBulkExecuteParamValues {
 }
 
 impl StmtBulkExecuteParamValues {
-    /// The values, each with its indicator.
+    /// Creates the values of a row, each with its indicator.
     pub fn new(alloc: Global, values: Vec<Value>) -> Result<Self, AllocError>
         ensures value { IfOk result (λ row. row ≡ map with_indicator (contents_of values.items)) }
         ensures no_memory { values.items ≡ [] → IsOk result }
@@ -95,7 +95,7 @@ impl AsSlice<StmtBulkExecuteParamValue> for StmtBulkExecuteParamValues {
     }
 }
 
-/// A value of each column, whose types and flags are passed. It takes memory once the first value is read.
+/// A value for each column, whose types and flags are the context. It takes memory once the first value is read.
 impl<'de> MyDeserialize<'de> for StmtBulkExecuteParamValues {
     const SIZE: Option<usize> = None;
 

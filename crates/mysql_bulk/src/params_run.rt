@@ -1,4 +1,4 @@
-//! A run of a builder over parameters that an iterator gives.
+//! A run of a builder over an iterator of parameters.
 
 ghost use Rattle.std.specs.Prelude.{◌≡◌, ◌+◌, ◌≤◌, length, IfOk, IfSome, None, false, option_to_list};
 ghost use Rattle.std.specs.Iterator.{IsFinite, size};
@@ -12,7 +12,7 @@ use crate::request::ComStmtBulkExecuteRequest;
 use crate::run::answer_waiting;
 use mysql_values::{Params, Value};
 
-/// Adds the rows of parameters until one does not fit with those that wait, which is given back, or the input ends.
+/// Adds the rows of parameters until one does not fit with the waiting rows, which is returned, or the input ends.
 fn take_params<I: Iterator<Item = Params>>(
     builder: &mut ComStmtBulkExecuteRequestBuilder<'_>,
     params: &mut I,
@@ -51,9 +51,10 @@ fn fill_params<I: Iterator<Item = Params>>(
     take_params(builder, params)
 }
 
-/// The requests of a run over parameters, whose values are its rows: see `BulkRequests`.
+/// An iterator over the requests of a run over parameters, whose values are its rows: see `BulkRequests`.
 ///
-/// Parameters that give no row end the run with `Params`; the rows that were accepted before them stay in the builder.
+/// Parameters that can't be converted to a row end the run with `Params`; the rows that were accepted before
+/// them stay in the builder.
 #[derive(Drop)]
 pub struct BulkParamsRequests<'b, 'a, I, R = Vec<Value>> {
     builder: &'b mut ComStmtBulkExecuteRequestBuilder<'a>,
@@ -63,8 +64,8 @@ pub struct BulkParamsRequests<'b, 'a, I, R = Vec<Value>> {
 }
 
 impl<'a> ComStmtBulkExecuteRequestBuilder<'a> {
-    /// The requests of the rows that wait and of those that the parameters of the input give, by the builder's names.
-    /// The input must end.
+    /// Iterates over the requests of the waiting rows and those of the input's parameters, by the builder's
+    /// names. The input must end.
     pub fn build_params_iter<'b, I: Iterator<Item = Params>>(
         &'b mut self,
         params: I,
@@ -113,7 +114,8 @@ impl<'b, 'a, I: Iterator<Item = Params>> Iterator for BulkParamsRequests<'b, 'a,
 }
 
 impl<'b, 'a, I: Drop, R: Drop> BulkParamsRequests<'b, 'a, I, R> {
-    /// The row that did not fit into the last request, which the next one would have begun with. It takes no memory.
+    /// Returns the row that did not fit into the last request, with which the next one would have begun. It
+    /// takes no memory.
     pub fn into_carried(self) -> Option<R>
         ensures row { result ≡ carried_of self.entry }
         ensures builder { self.exit.0.now ≡ builder_of self.entry }

@@ -11,7 +11,7 @@ use crate::param_value::StmtBulkExecuteParamValue;
 use mysql_values::Value;
 use mysql_wire::{ColumnFlags, ColumnType, FaultOf, ParseBuf};
 
-/// Reads a value of each column. After an error the buffer is unchanged.
+/// Reads a value for each column. After an error the buffer is unchanged.
 fn read_row<'s>(
     columns: &[(ColumnType, ColumnFlags)],
     buf: &mut ParseBuf<'_>,
@@ -51,7 +51,7 @@ fn read_rows<'s>(
     Ok(rows)
 }
 
-/// Rows of no column: there are none, and bytes that are left are none of them.
+/// Reads rows without columns: there are none, and remaining bytes are an error.
 fn read_no_rows<'s>(rest: &ParseBuf<'_>) -> Result<Vec<Vec<Value>>, FaultOf<'s>>
     ensures value { Answers false (rows_read result) rest.now ((many (row_of_columns [])).reads rest.now) }
 {
@@ -61,13 +61,14 @@ fn read_no_rows<'s>(rest: &ParseBuf<'_>) -> Result<Vec<Vec<Value>>, FaultOf<'s>>
     Ok(Vec::new(rest.alloc()))
 }
 
-/// Reads a bulk request (`COM_STMT_BULK_EXECUTE`) as rows: its header, the statement's number and the flags, the types
-/// where they are sent, and then rows until the bytes end.
+/// Reads a bulk request (`COM_STMT_BULK_EXECUTE`) as rows: its header, the statement's number and the flags,
+/// the types if they are sent, and then rows until the bytes end.
 ///
-/// `columns` are the types and flags of the columns, for a request that does not send types; if it does, its types replace
-/// them. A value that is the column's default, or is to be ignored, is `NULL`. Missing bytes are `UnexpectedEof`, another
-/// header is `InvalidData`, and so are bytes after the head if there is no column. Without a column, and for an invalid head,
-/// it takes no memory. After an error the buffer is unchanged.
+/// `columns` are the types and flags of the columns, for a request that does not send types; if it does, its
+/// types replace them. A value that is the column's default, or is to be ignored, is returned as `NULL`.
+/// Missing bytes are `UnexpectedEof`; another header, and bytes after the head if there is no column, are
+/// `InvalidData`. Without columns, and for an invalid head, it takes no memory. After an error the buffer is
+/// unchanged.
 pub fn read_bulk_rows<'s>(
     columns: &[(ColumnType, ColumnFlags)],
     buf: &mut ParseBuf<'_>,

@@ -27,7 +27,7 @@ use mysql_wire::{
 use std::alloc::{AllocError, Global};
 use std::marker::Model;
 
-/// The request of a head and its values, with the indicators that were read of them, if any were.
+/// Creates the request of a head and its values, with the indicators that were read with them, if any.
 #[tactic(auto, using(crate::proofs::SentValues::contents_of_sent))]
 fn with_head(
     head: Head,
@@ -64,7 +64,7 @@ struct Parts {
     values: Vec<Value>,
 }
 
-/// Takes the values out of rows of one length, and the types of the columns where they are sent.
+/// Takes the values out of rows of one length, and the types of the columns if they are sent.
 fn gather(
     alloc: Global,
     sent: bool,
@@ -86,14 +86,14 @@ fn gather(
     Ok(Parts { types, values })
 }
 
-/// `COM_STMT_BULK_EXECUTE`: the values of some rows, with which a prepared statement is executed for each row.
+/// `COM_STMT_BULK_EXECUTE`: executes a prepared statement for each of some rows of values.
 ///
 /// ```
 /// let mut builder = builder.with_column_types(types)?;
 /// let mut sent = 0usize;
 /// for request in builder.build_iter(rows) {
-///     send(connection, &request?)?;
-///     sent = sent.saturating_add(1);
+/// send(connection, &request?)?;
+/// sent = sent.saturating_add(1);
 /// }
 /// ```
 #[derive(Debug)]
@@ -102,7 +102,7 @@ pub struct ComStmtBulkExecuteRequest {
     pub(crate) bulk_flags: StmtBulkExecuteFlags,
     pub(crate) types: Vec<ParamType>,
     pub(crate) values: Vec<Value>,
-    /// The indicators that were read with the values: none where the request was built.
+    /// The indicators that were read with the values: none if the request was built.
     pub(crate) indicators: Vec<MariadbBulkIndicator>,
     /// The encoded length of the request in bytes, or `usize::MAX` if it is greater.
     pub(crate) size: usize,
@@ -147,10 +147,10 @@ impl Model for ComStmtBulkExecuteRequest {
 }
 
 impl ComStmtBulkExecuteRequest {
-    /// The request of some rows, with the types of their columns where the flags say that types are sent.
+    /// Creates the request of some rows, with the types of their columns if the flags say that types are sent.
     ///
-    /// `NoParams` if there is no row, otherwise `MixedArity` if two rows differ in length, otherwise `Memory` if an allocation
-    /// fails. The rows are dropped in each case.
+    /// The error is `NoParams` if there is no row, otherwise `MixedArity` if two rows differ in length,
+    /// otherwise `Memory` if an allocation fails. The rows are dropped in each case.
     pub fn new(
         alloc: Global,
         stmt_id: u32,
@@ -182,21 +182,21 @@ impl ComStmtBulkExecuteRequest {
         }
     }
 
-    /// The number of the statement.
+    /// The statement's number.
     pub fn stmt_id(&self) -> u32
         ensures value { result ≡ self.now.stmt_id }
     {
         self.stmt_id
     }
 
-    /// Whether types are sent, and whether the results of each row are asked for.
+    /// Whether types are sent, and whether a result is requested for each row.
     pub fn bulk_flags(&self) -> StmtBulkExecuteFlags
         ensures value { result ≡ self.now.bulk_flags }
     {
         self.bulk_flags
     }
 
-    /// The types of the columns, or none where they are not sent.
+    /// The types of the columns; none if they are not sent.
     pub fn types(&self) -> &[ParamType]
         ensures value { result.now ≡ self.now.types }
     {
@@ -210,8 +210,10 @@ impl ComStmtBulkExecuteRequest {
         self.values.as_slice()
     }
 
-    /// The indicator of the value at this place: the one that was read, or otherwise the value's own, `BULK_INDICATOR_NULL` for
-    /// `NULL` and `BULK_INDICATOR_NONE` for others. `None` past the last value.
+    /// The indicator of the value at this position, or `None` past the last value.
+    ///
+    /// It is the one that was read, or otherwise `BULK_INDICATOR_NULL` for `NULL` and `BULK_INDICATOR_NONE` for
+    /// other values.
     pub fn indicator(&self, place: usize) -> Option<MariadbBulkIndicator>
         ensures value { result ≡ option_map (λ (v : ParamValue). v.indicator) (slice_get self.now.values place) }
     {
@@ -266,10 +268,10 @@ impl PartialEq for ComStmtBulkExecuteRequest {
     }
 }
 
-/// The header, the statement's number, the flags, the types where they are sent, and one row of values.
+/// The header, the statement's number, the flags, the types if they are sent, and one row of values.
 ///
-/// The types and flags of the columns are passed; if the request sends types, they replace these. Further rows stay unread: see
-/// `read_bulk_rows`. Without a column, and for an invalid head, it takes no memory.
+/// The context is the types and flags of the columns; if the request sends types, they replace these. Further
+/// rows remain unread: see `read_bulk_rows`. Without columns, and for an invalid head, it takes no memory.
 impl<'de> MyDeserialize<'de> for ComStmtBulkExecuteRequest {
     const SIZE: Option<usize> = None;
 

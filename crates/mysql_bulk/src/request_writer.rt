@@ -1,4 +1,4 @@
-//! A writer of bulk requests, which keeps the bytes of the rows that it is offered and not their values.
+//! A writer of bulk requests, which keeps the bytes of the rows that are added and not their values.
 
 ghost use Rattle.std.specs.Prelude.{◌≡◌, ◌≢◌, ◌+◌, ◌++◌, ◌<◌, ◌≤◌, ◌-◌, ◌^◌, ◌↔◌, IsTrue, IfOk, IfSome, IfNone, OnErr, MatchOption, [], length, map, None, Some, true, false, if◌then◌else◌, vec_len, vec_capacity, List};
 ghost use Rattle.std.specs.Bool.{OnTrue, OnFalse};
@@ -34,9 +34,10 @@ pub use run::BulkValuesRun;
 /// Writes the rows of a bulk execution directly into the bytes of its requests, each within the packet limit.
 ///
 /// Its results and its requests, byte for byte, are those of a
-/// [`ComStmtBulkExecuteRequestBuilder`](crate::ComStmtBulkExecuteRequestBuilder) with the same settings and declared types; but
-/// each byte of a value is copied once, and a row takes no memory besides the buffer. The types of the columns are declared
-/// when the writer is created, since they precede the values in a request.
+/// [`ComStmtBulkExecuteRequestBuilder`](crate::ComStmtBulkExecuteRequestBuilder) with the same settings and
+/// declared types; but each byte of a value is copied once, and a row takes no memory except for the buffer.
+/// The types of the columns are declared when the writer is created, since they precede the values in a
+/// request.
 ///
 /// Rows are added until one does not fit; then the request is taken from [`request`](Self::request), and after
 /// [`finish`](Self::finish) the row is added again.
@@ -56,7 +57,7 @@ pub struct BulkRequestWriter<'a> {
     rule: BulkRule,
     types: &'a [ParamType],
     types_due: bool,
-    /// The number of rows that were written, and their bytes in the request.
+    /// The number of rows that were written, and their length in the request in bytes.
     count: usize,
     size: u64,
     /// The request so far.
@@ -103,12 +104,12 @@ fn append_head(
 }
 
 impl<'a> BulkRequestWriter<'a> {
-    /// A writer into a buffer, which it empties first and whose memory it uses for each request. A request has at most as many
-    /// bytes as a packet may, less four. It takes no memory.
+    /// Creates a writer into a buffer, which it empties first and whose memory it uses for each request. A
+    /// request may be as long as a packet, minus four bytes. It takes no memory.
     ///
     /// The types of the columns are those that
-    /// [`with_column_types`](crate::ComStmtBulkExecuteRequestBuilder::with_column_types) accepts. If one can't be declared, the
-    /// error has its place.
+    /// [`with_column_types`](crate::ComStmtBulkExecuteRequestBuilder::with_column_types) accepts. If one can't
+    /// be declared, the error has its position.
     pub fn new(
         buffer: Vec<u8>,
         stmt_id: u32,
@@ -126,7 +127,7 @@ impl<'a> BulkRequestWriter<'a> {
         Ok(BulkRequestWriter::with_types(buffer, stmt_id, max_allowed_packet, types))
     }
 
-    /// Asks the server for the results of each row.
+    /// Requests a result for each row from the server.
     pub fn with_results(self) -> Self
         requires { self.count ≡ 0 }
         ensures { result ≡ record self.entry { results = true } }
@@ -136,7 +137,7 @@ impl<'a> BulkRequestWriter<'a> {
         writer
     }
 
-    /// Sends types in every request from now on, also where one was written before.
+    /// Sends types in every request from now on, even if a request was written before.
     pub fn with_types_always(self) -> Self
         requires { self.count ≡ 0 }
         ensures { result ≡ record self.entry { types_due = true; rule = record self.entry.rule { types_always = true } } }
@@ -171,7 +172,7 @@ impl<'a> BulkRequestWriter<'a> {
         self.count != 0
     }
 
-    /// The buffer, with the request so far.
+    /// Returns the buffer, with the request so far.
     pub fn into_buffer(self) -> Vec<u8>
         ensures items { result.items ≡ self.entry.bytes }
         ensures capacity { vec_capacity result ≡ self.entry.capacity }
@@ -179,18 +180,18 @@ impl<'a> BulkRequestWriter<'a> {
         self.bytes
     }
 
-    /// Offers a row, whose bytes are written where it fits.
+    /// Writes a row, if it fits.
     ///
-    /// If the row fits with those that wait, it is written after them, and the result is `Ok(true)`; if it doesn't, the result
-    /// is `Ok(false)`, and the request is complete. The errors are those of
-    /// [`add_row_refs`](crate::ComStmtBulkExecuteRequestBuilder::add_row_refs): `Memory` if the buffer couldn't grow, and not
-    /// if it has the capacity. If no row is written, the writer is unchanged. The bytes of the row are counted first, and the
-    /// buffer grows at most once.
+    /// If the row fits with the waiting rows, it is written after them, and the result is `Ok(true)`; if it
+    /// doesn't, the result is `Ok(false)`, and the request is complete. The errors are those of
+    /// [`add_row_refs`](crate::ComStmtBulkExecuteRequestBuilder::add_row_refs): `Memory` if the buffer couldn't
+    /// grow, but not if it has the capacity. If no row is written, the writer is unchanged. The length of the
+    /// row is computed first, and the buffer grows at most once.
     ///
     /// ```
     /// let taken = writer.add_row_refs(row)?;
     /// if taken {
-    ///     return Ok(());
+    /// return Ok(());
     /// }
     /// let Some(bytes) = writer.request() else {
     /// ```
@@ -230,7 +231,7 @@ impl<'a> BulkRequestWriter<'a> {
         }
     }
 
-    /// The bytes of the rows with one more, if these may be one request.
+    /// The length in bytes of the rows with one more, if these fit in one request.
     #[inline(always)]
     fn size_after(&self, row: &[ValueRef<'_>]) -> Option<u64>
         ensures { MatchOption result ((rows : List (List Content)) → Holds self.now rows → RowFits (as_builder self.now rows) (map ref_content row.now) → ⊥)
@@ -293,8 +294,8 @@ impl<'a> BulkRequestWriter<'a> {
         true
     }
 
-    /// The request of the rows that were written: its bytes, as the request of the builder is written. `None` where no row
-    /// was written.
+    /// The bytes of the request of the rows that were written, the same as those of the builder's request, or
+    /// `None` if no row was written.
     pub fn request(&self) -> Option<&[u8]>
         ensures built { (rows : List (List Content)) → Holds self.now rows → MatchOption result (rows ≡ []) (λ bytes. IsBuilt (as_builder self.now rows) bytes.now) }
         ensures bytes { MatchOption result (self.now.count ≡ 0) (λ bytes. bytes.now ≡ self.now.bytes) }
@@ -307,8 +308,9 @@ impl<'a> BulkRequestWriter<'a> {
         }
     }
 
-    /// The request of the rows that were written, with the memory of the buffer: its rows wait no longer, and the buffer is a new
-    /// one. `None` where no row was written, and nothing changes. It takes no memory.
+    /// Returns the request of the rows that were written, in the memory of the buffer: its rows no longer wait,
+    /// and the buffer is replaced by a new one. If no row was written, the result is `None`, and nothing
+    /// changes. It takes no memory.
     pub fn build(&mut self) -> Option<Vec<u8>>
         ensures bytes { MatchOption result (self.old.count ≡ 0) (λ bytes. (self.old.count ≢ 0) × (bytes.items ≡ self.old.bytes)) }
         ensures of_cells { (rows : List (List Cell)) → HoldsCells self.old rows → MatchOption result (rows ≡ []) (λ bytes. IsRequestOf self.old rows bytes.items) }
@@ -325,7 +327,7 @@ impl<'a> BulkRequestWriter<'a> {
         Some(request)
     }
 
-    /// Finishes the request: its rows wait no longer, and the next row that is written begins another one. Without rows,
+    /// Finishes the request: its rows no longer wait, and the next row begins another request. Without rows,
     /// nothing changes. The buffer keeps its memory.
     pub fn finish(&mut self)
         ensures finishes { FinishesAsBuilder self.old self.new }

@@ -8,8 +8,8 @@ use crate::row_value::RowValue;
 use mysql_values::{ParamType, Value};
 use std::alloc::{AllocError, Global};
 
-/// The length of a row in a request in bytes: of each value its indicator, and its own. `None` if it exceeds `u64::MAX`, and so
-/// the limit of every request. It takes no memory.
+/// The length of a row in a request in bytes: for each value one byte for its indicator, and its own length.
+/// The result is `None` if it exceeds `u64::MAX`, and so the limit of every request. It takes no memory.
 ///
 /// `cut_is_fewest` checks a cut by such lengths.
 pub fn bulk_row_size(row: &[Value]) -> Option<u64>
@@ -57,7 +57,7 @@ pub(crate) fn equally_long(rows: &[Vec<Value>], arity: usize) -> bool
     true
 }
 
-/// Finds capacity for a row, and for the types of its columns where they are due.
+/// Reserves capacity for a row, and for the types of its columns if they are due.
 pub(crate) fn find_capacity(
     values: &mut Vec<Value>,
     types: &mut Vec<ParamType>,
@@ -86,10 +86,10 @@ pub(crate) fn append_row(values: &mut Vec<Value>, row: Vec<Value>)
     values.append(&mut row).unwrap();
 }
 
-/// Appends copies of the values of a row, for which there is capacity, and returns its length in a request: no more than
-/// `most`.
+/// Appends copies of the values of a row, for which there is capacity, and returns its length in a request: no
+/// more than `most`.
 ///
-/// `None` if it is longer, or if an allocation fails: then nothing is appended.
+/// The result is `None` if it is longer, or if an allocation fails: then nothing is appended.
 #[inline(always)]
 pub(crate) fn append_copies<V: RowValue>(
     alloc: Global,

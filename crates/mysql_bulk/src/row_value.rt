@@ -1,4 +1,4 @@
-//! The values of a row that is offered, whoever keeps their bytes.
+//! The values of a row that is added, owned or borrowed.
 
 ghost use Rattle.std.specs.Prelude.{◌≡◌, ◌+◌, ◌≤◌, ◌++◌, ◌∷◌, [], length, take, drop, IfSome, IfNone, OnSome, vec_len, vec_capacity};
 ghost use Rattle.mysql_wire.specs.declared.codes.mariadb_bulk_indicator.MariadbBulkIndicator.TheVariants.{BULK_INDICATOR_NONE, BULK_INDICATOR_NULL};
@@ -13,7 +13,7 @@ use mysql_values::{ParamType, Value, ValueRef};
 use mysql_wire::{Buffer, Const, MariadbBulkIndicator, MySerialize, parts};
 use std::alloc::Global;
 
-/// The indicator of `NULL`, after which no value follows.
+/// The indicator of `NULL`, which no value follows.
 #[inline(always)]
 fn sent_null() -> Const<MariadbBulkIndicator, u8>
     ensures { result.0 ≡ BULK_INDICATOR_NULL }
@@ -21,7 +21,7 @@ fn sent_null() -> Const<MariadbBulkIndicator, u8>
     Const::new(MariadbBulkIndicator::BULK_INDICATOR_NULL)
 }
 
-/// The indicator of a value that follows it.
+/// The indicator before a value.
 #[inline(always)]
 fn sent_value() -> Const<MariadbBulkIndicator, u8>
     ensures { result.0 ≡ BULK_INDICATOR_NONE }
@@ -29,30 +29,30 @@ fn sent_value() -> Const<MariadbBulkIndicator, u8>
     Const::new(MariadbBulkIndicator::BULK_INDICATOR_NONE)
 }
 
-/// A value of a row that is offered.
+/// A value of a row that is added.
 pub(crate) trait RowValue {
     ghost use Rattle.mysql_values.specs.Value.{Content};
 
     /// The content of the value.
     ghost content: { Self → Content };
 
-    /// The value with its bytes where they are.
+    /// Returns the value with borrowed bytes.
     fn as_value_ref(&self) -> ValueRef<'_>
         ensures value { ref_content result ≡ content self.now };
 
-    /// The length of its binary form in bytes.
+    /// The length of the binary form in bytes.
     fn value_len(&self) -> u64
         ensures value { result ≡ bin_size (content self.now) };
 
-    /// The type that it is sent as.
+    /// The type that the value is sent as.
     fn param_type(&self) -> ParamType
         ensures value { result ≡ type_of (content self.now) };
 
-    /// Whether it is an unsigned number.
+    /// Whether the value is an unsigned number.
     fn is_unsigned_number(&self) -> bool
         ensures value { result ≡ is_uint (content self.now) };
 
-    /// Writes it after its indicator, if there is capacity.
+    /// Writes the value after its indicator, if there is capacity.
     fn append_cell<O: Buffer>(&self, out: &mut O)
         requires { length (O.held out.old) + length (cell (content self.now)) ≤ O.capacity out.old }
         ensures items { O.held out.new ≡ O.held out.old ++ cell (content self.now) }
@@ -62,8 +62,8 @@ pub(crate) trait RowValue {
 
     /// Appends a copy to values that have capacity for it, and returns its length in a request: no more than `most`.
     ///
-    /// `None` if it is longer, or if the allocation of its bytes fails: then nothing is appended. Bytes are copied in one
-    /// piece.
+    /// The result is `None` if it is longer, or if the allocation of its bytes fails: then nothing is appended.
+    /// Bytes are copied in one piece.
     fn push_copy(&self, alloc: Global, values: &mut Vec<Value>, most: u64) -> Option<u64>
         requires { vec_len values.old + 1 ≤ vec_capacity values.old }
         ensures size { IfSome result (λ n. (n ≡ 1 + bin_size (content self.now)) × (n ≤ most)) }

@@ -1,4 +1,4 @@
-//! A run of a builder over rows that an iterator gives.
+//! A run of a builder over an iterator of rows.
 
 ghost use Rattle.std.specs.Prelude.{◌≡◌, ◌+◌, ◌≤◌, [], length, IfOk, IfSome, MatchOption, None, false, option_to_list};
 ghost use Rattle.std.specs.Iterator.{IsFinite, size};
@@ -11,7 +11,7 @@ use crate::error::{BulkExecuteRequestBuilderError, BulkExecuteRequestError};
 use crate::request::ComStmtBulkExecuteRequest;
 use mysql_values::Value;
 
-/// Adds rows until one does not fit with those that wait, which is given back, or the input ends.
+/// Adds rows until one does not fit with the waiting rows, which is returned, or the input ends.
 fn take_rows<I: Iterator<Item = Vec<Value>>>(
     builder: &mut ComStmtBulkExecuteRequestBuilder<'_>,
     rows: &mut I,
@@ -50,7 +50,7 @@ pub(crate) fn fill<I: Iterator<Item = Vec<Value>>>(
     take_rows(builder, rows)
 }
 
-/// The result of a run once rows were taken: the request of those that wait, or `None` if none wait.
+/// The result of a run once rows were taken: the request of the waiting rows, or `None` if none wait.
 pub(crate) fn answer_waiting(
     builder: &mut ComStmtBulkExecuteRequestBuilder<'_>,
 ) -> Option<Result<ComStmtBulkExecuteRequest, BulkExecuteRequestBuilderError>>
@@ -62,10 +62,12 @@ pub(crate) fn answer_waiting(
     }
 }
 
-/// The requests of a run: each `next` takes rows until one does not fit, which it carries over to the next request.
+/// An iterator over the requests of a run: each `next` takes rows until one does not fit, which it carries over
+/// to the next request.
 ///
-/// When the input ends, the waiting rows are built, and then the result is `None`; the input isn't called again. After an `Err`
-/// the result is `None` too. The rows that were accepted since the last request stay in the builder.
+/// When the input ends, the waiting rows are built, and then the result is `None`; the input isn't called
+/// again. After an `Err` the result is `None` too. The rows that were accepted since the last request stay in
+/// the builder.
 #[derive(Drop)]
 pub struct BulkRequests<'b, 'a, I, R = Vec<Value>> {
     builder: &'b mut ComStmtBulkExecuteRequestBuilder<'a>,
@@ -75,7 +77,7 @@ pub struct BulkRequests<'b, 'a, I, R = Vec<Value>> {
 }
 
 impl<'a> ComStmtBulkExecuteRequestBuilder<'a> {
-    /// The requests of the rows that wait and of those that the input gives. The input must end.
+    /// Iterates over the requests of the waiting rows and the rows of the input. The input must end.
     pub fn build_iter<'b, I: Iterator<Item = Vec<Value>>>(
         &'b mut self,
         rows: I,
@@ -124,7 +126,8 @@ impl<'b, 'a, I: Iterator<Item = Vec<Value>>> Iterator for BulkRequests<'b, 'a, I
 }
 
 impl<'b, 'a, I: Drop, R: Drop> BulkRequests<'b, 'a, I, R> {
-    /// The row that did not fit into the last request, which the next one would have begun with. It takes no memory.
+    /// Returns the row that did not fit into the last request, with which the next one would have begun. It
+    /// takes no memory.
     pub fn into_carried(self) -> Option<R>
         ensures row { result ≡ carried_of self.entry }
         ensures builder { self.exit.0.now ≡ builder_of self.entry }

@@ -39,7 +39,7 @@ impl<'a> Model for SentValue<'a> {
 }
 
 impl<'a> SentValue<'a> {
-    /// How the value is given.
+    /// The indicator: how the value is given.
     pub(crate) fn indicator(&self) -> MariadbBulkIndicator
         ensures { result ≡ self.now.indicator }
     {
@@ -59,16 +59,16 @@ impl<'a> Parts for SentValue<'a> {
     }
 }
 
-/// Values, each after the indicator that was read, or after its own where none was read at its place.
+/// Values, each after the indicator that was read, or after its own if none was read at its position.
 #[derive(Drop)]
 pub(crate) struct SentValues<'a> {
     pub(crate) values: &'a [Value],
-    /// The indicators that were read: none where the request was built.
+    /// The indicators that were read: none if the request was built.
     pub(crate) indicators: &'a [MariadbBulkIndicator],
 }
 
 impl<'a> SentValues<'a> {
-    /// The value at a place.
+    /// Returns the value at a position.
     #[inline(always)]
     #[tactic(auto, using(crate::proofs::SentValues::sent_places))]
     pub(crate) fn at(&self, place: usize) -> SentValue<'a>
@@ -102,7 +102,7 @@ impl<'a> PartialEq for SentValue<'a> {
     }
 }
 
-/// Whether the values at each place have the same indicator and the same content.
+/// Whether the values at each position have the same indicator and the same content.
 pub(crate) fn same_values(a: &SentValues<'_>, b: &SentValues<'_>) -> bool
     ensures { result ≡ pointwise ⟦<StmtBulkExecuteParamValue as PartialEq>⟧.eq (sent_values a.now.indicators.now (contents_of a.now.values.now)) (sent_values b.now.indicators.now (contents_of b.now.values.now)) }
 {
@@ -142,14 +142,14 @@ impl<'a> MySerialize for SentValues<'a> {
     }
 }
 
-/// Values, and the indicators that they were read with.
+/// Values and the indicators that they were read with.
 #[derive(Drop)]
 pub(crate) struct ReadValues {
     pub(crate) values: Vec<Value>,
     pub(crate) indicators: Vec<MariadbBulkIndicator>,
 }
 
-/// Parts values from the indicators that they were read with.
+/// Separates values from the indicators that they were read with.
 pub(crate) fn part_from_indicators(
     alloc: Global,
     read: Vec<StmtBulkExecuteParamValue>,

@@ -1,4 +1,4 @@
-//! The bytes of requests.
+//! The lengths of requests in bytes.
 
 ghost use Rattle.std.specs.Prelude.{◌≡◌, ◌+◌, ◌*◌, ◌^◌, ◌≤◌, IfSome, MatchOption, if◌then◌else◌};
 ghost use Rattle.mysql_bulk.specs.Row.{MayBeRequest};
@@ -17,7 +17,7 @@ pub(crate) fn request_len(arity: usize, types: bool, rows: u64) -> Option<u64>
     head.checked_add(rows)
 }
 
-/// The bytes of a given number of rows with one more of a given number of bytes, if these may be one request.
+/// The length in bytes of a given number of rows with one more of a given length, if these fit in one request.
 pub(crate) fn size_within(
     rule: BulkRule,
     limit: u64,

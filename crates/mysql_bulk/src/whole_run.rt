@@ -49,7 +49,7 @@ fn send(
 }
 
 impl<'a> ComStmtBulkExecuteRequestBuilder<'a> {
-    /// Sends the rows that wait and these, request by request.
+    /// Sends the waiting rows and these, request by request.
     fn send_rows(
         &mut self,
         rows: Vec<Vec<Value>>,
@@ -82,21 +82,22 @@ impl<'a> ComStmtBulkExecuteRequestBuilder<'a> {
         }
     }
 
-    /// Runs over all the rows, as `build_iter` does to its end: the requests of the rows that wait and of these, where each
-    /// ends among the rows, and why the run ended before the rows did, if so.
+    /// Runs over all the rows, like `build_iter` to its end, and returns the requests of the waiting rows and
+    /// of these, the end of each among the rows, and why the run ended before the rows did, if so.
     ///
-    /// No row is lost: the rows that were sent, those that wait now, and those that were rejected or not reached are all the
-    /// rows that waited or were passed, in this order. Those that were sent and wait have one length, the builder's arity if it
-    /// had one. A request is built exactly when it is due: no row is left, or the next one has the same length and doesn't fit
-    /// with those that wait, by the packet limit or by the maximum number of rows. Each request fits. The arity, and whether
-    /// types are due, are those after the rows that were sent and wait.
+    /// No row is lost: the rows that were sent, those that wait now, and those that were rejected or not
+    /// reached are all the rows that waited or were passed, in this order. The rows that were sent or wait have
+    /// one length, the builder's arity if it had one. A request is built exactly when it is due: no row is
+    /// left, or the next one has the same length and doesn't fit with the waiting rows, by the packet limit or
+    /// by the maximum number of rows. Each request fits. The arity, and whether types are due, are those after
+    /// the rows that were sent or wait.
     ///
-    /// If an allocation fails it ends with `MemoryRow`, which returns a row that fits, or with `Memory`, if a request is due,
-    /// whose rows wait; what was returned before remains valid.
+    /// If an allocation fails it ends with `MemoryRow`, which returns a row that fits, or with `Memory`, if a
+    /// request is due, whose rows wait; what was returned before remains valid.
     ///
-    /// On a new builder it returns an error exactly if two rows differ in length (`MixedArity`) or no cut of the rows into
-    /// requests fits the limit (`RowTooLarge`, with the first row that no fitting cut contains), and otherwise no cut that fits
-    /// has fewer requests.
+    /// On a new builder it returns an error exactly if two rows differ in length (`MixedArity`) or no cut of
+    /// the rows into requests fits the limit (`RowTooLarge`, with the first row that no fitting cut contains),
+    /// and otherwise no cut that fits has fewer requests.
     ///
     /// ```
     /// let mut builder = ComStmtBulkExecuteRequestBuilder::new(alloc, 1, 31);

@@ -6,9 +6,9 @@ use Rattle.mysql_wire.specs.ServerCommand.{server_command_code, server_command_o
 use Rattle.mysql_wire.specs.Writing.{le_bytes}
 use Rattle.mysql_wire.specs.declared.codes.server_command.ServerCommand.{ServerCommand}
 use Rattle.mysql_wire.specs.declared.codes.server_command.ServerCommand.TheVariants as name
-use Rattle.mysql_prepared.specs.Close.{close}
-use Rattle.mysql_prepared.specs.ExecuteHead.{execute_head}
-use Rattle.mysql_prepared.specs.LongData.{long_data}
+use Rattle.mysql_stmt.specs.Close.{close}
+use Rattle.mysql_stmt.specs.ExecuteHead.{execute_head}
+use Rattle.mysql_stmt.specs.LongData.{long_data}
 use Rattle.mysql_repl.specs.BinlogDump.{binlog_dump}
 use Rattle.mysql_repl.specs.RegisterSlave.{register_slave, register_slave_head}
 use Rattle.mysql_repl.specs.TableDump.{table_dump}

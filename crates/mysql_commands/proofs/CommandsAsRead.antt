@@ -18,7 +18,7 @@ use Rattle.mysql_commands.specs.After.{after_form, byte_left, code_bytes}
 use Rattle.mysql_commands.specs.WithRawBytes.{as_sent_form}
 use Rattle.mysql_commands.specs.Command.{command, command_at, command_named, command_bytes}
 use Rattle.mysql_commands.specs.Query.{query, sends_attributes}
-use Rattle.mysql_prepared.specs.Attributes.{Attribute}
+use Rattle.mysql_stmt.specs.Attributes.{Attribute}
 use Rattle.mysql_commands.specs.QueryAttributes.{query_attributes}
 use Rattle.mysql_commands.specs.declared.with_raw_bytes.WithRawBytes.{WithRawBytes}
 use Rattle.mysql_commands.specs.declared.command.Command.{Command}

@@ -4,9 +4,9 @@ use Rattle.mysql_wire.specs.CountedBytes.{u8_string_bytes}
 use Rattle.mysql_wire.specs.Form.{bytes}
 use Rattle.mysql_wire.specs.Null.{null_bytes}
 use Rattle.mysql_wire.specs.Writing.{le_bytes}
-use Rattle.mysql_prepared.specs.Close.{close}
-use Rattle.mysql_prepared.specs.ExecuteHead.{execute_head}
-use Rattle.mysql_prepared.specs.LongData.{long_data}
+use Rattle.mysql_stmt.specs.Close.{close}
+use Rattle.mysql_stmt.specs.ExecuteHead.{execute_head}
+use Rattle.mysql_stmt.specs.LongData.{long_data}
 use Rattle.mysql_repl.specs.BinlogDump.{binlog_dump}
 use Rattle.mysql_repl.specs.RegisterSlave.{register_slave, register_slave_head, register_slave_end}
 use Rattle.mysql_repl.specs.TableDump.{table_dump}

@@ -15,21 +15,21 @@ use Rattle.mysql_wire.specs.Spelling.{IsSpelling, byte-again, raw-again, const_b
 use Rattle.mysql_wire.specs.Writing.{le_bytes}
 use Rattle.mysql_wire.specs.declared.codes.server_command.ServerCommand.TheVariants as name
 use Rattle.mysql_wire.specs.declared.lenenc.LenEnc.{LenEnc}
-use Rattle.mysql_prepared.proofs.ExecutionAgain.{attributes-again as values-again, types-again}
-use Rattle.mysql_prepared.proofs.PackedBits.{marks-nulls}
-use Rattle.mysql_prepared.specs.BindFront.{BindFront, bind_front, nothing_bound, some_bind_front}
-use Rattle.mysql_prepared.specs.Bitmap.{cell, bytes_for}
-use Rattle.mysql_prepared.specs.ComQuery.{count_bytes, set_bytes, some_bytes, query_bytes}
-use Rattle.mysql_prepared.specs.ComQuery as sent
-use Rattle.mysql_prepared.specs.ExecuteParam.{value_of}
-use Rattle.mysql_prepared.specs.ExecuteParams.{where_some}
-use Rattle.mysql_prepared.specs.ExecuteRead.{TypedParam}
-use Rattle.mysql_prepared.specs.NullMarks.{bitmap_of, null_bit}
-use Rattle.mysql_prepared.specs.ReadAgain.{SentFits, attribute_read, type_read}
-use Rattle.mysql_prepared.specs.SentParam.{attribute_type, list_of, sent_attributes, type_bytes, value_bytes}
-use Rattle.mysql_prepared.specs.SentTypes.{NamedType, types}
-use Rattle.mysql_prepared.specs.declared.com_query.ComQuery.{ComQuery}
-use Rattle.mysql_prepared.specs.declared.execute_param.QueryAttribute.{QueryAttribute}
+use Rattle.mysql_stmt.proofs.ExecutionAgain.{attributes-again as values-again, types-again}
+use Rattle.mysql_stmt.proofs.PackedBits.{marks-nulls}
+use Rattle.mysql_stmt.specs.BindFront.{BindFront, bind_front, nothing_bound, some_bind_front}
+use Rattle.mysql_stmt.specs.Bitmap.{cell, bytes_for}
+use Rattle.mysql_stmt.specs.ComQuery.{count_bytes, set_bytes, some_bytes, query_bytes}
+use Rattle.mysql_stmt.specs.ComQuery as sent
+use Rattle.mysql_stmt.specs.ExecuteParam.{value_of}
+use Rattle.mysql_stmt.specs.ExecuteParams.{where_some}
+use Rattle.mysql_stmt.specs.ExecuteRead.{TypedParam}
+use Rattle.mysql_stmt.specs.NullMarks.{bitmap_of, null_bit}
+use Rattle.mysql_stmt.specs.ReadAgain.{SentFits, attribute_read, type_read}
+use Rattle.mysql_stmt.specs.SentParam.{attribute_type, list_of, sent_attributes, type_bytes, value_bytes}
+use Rattle.mysql_stmt.specs.SentTypes.{NamedType, types}
+use Rattle.mysql_stmt.specs.declared.com_query.ComQuery.{ComQuery}
+use Rattle.mysql_stmt.specs.declared.execute_param.QueryAttribute.{QueryAttribute}
 use Rattle.mysql_commands.specs.Command.{command, command_bytes, CommandFits}
 use Rattle.mysql_commands.specs.Query.{query, query_of, sends_attributes}
 use Rattle.mysql_commands.specs.QueryAttributes.{lenenc_int, query_attributes}

@@ -9,8 +9,8 @@ use Rattle.mysql_wire.specs.ServerCommand.{server_command_of}
 use Rattle.mysql_wire.specs.declared.codes.server_command.ServerCommand.{ServerCommand}
 use Rattle.mysql_wire.specs.declared.codes.server_command.ServerCommand.TheVariants as name
 use Rattle.mysql_auth.specs.ComChangeUser.{change_user_as_sent}
-use Rattle.mysql_prepared.specs.Close.{close}
-use Rattle.mysql_prepared.specs.LongData.{long_data}
+use Rattle.mysql_stmt.specs.Close.{close}
+use Rattle.mysql_stmt.specs.LongData.{long_data}
 use Rattle.mysql_repl.specs.BinlogDump.{binlog_dump}
 use Rattle.mysql_repl.specs.BinlogDumpGtid.{gtid_dump}
 use Rattle.mysql_repl.specs.RegisterSlave.{register_slave}

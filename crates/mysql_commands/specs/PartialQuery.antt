@@ -5,8 +5,8 @@ use Rattle.mysql_wire.specs.Constant.{const_byte}
 use Rattle.mysql_wire.specs.Form.{Form, ◌>>=◌, give}
 use Rattle.mysql_wire.specs.Reading.{Faults}
 use Rattle.mysql_wire.specs.declared.fault.FaultOf.{FaultOf}
-use Rattle.mysql_prepared.specs.Attributes.{AttributesLeft}
-use Rattle.mysql_prepared.specs.BindFront.{AttributesThere, bind_front}
+use Rattle.mysql_stmt.specs.Attributes.{AttributesLeft}
+use Rattle.mysql_stmt.specs.BindFront.{AttributesThere, bind_front}
 use Rattle.mysql_commands.specs.QueryAttributes.{lenenc_int}
 use Rattle.mysql_commands.specs.declared.query.InvalidComQueryHeader.{InvalidComQueryHeader}
 use Rattle.mysql_commands.specs.declared.query_attributes.InvalidParameterSetCount.{InvalidParameterSetCount}

@@ -5,7 +5,7 @@ use Rattle.mysql_wire.specs.CommandCodes.{COM_QUERY}
 use Rattle.mysql_wire.specs.FlagMasks.{CLIENT_QUERY_ATTRIBUTES}
 use Rattle.mysql_wire.specs.Flags.{CapabilityFlags, has}
 use Rattle.mysql_commands.specs.WithRawBytes.{as_sent}
-use Rattle.mysql_prepared.specs.Attributes.{Attribute}
+use Rattle.mysql_stmt.specs.Attributes.{Attribute}
 use Rattle.mysql_commands.specs.QueryAttributes.{query_attributes}
 use Rattle.mysql_commands.specs.declared.with_raw_bytes.WithRawBytes.{WithRawBytes}
 use Rattle.mysql_commands.specs.declared.query.ComQueryRef.{ComQueryRef}

@@ -6,8 +6,8 @@ use Rattle.mysql_wire.specs.Int.{raw}
 use Rattle.mysql_wire.specs.LenEnc.{lenenc}
 use Rattle.mysql_wire.specs.declared.int.RawInt.{RawInt}
 use Rattle.mysql_wire.specs.declared.lenenc.LenEnc.{LenEnc}
-use Rattle.mysql_prepared.specs.Attributes.{Attribute, values}
-use Rattle.mysql_prepared.specs.BindFront.{bind_front}
+use Rattle.mysql_stmt.specs.Attributes.{Attribute, values}
+use Rattle.mysql_stmt.specs.BindFront.{bind_front}
 use Rattle.mysql_commands.specs.declared.query_attributes.InvalidParameterSetCount.{InvalidParameterSetCount}
 
 -- a length-encoded number

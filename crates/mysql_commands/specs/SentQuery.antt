@@ -5,15 +5,15 @@ use Rattle.std.specs.Option.{option_map}
 use Rattle.mysql_wire.specs.Flags.{CapabilityFlags}
 use Rattle.mysql_wire.specs.LenEnc.{lenenc_bytes}
 use Rattle.mysql_wire.specs.Writing.{le_bytes}
-use Rattle.mysql_prepared.specs.Attributes.{Attribute}
-use Rattle.mysql_prepared.specs.ComQuery.{query_bytes, some_bytes}
-use Rattle.mysql_prepared.specs.ComQuery as sent
-use Rattle.mysql_prepared.specs.ExecuteParam.{attribute_param}
-use Rattle.mysql_prepared.specs.ExecuteParams.{where_some}
-use Rattle.mysql_prepared.specs.ReadAgain.{SentFits, attribute_read}
-use Rattle.mysql_prepared.specs.SentParam.{attribute_type, sent_attributes}
-use Rattle.mysql_prepared.specs.declared.com_query.ComQuery.{ComQuery}
-use Rattle.mysql_prepared.specs.declared.execute_param.QueryAttribute.{QueryAttribute}
+use Rattle.mysql_stmt.specs.Attributes.{Attribute}
+use Rattle.mysql_stmt.specs.ComQuery.{query_bytes, some_bytes}
+use Rattle.mysql_stmt.specs.ComQuery as sent
+use Rattle.mysql_stmt.specs.ExecuteParam.{attribute_param}
+use Rattle.mysql_stmt.specs.ExecuteParams.{where_some}
+use Rattle.mysql_stmt.specs.ReadAgain.{SentFits, attribute_read}
+use Rattle.mysql_stmt.specs.SentParam.{attribute_type, sent_attributes}
+use Rattle.mysql_stmt.specs.declared.com_query.ComQuery.{ComQuery}
+use Rattle.mysql_stmt.specs.declared.execute_param.QueryAttribute.{QueryAttribute}
 use Rattle.mysql_commands.specs.WithRawBytes.{sent_of}
 use Rattle.mysql_commands.specs.Query.{query_of, sends_attributes}
 use Rattle.mysql_commands.specs.declared.with_raw_bytes.WithRawBytes.{WithRawBytes}

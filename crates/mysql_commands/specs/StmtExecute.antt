@@ -1,8 +1,8 @@
 -- An execution: its head, and the rest as bytes.
 use Rattle.std.specs.Prelude.{List, ℕ, refl}
 use Rattle.mysql_wire.specs.Codecs.{Codec, Fields, ◌>>=◌, give, field, packet, string_eof}
-use Rattle.mysql_prepared.specs.ExecuteHead.{execute_head}
-use Rattle.mysql_prepared.specs.declared.execute_head.ComStmtExecuteHead.{ComStmtExecuteHead}
+use Rattle.mysql_stmt.specs.ExecuteHead.{execute_head}
+use Rattle.mysql_stmt.specs.declared.execute_head.ComStmtExecuteHead.{ComStmtExecuteHead}
 use Rattle.mysql_commands.specs.declared.stmt_execute.ComStmtExecuteRef.{ComStmtExecuteRef}
 
 abbrev pub head : ComStmtExecuteRef → ComStmtExecuteHead

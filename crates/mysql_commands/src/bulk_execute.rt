@@ -17,8 +17,8 @@ use mysql_wire::{
 /// |---|---|
 /// | 1 | the byte `fa` |
 /// | 4 | the statement's number, little-endian |
-/// | 2 | flags, little-endian: whether types are sent, and whether each row is answered |
-/// | to the end | the types, where they are sent, and the rows |
+/// | 2 | flags, little-endian: whether types are sent, and whether each row has its own result |
+/// | to the end | the types, if they are sent, and the rows |
 ///
 /// Missing bytes are `UnexpectedEof`, another first byte is `InvalidData`. Once the columns are known,
 /// [`ComStmtBulkExecuteRequest`](mysql_bulk::ComStmtBulkExecuteRequest) reads the same bytes with their rows.
@@ -30,7 +30,7 @@ pub struct ComStmtBulkExecuteRef<'a> {
 }
 
 impl<'a> ComStmtBulkExecuteRef<'a> {
-    /// The bulk execution of that statement, with these bytes after its flags.
+    /// Creates the bulk execution of a statement, with these bytes after the flags.
     pub fn new(stmt_id: u32, bulk_flags: StmtBulkExecuteFlags, rows: &'a [u8]) -> Self
         ensures value { result ≡ spec.bulk_execute_of stmt_id bulk_flags rows.now }
     {

@@ -1,4 +1,4 @@
-//! Bytes that stay in their packet, to its end.
+//! Borrowed bytes that run to the end of their packet.
 #![tactic(auto, unfolding(mysql_wire::specs::Writing::saturated))]
 
 ghost use Rattle.std.specs.Prelude.{◌≡◌, ⊤, refl};
@@ -9,7 +9,7 @@ use std::fmt;
 use std::fmt::Debug;
 use std::marker::Model;
 
-/// Bytes that run to the end of a packet (`string<EOF>`) and stay there: a query's text, a schema's name.
+/// Borrowed bytes that run to the end of a packet (`string<EOF>`), such as a query's text or a schema's name.
 ///
 /// In a clause they are the list of the bytes. Reading and writing take no memory.
 #[derive(Drop)]
@@ -26,7 +26,7 @@ impl<'a> Model for BytesRef<'a> {
 }
 
 impl<'a> BytesRef<'a> {
-    /// These bytes.
+    /// Creates a field of these bytes.
     #[inline]
     pub fn new(bytes: &'a [u8]) -> Self
         ensures value { result ≡ bytes.now }

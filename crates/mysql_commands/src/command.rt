@@ -11,14 +11,14 @@ use crate::stmt_reset::ComStmtReset;
 use crate::unknown::UnknownCommand;
 use crate::with_raw_bytes::WithRawBytes;
 use mysql_auth::ComChangeUserRef;
-use mysql_prepared::{ComStmtClose, ComStmtSendLongDataRef};
 use mysql_repl::{ComBinlogDumpGtidRef, ComBinlogDumpRef, ComRegisterSlaveRef, ComTableDump};
+use mysql_stmt::{ComStmtClose, ComStmtSendLongDataRef};
 
 /// A client's command: a payload of the command phase, by its first byte.
 ///
-/// It is read under the capabilities of both sides, and written byte for byte as it was read. A command with one text is its
-/// byte and the text up to the end, and one without fields only its byte. The texts borrow from the packet; neither reading nor
-/// writing takes memory.
+/// It is read under the capabilities of both sides, and written byte for byte as it was read. A command with
+/// one text is its first byte and the text to the end, and one without fields is only its first byte. The texts
+/// borrow from the packet; neither reading nor writing takes memory.
 ///
 /// ```
 /// let command: Command<'_> = ParseBuf::new(alloc, payload).parse(agreed)?;
@@ -28,30 +28,30 @@ use mysql_repl::{ComBinlogDumpGtidRef, ComBinlogDumpRef, ComRegisterSlaveRef, Co
 pub enum Command<'a> {
     /// `COM_QUIT`, `01`: the client ends the connection. The server sends no answer.
     Quit,
-    /// `COM_INIT_DB`, `02`, and the schema that becomes the default.
+    /// `COM_INIT_DB`, `02`, and the name of the new default schema.
     InitDb(BytesRef<'a>),
-    /// `COM_QUERY`, `03`: a query as text, with its attributes where both sides have CLIENT_QUERY_ATTRIBUTES.
+    /// `COM_QUERY`, `03`: a query as text, with attributes if both sides have CLIENT_QUERY_ATTRIBUTES.
     Query(ComQueryRef<'a>),
-    /// `COM_FIELD_LIST`, `04`: the columns of a table.
+    /// `COM_FIELD_LIST`, `04`: requests the columns of a table.
     FieldList(ComFieldListRef<'a>),
     /// `COM_CREATE_DB`, `05`, and the name of the schema to create.
     CreateDb(BytesRef<'a>),
-    /// `COM_DROP_DB`, `06`, and the schema that is dropped.
+    /// `COM_DROP_DB`, `06`, and the name of the schema to drop.
     DropDb(BytesRef<'a>),
     /// `COM_REFRESH`, `07`, and a byte with a bit for each of the things to flush or reset, such as `REFRESH_LOG` 2 and
     /// `REFRESH_TABLES` 4.
     Refresh(u8),
     /// `COM_SHUTDOWN`, `08`, and an optional byte that says what to wait for: 0, `SHUTDOWN_DEFAULT`, or another shutdown level.
     Shutdown(Option<u8>),
-    /// `COM_STATISTICS`, `09`: a line about the server.
+    /// `COM_STATISTICS`, `09`: requests a line of text about the server.
     Statistics,
-    /// `COM_PROCESS_INFO`, `0a`: the sessions of the server.
+    /// `COM_PROCESS_INFO`, `0a`: requests the list of the server's sessions.
     ProcessInfo,
-    /// `COM_PROCESS_KILL`, `0c`, and in four bytes the number of the session that is ended.
+    /// `COM_PROCESS_KILL`, `0c`, and the number of the session to end, in four bytes.
     ProcessKill(u32),
-    /// `COM_DEBUG`, `0d`: the server writes into its log what it does.
+    /// `COM_DEBUG`, `0d`: makes the server write its state into its log.
     Debug,
-    /// `COM_PING`, `0e`: whether the server is there.
+    /// `COM_PING`, `0e`: asks whether the server responds.
     Ping,
     /// `COM_CHANGE_USER`, `11`. A client writes one as a [`ComChangeUser`](mysql_auth::ComChangeUser).
     ChangeUser(WithRawBytes<'a, ComChangeUserRef<'a>>),
@@ -77,10 +77,10 @@ pub enum Command<'a> {
     StmtFetch(ComStmtFetch),
     /// `COM_BINLOG_DUMP_GTID`, `1e`. A replica writes one as a [`ComBinlogDumpGtid`](mysql_repl::ComBinlogDumpGtid).
     BinlogDumpGtid(WithRawBytes<'a, ComBinlogDumpGtidRef<'a>>),
-    /// `COM_RESET_CONNECTION`, `1f`: the session is as after its login.
+    /// `COM_RESET_CONNECTION`, `1f`: resets the session to its state after the login.
     ResetConnection,
     /// MariaDB's `COM_STMT_BULK_EXECUTE`, `fa`.
     StmtBulkExecute(ComStmtBulkExecuteRef<'a>),
-    /// Another first byte.
+    /// A command with another first byte.
     Unknown(UnknownCommand<'a>),
 }

@@ -1,4 +1,4 @@
-//! Commands are read by their first byte.
+//! Reads commands by their first byte.
 #![tactic(auto, using(mysql_wire::proofs::Packets::packets))]
 
 ghost use Rattle.std.specs.Prelude.{false, ◌≡◌, refl, option_map};
@@ -15,7 +15,7 @@ use mysql_wire::{
     ServerCommand,
 };
 
-/// A command that is its byte alone.
+/// Reads a command without fields.
 fn read_fixed<'s>(buf: &mut ParseBuf<'_>) -> Result<(), FaultOf<'s>>
     ensures value { Answers false result buf.new ((after_form (give tt)).reads buf.old) }
 {
@@ -23,7 +23,7 @@ fn read_fixed<'s>(buf: &mut ParseBuf<'_>) -> Result<(), FaultOf<'s>>
     Ok(())
 }
 
-/// A command's text.
+/// Reads a command with one text.
 fn read_text<'s, 'a>(buf: &mut ParseBuf<'a>) -> Result<BytesRef<'a>, FaultOf<'s>>
     ensures value { Answers false result buf.new ((after_form all_left).reads buf.old) }
 {
@@ -31,7 +31,7 @@ fn read_text<'s, 'a>(buf: &mut ParseBuf<'a>) -> Result<BytesRef<'a>, FaultOf<'s>
     buf.parse(())
 }
 
-/// A command's byte.
+/// Reads a command with one byte.
 fn read_byte<'s>(buf: &mut ParseBuf<'_>) -> Result<u8, FaultOf<'s>>
     ensures value { Answers false result buf.new ((map (λ n. n.0) (after_form byte)).reads buf.old) }
 {
@@ -40,7 +40,7 @@ fn read_byte<'s>(buf: &mut ParseBuf<'_>) -> Result<u8, FaultOf<'s>>
     Ok(number.0)
 }
 
-/// A command's number.
+/// Reads a command with a number of four bytes.
 fn read_number<'s>(buf: &mut ParseBuf<'_>) -> Result<u32, FaultOf<'s>>
     ensures value { Answers false result buf.new ((map (λ n. n.0) (after_form le_u32)).reads buf.old) }
 {
@@ -49,7 +49,7 @@ fn read_number<'s>(buf: &mut ParseBuf<'_>) -> Result<u32, FaultOf<'s>>
     Ok(number.0)
 }
 
-/// A command's byte, where one is left.
+/// Reads a command with an optional byte.
 fn read_optional_byte<'s>(buf: &mut ParseBuf<'_>) -> Result<Option<u8>, FaultOf<'s>>
     ensures value { Answers false result buf.new ((map (option_map (λ n. n.0)) (after_form byte_left)).reads buf.old) }
 {
@@ -61,7 +61,7 @@ fn read_optional_byte<'s>(buf: &mut ParseBuf<'_>) -> Result<Option<u8>, FaultOf<
     Ok(Some(number.0))
 }
 
-/// The command of that name, which the first byte is the code of.
+/// Reads the command whose code is the first byte.
 fn read_named<'s, 'a>(
     name: Option<ServerCommand>,
     capabilities: CapabilityFlags,
@@ -121,7 +121,7 @@ fn read_named<'s, 'a>(
     }
 }
 
-/// An empty payload is `UnexpectedEof`; otherwise the command's record, or the fault of its reader.
+/// An empty payload is `UnexpectedEof`; otherwise the first byte decides which reader's command or fault is returned.
 impl<'de> MyDeserialize<'de> for Command<'de> {
     const SIZE: Option<usize> = None;
 

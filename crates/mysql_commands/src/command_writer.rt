@@ -1,4 +1,4 @@
-//! Writes commands as they were read.
+//! Writes commands back byte for byte.
 #![tactic(auto, using(mysql_wire::proofs::Packets::packets), unfolding(crate::specs::Command::command_bytes))]
 
 ghost use Rattle.std.specs.Prelude.{◌≡◌, ◌++◌, length, option_map};
@@ -9,7 +9,7 @@ ghost use Rattle.mysql_commands.specs.Command as spec;
 use crate::command::Command;
 use mysql_wire::{Const, LeU32, MySerialize, Parts, RawInt, ServerCommand, Sink, parts};
 
-/// Writes a command's byte and the field after it.
+/// Writes a command's first byte and the field after it.
 #[inline(always)]
 #[tactic(auto, using(crate::proofs::LastPart::last_part), unfolding(crate::specs::After::code_bytes))]
 fn put_after<T: MySerialize, S: Sink>(command: ServerCommand, body: &T, sink: &mut S)
@@ -20,7 +20,7 @@ fn put_after<T: MySerialize, S: Sink>(command: ServerCommand, body: &T, sink: &m
     sink.part(&parts!(code, *body));
 }
 
-/// An optional byte, as it is written.
+/// Returns an optional byte in the form in which it is written.
 #[inline(always)]
 fn raw_level(level: Option<u8>) -> Option<RawInt<u8>>
     ensures value { result ≡ option_map raw_int level }

@@ -25,13 +25,13 @@ impl ConstFault for InvalidComFieldListHeader {
 /// The first byte of a request for columns: `04`.
 pub type ComFieldListHeader = ConstU8<InvalidComFieldListHeader, COM_FIELD_LIST>;
 
-/// `COM_FIELD_LIST`: the definitions of a table's columns.
+/// `COM_FIELD_LIST`: requests the definitions of a table's columns.
 ///
 /// | Bytes | Field |
 /// |---|---|
 /// | 1 | the byte `04` |
-/// | to a zero | the table's name |
-/// | to the end | which columns, a pattern as LIKE has it |
+/// | up to a zero | the table's name |
+/// | to the end | a pattern for the columns' names, as for LIKE |
 ///
 /// A missing zero is `UnexpectedEof`, another first byte is `InvalidData`. The texts borrow from the packet. A table's name is
 /// written up to its first zero.
@@ -46,7 +46,7 @@ pub struct ComFieldListRef<'a> {
 }
 
 impl<'a> ComFieldListRef<'a> {
-    /// The request for these columns of this table.
+    /// Creates the request for the columns of a table that match a pattern.
     pub fn new(table: &'a [u8], wildcard: &'a [u8]) -> Self
         ensures value { result ≡ spec.field_list_of table.now wildcard.now }
     {

@@ -1,4 +1,4 @@
-//! Commands: what a client asks of a server once its login is done, by the first byte.
+//! Commands: the payloads that a client sends after its login, by their first byte.
 #![tactic(auto)]
 
 mod bulk_execute;

@@ -1,4 +1,4 @@
-//! A query, as far as the values of its attributes.
+//! Queries, read up to the values of their attributes.
 #![tactic(auto, using(mysql_wire::proofs::Packets::packets))]
 
 ghost use Rattle.std.specs.Prelude.{false};
@@ -7,10 +7,10 @@ ghost use Rattle.mysql_commands.specs.PartialQuery as spec;
 
 use crate::query::ComQueryHeader;
 use crate::query_attributes::InvalidParameterSetCount;
-use mysql_prepared::QueryAttributesView;
+use mysql_stmt::QueryAttributesView;
 use mysql_wire::{ConstU8, FaultOf, LenEnc, ParseBuf, RawInt};
 
-/// The number of a query's attributes, and what stands before it.
+/// Reads the fields before a query's attributes, and returns the number of the attributes.
 fn read_count<'s>(buf: &mut ParseBuf<'_>) -> Result<u64, FaultOf<'s>>
     ensures value { Answers false result buf.new (spec.attribute_count.reads buf.old) }
 {
@@ -20,13 +20,15 @@ fn read_count<'s>(buf: &mut ParseBuf<'_>) -> Result<u64, FaultOf<'s>>
     Ok(count.0)
 }
 
-/// Reads a `COM_QUERY` under CLIENT_QUERY_ATTRIBUTES as far as the values of its attributes, which are read one by one.
+/// Reads a `COM_QUERY` under CLIENT_QUERY_ATTRIBUTES up to the values of its attributes, which are then read
+/// one by one.
 ///
-/// [`ComQueryRef`](crate::ComQueryRef) refuses a query of which one attribute is malformed. Here those before it are returned, and
-/// [`QueryAttributesView::rest`] has the bytes from its value on, which end with the query's text.
+/// [`ComQueryRef`](crate::ComQueryRef) refuses a query if one of its attributes is malformed. Here the
+/// attributes before it are returned, and [`QueryAttributesView::rest`] has the bytes from its value on, which
+/// end with the query's text.
 ///
-/// Missing bytes are `UnexpectedEof`. Another first byte, another count of sets than 1, a byte 0 before the types and a type that is none are
-/// `InvalidData`. It takes no memory.
+/// Missing bytes are `UnexpectedEof`. Another first byte, a count of sets other than 1, a byte 0 before the
+/// types and an unknown type are `InvalidData`. It takes no memory.
 ///
 /// ```
 /// let attributes = read_query_attributes(ParseBuf::new(alloc, payload))?;

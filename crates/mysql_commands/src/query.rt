@@ -32,10 +32,11 @@ pub type ComQueryHeader = ConstU8<InvalidComQueryHeader, COM_QUERY>;
 /// | Bytes | Field |
 /// |---|---|
 /// | 1 | the byte `03` |
-/// | as many as they take | the attributes, where both sides have CLIENT_QUERY_ATTRIBUTES: [`QueryAttributesRef`] |
+/// | variable | the attributes, if both sides have CLIENT_QUERY_ATTRIBUTES: [`QueryAttributesRef`] |
 /// | to the end | the text |
 ///
-/// Another first byte is `InvalidData`; the attributes have faults of their own. It is written byte for byte as it was read.
+/// An empty payload is `UnexpectedEof`, another first byte is `InvalidData`; the attributes have faults of
+/// their own. It is written byte for byte as it was read.
 ///
 /// ```
 /// let query: ComQueryRef<'_> = ParseBuf::new(alloc, payload).parse(agreed)?;
@@ -48,7 +49,7 @@ pub struct ComQueryRef<'a> {
 }
 
 impl<'a> ComQueryRef<'a> {
-    /// The query of this text, for a session without CLIENT_QUERY_ATTRIBUTES.
+    /// Creates a query of this text, for a session without CLIENT_QUERY_ATTRIBUTES.
     pub fn new(text: &'a [u8]) -> Self
         ensures value { result ≡ spec.query_of None text.now }
     {

@@ -2,10 +2,10 @@
 #![tactic(auto, using(mysql_wire::proofs::Packets::packets))]
 
 ghost use Rattle.std.specs.Prelude.{◌≡◌, ⊤, refl};
-ghost use Rattle.mysql_prepared.specs.Attributes.{IsGood, attributes_read};
+ghost use Rattle.mysql_stmt.specs.Attributes.{IsGood, attributes_read};
 ghost use Rattle.mysql_commands.specs.QueryAttributes as spec;
 
-use mysql_prepared::QueryAttributesView;
+use mysql_stmt::QueryAttributesView;
 use mysql_wire::{AnyWidth, ConstFault, ConstU8, FaultOf, LenEnc, MyDeserialize, ParseBuf, RawInt};
 use std::alloc::AllocError;
 use std::fmt;
@@ -27,20 +27,21 @@ impl ConstFault for InvalidParameterSetCount {
 ///
 /// | Bytes | Field |
 /// |---|---|
-/// | 1 to 9 | how many there are, length-encoded |
-/// | 1 | how many sets of them there are, always 1 |
+/// | 1 to 9 | the number of attributes, length-encoded |
+/// | 1 | the number of sets of them, always 1 |
 ///
 /// Without attributes, nothing follows. Otherwise:
 ///
 /// | Bytes | Field |
 /// |---|---|
-/// | 1 for 8 of them | a bit for each, the first one the lowest, set for NULL |
-/// | 1 | types follow: any byte but 0 |
-/// | 2 and a name | for each the code of its type, and 128 where it is an unsigned number, else 0; and its name, length-encoded |
-/// | as many as they take | the values in their binary form, without those that are NULL |
+/// | 1 for 8 attributes | the NULL bitmap: a bit for each, the first one the lowest, set for NULL |
+/// | 1 | whether types follow: any byte other than 0 |
+/// | 2 and a name | for each, the code of its type, a byte that is 128 for an unsigned number and otherwise 0, and its name, length-encoded |
+/// | variable | the values in their binary form, without those that are NULL |
 ///
-/// Missing bytes are `UnexpectedEof`. `InvalidData` are another count of sets, a byte 0 before the types, a type that is none and a value
-/// that is none of its type: what `parse_query_bind_params` (`sql/protocol_classic.cc`) calls malformed. It takes no memory. In a clause it is the list of the attributes.
+/// Missing bytes are `UnexpectedEof`. Another count of sets, a byte 0 before the types, an unknown type and an
+/// invalid value of a type are `InvalidData`, as in `parse_query_bind_params` (`sql/protocol_classic.cc`),
+/// which calls them malformed. It takes no memory. In a clause it is the list of the attributes.
 ///
 /// ```
 /// let query: ComQueryRef<'_> = ParseBuf::new(alloc, payload).parse(agreed)?;
@@ -56,7 +57,7 @@ pub struct QueryAttributesRef<'a> {
 
 impl<'a> Model for QueryAttributesRef<'a> {
     ghost use Rattle.std.specs.Prelude.{List};
-    ghost use Rattle.mysql_prepared.specs.Attributes.{Attribute, IsGood, attributes_read};
+    ghost use Rattle.mysql_stmt.specs.Attributes.{Attribute, IsGood, attributes_read};
 
     ghost Value = { List Attribute };
 
@@ -66,7 +67,7 @@ impl<'a> Model for QueryAttributesRef<'a> {
 }
 
 impl<'a> QueryAttributesRef<'a> {
-    /// The attributes, one by one.
+    /// Returns a view that reads the attributes one by one.
     #[inline]
     pub fn view(&self) -> QueryAttributesView<'a>
         ensures value { attributes_read result.all ≡ self.now }
@@ -88,7 +89,7 @@ impl Clone for QueryAttributesRef<'_> {
     }
 }
 
-/// The list of the attributes.
+/// Prints the list of the attributes.
 impl Debug for QueryAttributesRef<'_> {
     fn fmt<W: fmt::Write>(&self, f: &mut fmt::Formatter<W>) -> fmt::Result {
         let mut list = f.debug_list();

@@ -1,4 +1,4 @@
-//! The choice of an option.
+//! The command that sets an option of the session.
 #![tactic(auto, using(mysql_wire::proofs::Packets::packets), unfolding(crate::specs::SetOption::set_option))]
 
 ghost use Rattle.std.specs.Prelude.{◌≡◌};
@@ -11,7 +11,7 @@ use mysql_wire::{
 };
 use thiserror::Error;
 
-/// The first byte of the choice of an option is not `1b`.
+/// The first byte of the command that sets an option is not `1b`.
 #[derive(Clone, Copy, Debug, Default, PartialEq, Eq, Hash, Error)]
 #[error("Invalid header for COM_SET_OPTION")]
 pub struct InvalidComSetOptionHeader;
@@ -20,10 +20,10 @@ impl ConstFault for InvalidComSetOptionHeader {
     const MESSAGE: &'static str = "Invalid header for COM_SET_OPTION";
 }
 
-/// The first byte of the choice of an option: `1b`.
+/// The first byte of the command that sets an option: `1b`.
 pub type ComSetOptionHeader = ConstU8<InvalidComSetOptionHeader, COM_SET_OPTION>;
 
-/// `enum_mysql_set_option`: what a client chooses for its session.
+/// `enum_mysql_set_option`: the options that a client can set for its session.
 ///
 /// ```
 /// let option = ServerOption::MultiStatementsOn;
@@ -33,11 +33,11 @@ pub type ComSetOptionHeader = ConstU8<InvalidComSetOptionHeader, COM_SET_OPTION>
 pub enum ServerOption {
     /// A query may hold several statements.
     MultiStatementsOn = 0,
-    /// A query holds one statement.
+    /// A query holds only one statement.
     MultiStatementsOff = 1,
 }
 
-/// `COM_SET_OPTION`: whether a query may hold several statements.
+/// `COM_SET_OPTION`: sets whether a query may hold several statements.
 ///
 /// It takes 3 bytes:
 ///
@@ -54,12 +54,12 @@ pub enum ServerOption {
 /// ```
 #[derive(Clone, Copy, Debug, PartialEq, Eq)]
 pub struct ComSetOption {
-    /// The option's number: that of a [`ServerOption`], or one that none has.
+    /// The option's number: that of a [`ServerOption`], or an unknown one.
     pub code: u16,
 }
 
 impl ComSetOption {
-    /// The choice of this option.
+    /// Creates the command that sets this option.
     pub fn new(option: ServerOption) -> Self
         ensures code { result.code ≡ spec.option_code option }
     {
@@ -68,7 +68,7 @@ impl ComSetOption {
         }
     }
 
-    /// The option, where its number is of one.
+    /// The option, or `None` if its number is unknown.
     pub fn option(&self) -> Option<ServerOption>
         ensures value { result ≡ spec.option_of self.now.code }
     {

@@ -5,7 +5,7 @@ ghost use Rattle.std.specs.Prelude.{◌≡◌, refl};
 ghost use Rattle.mysql_commands.specs.StmtExecute as spec;
 
 use crate::bytes_ref::BytesRef;
-use mysql_prepared::ComStmtExecuteHead;
+use mysql_stmt::ComStmtExecuteHead;
 use mysql_wire::{AnyWidth, FaultOf, MyDeserialize, ParseBuf, Parts, Sink, parts};
 
 /// `COM_STMT_EXECUTE`. The layout of its parameters depends on the statement.
@@ -15,8 +15,8 @@ use mysql_wire::{AnyWidth, FaultOf, MyDeserialize, ParseBuf, Parts, Sink, parts}
 /// | 10 | the head: a [`ComStmtExecuteHead`] |
 /// | to the end | the parameters |
 ///
-/// It has the faults of its head. Once the statement's parameters are known,
-/// [`ExecuteParamsView`](mysql_prepared::ExecuteParamsView) reads the bytes after the head.
+/// The faults are those of the head. Once the statement's parameters are known,
+/// [`ExecuteParamsView`](mysql_stmt::ExecuteParamsView) reads the bytes after the head.
 ///
 /// ```
 /// let execution: ComStmtExecuteRef<'_> = ParseBuf::new(alloc, payload).parse(())?;
@@ -29,7 +29,7 @@ pub struct ComStmtExecuteRef<'a> {
 }
 
 impl<'a> ComStmtExecuteRef<'a> {
-    /// The execution with this head, and these bytes after it.
+    /// Creates an execution with this head, and these bytes after it.
     pub fn new(head: ComStmtExecuteHead, params: &'a [u8]) -> Self
         ensures value { result ≡ spec.stmt_execute_of head params.now }
     {

@@ -1,4 +1,4 @@
-//! The request for rows of a cursor.
+//! The command that fetches rows of a cursor.
 #![tactic(auto, using(mysql_wire::proofs::Packets::packets), unfolding(crate::specs::StmtFetch::stmt_fetch))]
 
 ghost use Rattle.std.specs.Prelude.{◌≡◌};
@@ -11,7 +11,7 @@ use mysql_wire::{
 };
 use thiserror::Error;
 
-/// The first byte of a request for rows is not `1c`.
+/// The first byte of the command that fetches rows is not `1c`.
 #[derive(Clone, Copy, Debug, Default, PartialEq, Eq, Hash, Error)]
 #[error("Invalid header for COM_STMT_FETCH")]
 pub struct InvalidComStmtFetchHeader;
@@ -20,10 +20,10 @@ impl ConstFault for InvalidComStmtFetchHeader {
     const MESSAGE: &'static str = "Invalid header for COM_STMT_FETCH";
 }
 
-/// The first byte of a request for rows: `1c`.
+/// The first byte of the command that fetches rows: `1c`.
 pub type ComStmtFetchHeader = ConstU8<InvalidComStmtFetchHeader, COM_STMT_FETCH>;
 
-/// `COM_STMT_FETCH`: a given number of rows of the cursor that an execution opened.
+/// `COM_STMT_FETCH`: fetches a number of rows of the cursor that an execution opened.
 ///
 /// It takes 9 bytes, numbers little-endian:
 ///
@@ -31,10 +31,10 @@ pub type ComStmtFetchHeader = ConstU8<InvalidComStmtFetchHeader, COM_STMT_FETCH>
 /// |---|---|
 /// | 1 | the byte `1c` |
 /// | 4 | the statement's number |
-/// | 4 | how many rows are asked for |
+/// | 4 | the maximum number of rows to return |
 ///
-/// Fewer than 9 bytes are `UnexpectedEof`, another first byte is `InvalidData`. For MariaDB, `ffffffff` is the statement that
-/// was prepared last.
+/// Fewer than 9 bytes are `UnexpectedEof`, another first byte is `InvalidData`. For MariaDB, the number
+/// `ffffffff` means the statement that was prepared last.
 ///
 /// ```
 /// Ok(ComStmtFetch::new(stmt_id, 100).serialize(out)?)
@@ -48,7 +48,7 @@ pub struct ComStmtFetch {
 }
 
 impl ComStmtFetch {
-    /// The request for a given number of rows of the cursor of the statement of that number.
+    /// Creates the command that fetches this number of rows of a statement's cursor.
     pub fn new(stmt_id: u32, num_rows: u32) -> Self
         ensures stmt_id { result.stmt_id ≡ stmt_id }
         ensures num_rows { result.num_rows ≡ num_rows }

@@ -23,7 +23,7 @@ impl ConstFault for InvalidComStmtResetHeader {
 /// The first byte of a reset: `1a`.
 pub type ComStmtResetHeader = ConstU8<InvalidComStmtResetHeader, COM_STMT_RESET>;
 
-/// `COM_STMT_RESET`: the data that was sent ahead for a prepared statement is dropped, and its cursor is closed.
+/// `COM_STMT_RESET`: drops the data that was sent ahead for a prepared statement, and closes its cursor.
 ///
 /// It takes 5 bytes, numbers little-endian:
 ///
@@ -32,8 +32,8 @@ pub type ComStmtResetHeader = ConstU8<InvalidComStmtResetHeader, COM_STMT_RESET>
 /// | 1 | the byte `1a` |
 /// | 4 | the statement's number |
 ///
-/// Fewer than 5 bytes are `UnexpectedEof`, another first byte is `InvalidData`. For MariaDB, `ffffffff` is the statement that
-/// was prepared last.
+/// Fewer than 5 bytes are `UnexpectedEof`, another first byte is `InvalidData`. For MariaDB, the number
+/// `ffffffff` means the statement that was prepared last.
 ///
 /// ```
 /// Ok(ComStmtReset::new(stmt_id).serialize(out)?)
@@ -45,7 +45,7 @@ pub struct ComStmtReset {
 }
 
 impl ComStmtReset {
-    /// The reset of the statement of that number.
+    /// Creates the command that resets the statement of this number.
     pub fn new(stmt_id: u32) -> Self
         ensures stmt_id { result.stmt_id ≡ stmt_id }
     {

@@ -1,4 +1,4 @@
-//! A command that has no record.
+//! Commands without a record of their own.
 #![tactic(auto, using(mysql_wire::proofs::Packets::packets), unfolding(crate::specs::Unknown::unknown))]
 
 ghost use Rattle.std.specs.Prelude.{◌≡◌, refl};
@@ -7,14 +7,15 @@ ghost use Rattle.mysql_commands.specs.Unknown as spec;
 use crate::bytes_ref::BytesRef;
 use mysql_wire::{AnyWidth, FaultOf, MyDeserialize, ParseBuf, Parts, RawInt, Sink, parts};
 
-/// A command whose first byte is none that has a record: one that servers use inside, a later one, or none.
+/// A command whose first byte has no record of its own: a code that is used inside servers, a later one, or an
+/// unknown one.
 ///
 /// | Bytes | Field |
 /// |---|---|
 /// | 1 | the command's code |
 /// | to the end | its content |
 ///
-/// No byte at all is `UnexpectedEof`.
+/// An empty payload is `UnexpectedEof`.
 ///
 /// ```
 /// Ok(UnknownCommand::new(code, content).serialize(out)?)
@@ -26,7 +27,7 @@ pub struct UnknownCommand<'a> {
 }
 
 impl<'a> UnknownCommand<'a> {
-    /// The command of that code, with this content.
+    /// Creates a command of this code, with this content.
     pub fn new(code: u8, content: &'a [u8]) -> Self
         ensures value { result ≡ spec.unknown_of code content.now }
     {
@@ -36,7 +37,7 @@ impl<'a> UnknownCommand<'a> {
         }
     }
 
-    /// The first byte. [`ServerCommand`](mysql_wire::ServerCommand) has the names of all codes.
+    /// The first byte. [`ServerCommand`](mysql_wire::ServerCommand) names all known codes.
     #[inline]
     pub fn code(&self) -> u8
         ensures value { result ≡ spec.code self.now }

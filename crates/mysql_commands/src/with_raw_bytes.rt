@@ -8,11 +8,11 @@ ghost use Rattle.mysql_commands.specs.WithRawBytes as spec;
 use crate::bytes_ref::BytesRef;
 use mysql_wire::{AnyWidth, Buffer, FaultOf, MyDeserialize, MySerialize, ParseBuf};
 
-/// A value with the bytes that it was read from. It is written back byte for byte, even where the protocol has several
-/// encodings.
+/// A value with the bytes that it was read from. It is written back byte for byte, even if the protocol has
+/// several encodings.
 ///
-/// Only reading creates one; other values are written by their own type. Two are equal if their bytes are: under one context
-/// their values are then the same.
+/// Only reading creates one; other values are written by their own type. Two are equal if their bytes are:
+/// under the same context their values are then the same.
 ///
 /// ```
 /// let command: Command<'_> = ParseBuf::new(alloc, payload).parse(agreed)?;
@@ -35,7 +35,7 @@ impl<'a, T> WithRawBytes<'a, T> {
         &self.value
     }
 
-    /// The bytes that it was read of, for as long as the packet lives.
+    /// The bytes that it was read from, for as long as the packet lives.
     #[inline]
     pub fn as_bytes(&self) -> &'a [u8]
         ensures value { result.now ≡ spec.bytes self.now }
@@ -44,7 +44,7 @@ impl<'a, T> WithRawBytes<'a, T> {
     }
 }
 
-/// The bytes in front of those that are left.
+/// Returns the bytes before the remaining ones.
 fn front_of<'a>(bytes: &ParseBuf<'a>, left: &ParseBuf<'a>) -> BytesRef<'a>
     requires { IsTail left.now bytes.now }
     ensures value { result ≡ spec.front_of bytes.now left.now }

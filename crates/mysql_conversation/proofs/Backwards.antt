@@ -1,9 +1,9 @@
 -- A step back: a packet before what may come.
 use Rattle.std.proofs.Common.{◌≡◌, ◌≢◌, ℕ, ◌<◌, zero, suc, List, [], ◌∷◌, inl, inr, Option, Some, None, refl, sym, subst, Bool, true, false, arith}
 use Rattle.mysql_wire.specs.Flags.{StatusFlags}
-use Rattle.mysql_prepared.specs.Stmt.{num_columns, num_params}
-use Rattle.mysql_prepared.specs.StmtWithMetadata.{packet_of}
-use Rattle.mysql_prepared.specs.declared.stmt_with_metadata.StmtPacketWithMetadata.{StmtPacketWithMetadata}
+use Rattle.mysql_stmt.specs.Stmt.{num_columns, num_params}
+use Rattle.mysql_stmt.specs.StmtWithMetadata.{packet_of}
+use Rattle.mysql_stmt.specs.declared.stmt_with_metadata.StmtPacketWithMetadata.{StmtPacketWithMetadata}
 use Rattle.mysql_conversation.specs.Agreements.{Agreed, deprecates_eof}
 use Rattle.mysql_conversation.specs.Parts.{◌followed_by◌, ◌or◌, many}
 use Rattle.mysql_conversation.specs.Payloads.{definitions_follow, has_more, opens_cursor, first_is, IsOk, IsEnd, IsOldEnd, IsInfileRequest, IsCount, IsRow, IsPrepared, asks_cursor}

@@ -1,13 +1,13 @@
 -- The machine classifies a payload by its content.
 use Rattle.std.proofs.Common.{◌≡◌, ℕ, ◌<◌, List, [], ◌∷◌, ◌⊎◌, inl, inr, Option, Some, None, Ok, Err, refl, ap, subst, ◌∙◌, Bool, true, false, cond}
-use Rattle.std.proofs.lemmas.Bool.{eqb-true, eq-eqb}
+use Rattle.std.proofs.lemmas.Bool.{eqb-true}
 use Rattle.std.specs.Prelude.{◌==◌, nat_lt}
 use Rattle.mysql_wire.specs.Flags.{StatusFlags}
 use Rattle.mysql_wire.specs.Form.{Form}
 use Rattle.mysql_wire.specs.Reading.{Reading}
 use Rattle.mysql_replies.specs.declared.ok_packet.OkPacketDeserializer.{OkPacketDeserializer}
-use Rattle.mysql_prepared.specs.StmtWithMetadata.{stmt_with_metadata}
-use Rattle.mysql_prepared.specs.declared.stmt_with_metadata.StmtPacketWithMetadata.{StmtPacketWithMetadata}
+use Rattle.mysql_stmt.specs.StmtWithMetadata.{stmt_with_metadata}
+use Rattle.mysql_stmt.specs.declared.stmt_with_metadata.StmtPacketWithMetadata.{StmtPacketWithMetadata}
 use Rattle.std.proofs.lemmas.Bool.{lt-ltb, ltb-true}
 use Rattle.mysql_replies.specs.ColumnCount.{column_count, count, metadata_follows}
 use Rattle.mysql_replies.specs.declared.column_count.ColumnCount.{ColumnCount}

@@ -10,9 +10,9 @@ use Rattle.mysql_wire.specs.LenEnc.{lenenc, lenenc_string}
 use Rattle.mysql_wire.specs.Skip.{skip}
 use Rattle.mysql_replies.specs.OkPacket.{ok_packet, ok_header, deserialized}
 use Rattle.mysql_replies.specs.OkKind.{ok_end, ok_tail, body_of}
-use Rattle.mysql_prepared.specs.Stmt.{stmt, stmt_packet_of}
-use Rattle.mysql_prepared.specs.StmtWithMetadata.{stmt_with_metadata, sends_metadata}
-use Rattle.mysql_prepared.specs.declared.stmt_with_metadata.StmtPacketWithMetadata.{StmtPacketWithMetadata}
+use Rattle.mysql_stmt.specs.Stmt.{stmt, stmt_packet_of}
+use Rattle.mysql_stmt.specs.StmtWithMetadata.{stmt_with_metadata, sends_metadata}
+use Rattle.mysql_stmt.specs.declared.stmt_with_metadata.StmtPacketWithMetadata.{StmtPacketWithMetadata}
 use Rattle.mysql_conversation.specs.Parts.{◌or◌, times}
 use Rattle.mysql_conversation.specs.Payloads.{ok_form, old_end_form, terminator_form, SpelledWith, EndsWith, looks_like_end, first_is, is_report, IsOk, IsEnd, IsPrepared}
 use Rattle.mysql_conversation.specs.Agreements.{Agreed, deprecates_eof, reports_progress}

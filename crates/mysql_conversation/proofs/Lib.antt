@@ -13,6 +13,8 @@ pub mod PipeSteps
 pub mod Pipes
 pub mod Stood
 pub mod Places
+pub mod Queues
+pub mod PipelineStates
 pub mod Sessions
 pub mod SessionAnswers
 pub mod Resumed

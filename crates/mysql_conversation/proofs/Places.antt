@@ -1,9 +1,9 @@
 -- When a command has no place to wait, and when it has one.
-use Rattle.std.proofs.Common.{◌≡◌, ℕ, ◌+◌, ◌<◌, ◌≤◌, ◌-◌, ◌^◌, List, ◌⊎◌, inl, inr, length, Option, Some, None, refl, sym, ap, subst, ◌∙◌, true, false, arith}
+use Rattle.std.proofs.Common.{◌≡◌, ℕ, ◌+◌, ◌<◌, ◌^◌, List, inl, inr, length, Option, Some, None, refl, sym, ap, subst, ◌∙◌, true, false, arith}
 use Rattle.std.specs.Prelude.{◌↔◌, Result, Ok, Err, IfErr}
 use Rattle.mysql_conversation.specs.Agreements.{Agreed}
-use Rattle.mysql_conversation.specs.Machine.{take_step, is_due, is_rest}
-use Rattle.mysql_conversation.specs.Standing.{IsFullOf, quits, command_of}
+use Rattle.mysql_conversation.specs.Machine.{take_step, is_due}
+use Rattle.mysql_conversation.specs.Standing.{IsFullOf, command_of}
 use Rattle.mysql_conversation.specs.Piped.{IsFull, IsIdle, CountsNoMore}
 use Rattle.mysql_conversation.proofs.States.{idle_is}
 use Rattle.mysql_conversation.proofs.Turns.{no_aside, rest_step_is, command_step}
@@ -43,7 +43,7 @@ aside_has_place c p k m d e h =
 
 -- ---- a command in its turn
 
-some_command : (r : Option Command) (k : PacketKind) (m : State) → command_step r ≡ Some (k, m) → (command : Command) × (r ≡ Some command)
+pub some_command : (r : Option Command) (k : PacketKind) (m : State) → command_step r ≡ Some (k, m) → (command : Command) × (r ≡ Some command)
 some_command None k m h = absurd cc
 some_command (Some c) k m h = (c, refl)
 
@@ -53,7 +53,7 @@ idle_full c p k m i e n =
     let f = some_command (command_of p) k m (sym (rest_step_is c.agreed p) ∙ step) in
     ((refl, f.0, f.1), inr (inr i, n))
 
-idle_step : (a : Agreed) (p : List ℕ) (command : Command) → command_of p ≡ Some command → (take_step a state.Rest Client p ≡ None) → ⊥
+pub idle_step : (a : Agreed) (p : List ℕ) (command : Command) → command_of p ≡ Some command → (take_step a state.Rest Client p ≡ None) → ⊥
 idle_step a p command e n = let no : None ≡ command_step (Some command) = sym n ∙ rest_step_is a p ∙ ap command_step e in absurd cc
 
 -- what the machine refuses at the client's turn

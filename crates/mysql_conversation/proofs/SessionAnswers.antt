@@ -4,7 +4,7 @@ use Rattle.std.specs.Prelude.{◌↔◌, not, ◌&&◌, Option, Result, Ok, Err,
 use Rattle.mysql_auth.specs.declared.ssl_request.SslRequest.{SslRequest}
 use Rattle.mysql_conversation.specs.Agreements.{Agreed, agreed_on, compresses}
 use Rattle.mysql_conversation.specs.Piped as pipe
-use Rattle.mysql_conversation.specs.Session.{client_of, asks_tls, ends_name, is_clear_error, MayLogIn, IsEncrypted, AsksForTls, AwaitsLogin, AgreesOnCompression, IsSameIn, IsSame, Continues, limit, limit_in}
+use Rattle.mysql_conversation.specs.Session.{client_of, asks_tls, is_clear_error, IsEncrypted, AsksForTls, AwaitsLogin, AgreesOnCompression, IsSameIn, IsSame, Continues, limit, limit_in}
 use Rattle.mysql_conversation.specs.SessionSteps.{greeting_at, login_at, AnsweredAs, CompressedAt, CompressedBy, IsNoLoginAt, SentBefore, greeted_by, is_commands, is_encrypted, refused_by, served_before}
 use Rattle.mysql_conversation.specs.Payloads.{first_is}
 use Rattle.mysql_conversation.proofs.Classes.{chosen, some_is}

@@ -19,7 +19,7 @@ use Rattle.mysql_conversation.specs.SessionSteps.{greeting_at}
 use Rattle.mysql_conversation.specs.Standing.{start}
 use Rattle.mysql_conversation.proofs.Named.{All, pick}
 use Rattle.mysql_conversation.proofs.SessionEnds.{zeros, nothing_asked, logged_in, taken_is_beginning}
-use Rattle.mysql_conversation.proofs.Sessions.{AnswersGreeting, greeting_at_is, answer_at, error_at, nothing_after, served_more, session_rest, begins_with, more_of}
+use Rattle.mysql_conversation.proofs.Sessions.{AnswersGreeting, greeting_at_is, answer_at, error_at, served_more, session_rest, begins_with, more_of}
 use Rattle.mysql_conversation.proofs.Stood.{run_is_beginning}
 use Rattle.mysql_conversation.specs.declared.packet_kind.PacketKind.{PacketKind}
 use Rattle.mysql_conversation.specs.declared.packet_kind.PacketKind.TheVariants as kind

@@ -3,9 +3,9 @@ use Rattle.std.proofs.Common.{◌≡◌, ℕ, zero, suc, List, [], ◌∷◌, �
 use Rattle.std.specs.Prelude.{◌&&◌, ◌||◌, not}
 use Rattle.std.proofs.lemmas.Bool.{and_parts, cases_Bool}
 use Rattle.mysql_wire.specs.Flags.{StatusFlags}
-use Rattle.mysql_prepared.specs.Stmt.{num_columns, num_params}
-use Rattle.mysql_prepared.specs.StmtWithMetadata.{packet_of}
-use Rattle.mysql_prepared.specs.declared.stmt_with_metadata.StmtPacketWithMetadata.{StmtPacketWithMetadata}
+use Rattle.mysql_stmt.specs.Stmt.{num_columns, num_params}
+use Rattle.mysql_stmt.specs.StmtWithMetadata.{packet_of}
+use Rattle.mysql_stmt.specs.declared.stmt_with_metadata.StmtPacketWithMetadata.{StmtPacketWithMetadata}
 use Rattle.mysql_conversation.specs.Agreements.{Agreed, deprecates_eof, asks_factors}
 use Rattle.mysql_conversation.specs.Payloads.{first_is, definitions_follow, is_one_byte, is_report, asks_cursor, opens_cursor, has_more}
 use Rattle.mysql_conversation.specs.Conversation.{code_of, answering, asks, begins_with_login, ends_login, commands, inside, ending, format_of, authentication_kind}

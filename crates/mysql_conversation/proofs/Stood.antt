@@ -27,7 +27,7 @@ use Rattle.mysql_conversation.specs.declared.pipeline.Waiting.{Waiting}
 
 -- ---- pipelined conversations are what the machine accepts
 
-start_sound : (o : InitialPhase) → Sound (start o)
+pub start_sound : (o : InitialPhase) → Sound (start o)
 start_sound o = ((λ h. refl), tt)
 
 pub pipelined_runs : (d : Agreed) (o : InitialPhase) (items : List Numbered) → IsPipelined d o items → (t : Standing) × PipeRun d (start o) items t × Over t

@@ -7,7 +7,7 @@ use Rattle.mysql_wire.specs.Int.{raw, raw_int}
 use Rattle.mysql_wire.specs.LenEnc.{lenenc}
 use Rattle.mysql_replies.specs.ColumnCount.{column_count, says_follow}
 use Rattle.mysql_replies.specs.declared.column_count.ColumnCount.{ColumnCount}
-use Rattle.mysql_prepared.specs.StmtWithMetadata.{sends_metadata}
+use Rattle.mysql_stmt.specs.StmtWithMetadata.{sends_metadata}
 use Rattle.mysql_conversation.specs.Agreements.{Agreed, deprecates_eof, asks_factors, reports_progress}
 use Rattle.mysql_conversation.specs.Payloads.{first_is, is_report, IsOk, IsCount}
 use Rattle.mysql_conversation.specs.Conversation.{ending, format_of}

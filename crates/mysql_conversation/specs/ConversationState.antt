@@ -2,10 +2,11 @@
 use Rattle.std.specs.Prelude.{◌≡◌, ℕ, ◌==◌, List, Bool, true, false, Option, Some, None, if◌then◌else◌}
 use Rattle.std.specs.Option.{IsSome, option_map}
 use Rattle.mysql_conversation.specs.Agreements.{Agreed}
-use Rattle.mysql_conversation.specs.Conversation.{Packet}
-use Rattle.mysql_conversation.specs.Machine.{Takes, entrance}
+use Rattle.mysql_conversation.specs.Machine.{is_rest, is_shut, listens, take_step}
 use Rattle.mysql_conversation.specs.declared.conversation_state.ConversationState.{ConversationState}
 use Rattle.mysql_conversation.specs.declared.packet_kind.InitialPhase.{InitialPhase}
+use Rattle.mysql_conversation.specs.declared.packet_kind.PacketKind.{PacketKind}
+use Rattle.mysql_conversation.specs.declared.packet_kind.Side.TheVariants.{Server}
 use Rattle.mysql_conversation.specs.declared.state.After.{After}
 use Rattle.mysql_conversation.specs.declared.state.After.TheVariants as after
 use Rattle.mysql_conversation.specs.declared.state.Request.{Request}
@@ -111,6 +112,7 @@ state_at s =
 abbrev pub IsState : ConversationState → Type 0
 IsState s = IsSome (state_at s)
 
--- a conversation in this state has taken these packets, with these kinds
-abbrev pub TakenAt : Agreed → ConversationState → List Packet → Type 0
-TakenAt agreed s items = (m : State) × (state_at s ≡ Some m) × Takes agreed (entrance s.opening) items m
+-- the machine takes a packet of the server as this kind, and its state, in which an exchange runs, stays as it is
+abbrev pub Stays : Agreed → ConversationState → List ℕ → PacketKind → Type 0
+Stays agreed s payload kind =
+    (m : State) × (state_at s ≡ Some m) × (take_step agreed m Server payload ≡ Some (kind, m)) × (listens m ≡ false) × (is_shut m ≡ false) × (is_rest m ≡ false)

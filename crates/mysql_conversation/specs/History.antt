@@ -2,7 +2,6 @@
 use Rattle.std.specs.Prelude.{◌≡◌, ℕ, List, [], ◌∷◌, ◌++◌}
 use Rattle.mysql_conversation.specs.Agreements.{Agreed}
 use Rattle.mysql_conversation.specs.Conversation.{Packet, IsBeginning}
-use Rattle.mysql_conversation.specs.ConversationState.{numbers_of}
 use Rattle.mysql_conversation.specs.PacketKindTag.{name_of}
 use Rattle.mysql_conversation.specs.Machine.{Takes, entrance}
 use Rattle.mysql_conversation.specs.Taken.{packet}
@@ -11,7 +10,6 @@ use Rattle.mysql_conversation.specs.declared.packet_kind.InitialPhase.{InitialPh
 use Rattle.mysql_conversation.specs.declared.packet_kind.Side.{Side}
 use Rattle.mysql_conversation.specs.declared.packet_kind_tag.PacketKindTag.{PacketKindTag}
 use Rattle.mysql_conversation.specs.declared.conversation.Conversation.{Conversation}
-use Rattle.mysql_conversation.specs.declared.conversation_state.ConversationState.{ConversationState}
 
 -- what both sides agreed on, and the initial phase
 abbrev pub agreed : Conversation → Agreed
@@ -19,10 +17,6 @@ agreed c = c.agreed
 
 abbrev pub opening : Conversation → InitialPhase
 opening c = c.opening
-
--- the state, as plain numbers
-abbrev pub numbers : Conversation → ConversationState
-numbers c = numbers_of c.opening c.state
 
 -- these packets, with these kinds, are those it has taken
 abbrev pub Taken : Conversation → List Packet → Type 0

@@ -16,3 +16,4 @@ pub mod SessionSteps
 pub mod LoginState
 pub mod PacketKindTag
 pub mod Expected
+pub mod PipelineState

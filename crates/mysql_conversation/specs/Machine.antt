@@ -6,9 +6,9 @@ use Rattle.mysql_replies.specs.ColumnCount.{column_count, count, metadata_follow
 use Rattle.mysql_replies.specs.OkPacket.{status_flags}
 use Rattle.mysql_replies.specs.declared.column_count.ColumnCount.{ColumnCount}
 use Rattle.mysql_replies.specs.declared.ok_packet.OkPacketDeserializer.{OkPacketDeserializer}
-use Rattle.mysql_prepared.specs.Stmt.{num_columns, num_params}
-use Rattle.mysql_prepared.specs.StmtWithMetadata.{stmt_with_metadata, packet_of}
-use Rattle.mysql_prepared.specs.declared.stmt_with_metadata.StmtPacketWithMetadata.{StmtPacketWithMetadata}
+use Rattle.mysql_stmt.specs.Stmt.{num_columns, num_params}
+use Rattle.mysql_stmt.specs.StmtWithMetadata.{stmt_with_metadata, packet_of}
+use Rattle.mysql_stmt.specs.declared.stmt_with_metadata.StmtPacketWithMetadata.{StmtPacketWithMetadata}
 use Rattle.mysql_conversation.specs.Agreements.{Agreed, deprecates_eof}
 use Rattle.mysql_conversation.specs.Runs.{Runs}
 use Rattle.mysql_conversation.specs.Payloads.{has_more, opens_cursor, first_is, definitions_follow, ok_form, terminator_form, old_end_form, looks_like_end, is_report, asks_cursor}

@@ -11,9 +11,9 @@ use Rattle.mysql_replies.specs.declared.ok_packet.OkPacketDeserializer.{OkPacket
 use Rattle.mysql_replies.specs.declared.ok_kind.CommonOkPacket.{CommonOkPacket}
 use Rattle.mysql_replies.specs.declared.ok_kind.ResultSetTerminator.{ResultSetTerminator}
 use Rattle.mysql_replies.specs.declared.ok_kind.OldEofPacket.{OldEofPacket}
-use Rattle.mysql_prepared.specs.Stmt.{num_columns, num_params}
-use Rattle.mysql_prepared.specs.StmtWithMetadata.{stmt_with_metadata, packet_of, metadata_of}
-use Rattle.mysql_prepared.specs.declared.stmt_with_metadata.StmtPacketWithMetadata.{StmtPacketWithMetadata}
+use Rattle.mysql_stmt.specs.Stmt.{num_columns, num_params}
+use Rattle.mysql_stmt.specs.StmtWithMetadata.{stmt_with_metadata, packet_of, metadata_of}
+use Rattle.mysql_stmt.specs.declared.stmt_with_metadata.StmtPacketWithMetadata.{StmtPacketWithMetadata}
 use Rattle.mysql_conversation.specs.Agreements.{Agreed, deprecates_eof, reports_progress}
 use Rattle.mysql_conversation.specs.declared.packet_kind.RowFormat.{RowFormat}
 use Rattle.mysql_conversation.specs.declared.packet_kind.RowFormat.TheVariants.{Text, Binary}

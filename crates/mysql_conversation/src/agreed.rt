@@ -7,9 +7,9 @@ use bitflags::Flags;
 use mysql_replies::SessionCapabilities;
 use mysql_wire::{CapabilityFlags, MariadbCapabilities};
 
-/// Returns what a server and a client with these capabilities agree on: the flags that both have.
+/// Returns the capabilities that a server and a client with these capabilities agree on: the flags that both have.
 ///
-/// A client that sets `CLIENT_LONG_PASSWORD` has none of MariaDB's own capabilities, whatever its login says.
+/// A client that sets `CLIENT_LONG_PASSWORD` has no extended capabilities of MariaDB, whatever its login contains.
 ///
 /// ```
 /// agreed_on(server, client)
@@ -49,7 +49,7 @@ pub(crate) fn reports_progress(agreed: SessionCapabilities) -> bool
             .contains(MariadbCapabilities::MARIADB_CLIENT_PROGRESS)
 }
 
-/// Whether the server may ask for a next factor: `MULTI_FACTOR_AUTHENTICATION`.
+/// Whether the server may request a next factor: `MULTI_FACTOR_AUTHENTICATION`.
 #[inline(always)]
 pub(crate) fn asks_factors(agreed: SessionCapabilities) -> bool
     ensures { result ≡ spec.asks_factors agreed }

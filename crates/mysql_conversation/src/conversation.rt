@@ -1,8 +1,7 @@
 //! Which packet comes next.
 
-ghost use Rattle.std.specs.Prelude.{◌≡◌, ◌↔◌, IfOk, IfSome, IfNone, IsSome, OnErr, IsTrue, List, [], ◌∷◌, ◌++◌};
+ghost use Rattle.std.specs.Prelude.{◌≡◌, ◌↔◌, IfOk, OnErr, IsTrue, List, [], ◌∷◌, ◌++◌};
 
-use crate::conversation_state::{ConversationState, numbers_of, state_at};
 use crate::expected::may_receive;
 use crate::packet_kind::{InitialPhase, PacketKind, Side, UnexpectedPacket};
 use crate::packet_kind_tag::PacketKindTag;
@@ -31,7 +30,6 @@ pub struct Conversation {
 
 impl Conversation {
     ghost use Rattle.mysql_conversation.specs.Conversation.{Packet, IsConversation, IsBeginning};
-    ghost use Rattle.mysql_conversation.specs.ConversationState.{IsState, TakenAt};
     ghost use Rattle.mysql_conversation.specs.History as history;
     ghost use Rattle.mysql_conversation.specs.History.{Taken, GoesOn};
     ghost use Rattle.mysql_conversation.specs.Taken.{packet};
@@ -49,38 +47,6 @@ impl Conversation {
             opening,
             state: entrance(opening),
         }
-    }
-
-    /// Continues a conversation from its state, under the agreed capabilities. Returns `None` if the numbers are of no state.
-    pub fn from_state(
-        alloc: Global,
-        agreed: SessionCapabilities,
-        state: &ConversationState,
-    ) -> Option<Self>
-        ensures taken { IfSome result (λ c. (items : List Packet) → TakenAt agreed state.now items → Taken c items) }
-        ensures agreed { IfSome result (λ c. history.agreed c ≡ agreed) }
-        ensures opening { IfSome result (λ c. history.opening c ≡ state.now.opening) }
-        ensures none { IfNone result ((items : List Packet) → TakenAt agreed state.now items → ⊥) }
-        ensures state { IsSome result ↔ IsState state.now }
-    {
-        let stands_at = state_at(state)?;
-        Some(Conversation {
-            alloc,
-            agreed,
-            opening: state.opening,
-            state: stands_at,
-        })
-    }
-
-    /// Returns the state in plain numbers.
-    pub fn state(&self) -> ConversationState
-        ensures taken { (items : List Packet) → Taken self.now items → TakenAt (history.agreed self.now) result items }
-        ensures opening { result.opening ≡ history.opening self.now }
-        ensures state { IsState result }
-        // Equal states have equal numbers.
-        ensures value { result ≡ history.numbers self.now }
-    {
-        numbers_of(self.opening, self.state)
     }
 
     /// Whether the last command is answered.

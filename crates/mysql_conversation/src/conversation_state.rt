@@ -1,6 +1,6 @@
-//! The state of a conversation, in plain numbers.
+//! The state of a conversation as plain numbers.
 
-ghost use Rattle.std.specs.Prelude.{◌≡◌, IfSome, List, Some, [], ◌∷◌, ◌++◌};
+ghost use Rattle.std.specs.Prelude.{◌≡◌, IfSome, Some};
 ghost use Rattle.mysql_conversation.specs.ConversationState as spec;
 ghost use Rattle.mysql_conversation.specs.ConversationState.{after_at, request_at, state_at};
 
@@ -9,19 +9,16 @@ use crate::state::{After, Request, State};
 use crate::step::row_at;
 use mysql_replies::SessionCapabilities;
 
-/// The state of a conversation in plain numbers, to be kept in a struct of C, for example.
-///
-/// [`Conversation::state`](crate::Conversation::state) returns it, and [`Conversation::from_state`](crate::Conversation::from_state)
-/// continues from it. The numbers are valid for this version of the library only.
+/// The state of a conversation as plain numbers: that of the current exchange of a [`PipelineState`](crate::PipelineState).
 #[derive(Clone, Copy, Debug, PartialEq, Eq)]
 pub struct ConversationState {
-    /// The phase that it began in.
+    /// The phase in which the conversation began.
     pub opening: InitialPhase,
-    /// What comes next.
+    /// The kind of state: which packet may come next.
     pub place: u8,
-    /// The request that asked for it.
+    /// The request for the current results.
     pub request: u8,
-    /// What follows the definitions.
+    /// The part that follows the definitions.
     pub after: u8,
     /// The number of definitions after the next one.
     pub definitions: u64,
@@ -30,21 +27,11 @@ pub struct ConversationState {
 }
 
 impl ConversationState {
-    ghost use Rattle.mysql_conversation.specs.Conversation.{Packet};
-    ghost use Rattle.mysql_conversation.specs.ConversationState.{IsState, TakenAt};
-    ghost use Rattle.mysql_conversation.specs.Taken.{packet};
-    ghost use Rattle.mysql_conversation.specs.declared.packet_kind.Side.TheVariants as side;
-
-    /// Returns the kind of the server's next payload if its first byte says that it is a row. The state stays as it is. Any other payload
-    /// is for [`Conversation::next`](crate::Conversation::next).
-    ///
-    /// ```
-    /// state.row(agreed, payload)
-    /// ```
+    /// Returns the kind of the server's next payload if its first byte says that it is a row. The state is
+    /// unchanged.
     #[inline(always)]
-    pub fn row(&self, agreed: SessionCapabilities, payload: &[u8]) -> Option<PacketKind>
-        ensures taken { IfSome result (λ kind. (items : List Packet) → TakenAt agreed self.now items → TakenAt agreed self.now (items ++ packet side.Server payload.now kind ∷ [])) }
-        ensures state { IfSome result (λ _. IsState self.now) }
+    pub(crate) fn row(&self, agreed: SessionCapabilities, payload: &[u8]) -> Option<PacketKind>
+        ensures stays { IfSome result (λ kind. spec.Stays agreed self.now payload.now kind) }
     {
         // The state in a row, as in `state_at`.
         if self.place != 7 {
@@ -55,7 +42,7 @@ impl ConversationState {
     }
 }
 
-/// A place at which nothing is counted.
+/// Returns the numbers of a state without counts.
 fn at(opening: InitialPhase, place: u8, request: u8) -> ConversationState
     ensures { result ≡ spec.at opening place request }
 {
@@ -80,7 +67,7 @@ fn number_of(request: Request) -> u8
     }
 }
 
-/// The state before a definition that is followed by `definitions` others.
+/// Returns the state before a definition that is followed by `definitions` others.
 fn at_definitions(
     opening: InitialPhase,
     place: u8,
@@ -110,7 +97,7 @@ fn at_definitions(
     state
 }
 
-/// Of a change of user, or of a login.
+/// The number of a login's or a change of user's authentication.
 fn asked_number(is_login: bool, is_asked: bool) -> u8
     ensures value { result ≡ spec.asked_number is_login is_asked }
 {
@@ -122,7 +109,7 @@ fn asked_number(is_login: bool, is_asked: bool) -> u8
     }
 }
 
-/// The numbers of a state.
+/// Returns the numbers of a state.
 pub(crate) fn numbers_of(opening: InitialPhase, state: State) -> ConversationState
     ensures opening { result.opening ≡ opening }
     ensures state { state_at result ≡ Some state }
@@ -198,7 +185,7 @@ fn after_at(numbers: &ConversationState) -> Option<After>
     }
 }
 
-/// The state of these numbers, where they are of one.
+/// Returns the state of these numbers, or `None` if they are not those of a state.
 pub(crate) fn state_at(numbers: &ConversationState) -> Option<State>
     ensures { result ≡ state_at numbers.now }
 {

@@ -1,4 +1,4 @@
-//! The kinds that may come next.
+//! The kinds of packets that may come next.
 
 ghost use Rattle.std.specs.Prelude.{◌≡◌, ◌==◌};
 ghost use Rattle.mysql_conversation.specs.Expected as spec;
@@ -11,7 +11,7 @@ use crate::state::{Request, State};
 use crate::step::reports;
 use mysql_replies::SessionCapabilities;
 
-/// Of the client.
+/// Whether the client may send a packet of this kind.
 fn is_sent(state: &State, name: PacketKindTag) -> bool
     ensures { result ≡ is_in name (spec.sent_names state.now) }
 {
@@ -28,7 +28,7 @@ fn is_sent(state: &State, name: PacketKindTag) -> bool
     }
 }
 
-/// Whether an end is so named.
+/// Whether this is the kind of an end.
 fn is_end(deprecates: bool, name: PacketKindTag) -> bool
     ensures { result ≡ index name == index (spec.end_name deprecates) }
 {
@@ -39,7 +39,7 @@ fn is_end(deprecates: bool, name: PacketKindTag) -> bool
     }
 }
 
-/// Whether a row is so named.
+/// Whether this is the kind of a row.
 fn is_row(request: Request, name: PacketKindTag) -> bool
     ensures { result ≡ index name == index (spec.row_name request) }
 {
@@ -49,7 +49,7 @@ fn is_row(request: Request, name: PacketKindTag) -> bool
     }
 }
 
-/// The server's packets before the login is done.
+/// Whether the server may send a packet of this kind before the login is done.
 fn is_asked(factors: bool, name: PacketKindTag) -> bool
     ensures { result ≡ is_in name (spec.asked_names factors) }
 {
@@ -63,7 +63,7 @@ fn is_asked(factors: bool, name: PacketKindTag) -> bool
     }
 }
 
-/// Of the server, where it is neither an error nor a report of progress.
+/// Whether the server may send a packet of this kind, other than an error or a progress report.
 fn is_served(agreed: SessionCapabilities, state: &State, name: PacketKindTag) -> bool
     ensures { result ≡ is_in name (spec.served_names agreed state.now) }
 {
@@ -92,7 +92,7 @@ fn is_served(agreed: SessionCapabilities, state: &State, name: PacketKindTag) ->
     }
 }
 
-/// A packet that begins with `ff` and is no progress report.
+/// Whether a packet that begins with `ff`, and is no progress report, has this kind.
 fn is_error(state: &State, name: PacketKindTag) -> bool
     ensures { result ≡ is_in name (spec.error_names state.now) }
 {
@@ -104,7 +104,7 @@ fn is_error(state: &State, name: PacketKindTag) -> bool
     }
 }
 
-/// Whether the connection is over after such a packet of the server.
+/// Whether the connection is over after a server packet of this kind.
 pub(crate) fn shuts(state: &State, name: PacketKindTag) -> bool
     ensures { result ≡ is_in name (spec.shutting_names state.now) }
 {
@@ -154,7 +154,7 @@ pub(crate) fn asks(name: PacketKindTag) -> bool
     )
 }
 
-/// The first packet of a session.
+/// Whether this is the kind of a session's first packet.
 pub(crate) fn is_greeting(from: Side, name: PacketKindTag) -> bool
     ensures { result ≡ is_in name (spec.greeting_names from) }
 {
@@ -167,7 +167,7 @@ pub(crate) fn is_greeting(from: Side, name: PacketKindTag) -> bool
     }
 }
 
-/// The answer to the greeting, in TLS or not.
+/// Whether this is the kind of the answer to the greeting, in TLS or not.
 pub(crate) fn is_login(in_tls: bool, from: Side, name: PacketKindTag) -> bool
     ensures { result ≡ is_in name (spec.login_names in_tls from) }
 {
@@ -180,7 +180,7 @@ pub(crate) fn is_login(in_tls: bool, from: Side, name: PacketKindTag) -> bool
     }
 }
 
-/// The answer to a client packet that is no login.
+/// Whether this is the kind of the answer to a client packet that is no login.
 pub(crate) fn is_login_error(from: Side, name: PacketKindTag) -> bool
     ensures { result ≡ is_in name (spec.login_error_names from) }
 {

@@ -1,4 +1,4 @@
-//! Where a session stands before its conversation, in plain numbers.
+//! The state of a session before its conversation, as plain numbers.
 
 ghost use Rattle.std.specs.Prelude.{◌≡◌, ◌↔◌, IfErr, IfOk, IfSome, IsSome, List};
 ghost use Rattle.mysql_conversation.specs.LoginState as spec;
@@ -13,19 +13,20 @@ use mysql_replies::SessionCapabilities;
 use mysql_wire::{CapabilityFlags, MariadbCapabilities};
 use std::alloc::Global;
 
-/// The state of a session before its conversation in plain numbers, to be kept in a struct of C, for example.
+/// The state of a session before its conversation as plain numbers, which can be kept in a C struct, for example.
 ///
-/// [`Session::login_state`] returns it, and [`Session::from_login_state`] continues from it. The numbers are valid for this version of the
-/// library only.
+/// [`Session::login_state`] returns it, and [`Session::from_login_state`] continues from it. The numbers are
+/// valid for this version of the library only.
 #[derive(Clone, Copy, Debug, PartialEq, Eq)]
 pub struct LoginState {
-    /// What comes next: the greeting (0), the login (1), the login in TLS (2), the error that refuses the login (3), or nothing (4).
+    /// The packet that comes next: the greeting (0), the login (1), the login in TLS (2), the error that
+    /// refuses the login (3), or none (4).
     pub place: u8,
     /// The capabilities of the server, once it has sent its greeting.
     pub server: SessionCapabilities,
 }
 
-/// A place at which nothing is known of the server.
+/// Returns a state in which the server's capabilities are unknown.
 fn at(place: u8) -> LoginState
     ensures place { result.place ≡ place }
 {
@@ -39,8 +40,8 @@ fn at(place: u8) -> LoginState
 }
 
 impl Session {
-    /// Continues a session from its state before the conversation. Returns `None` if the number is of no place. After a request for TLS the
-    /// packets that follow are decrypted.
+    /// Continues a session from its state before the conversation. Returns `None` if the number is not that of
+    /// a state. After a request for TLS, the following payloads are the decrypted ones.
     ///
     /// ```
     /// Session::from_login_state(alloc, 16, &state)
@@ -67,7 +68,8 @@ impl Session {
         })
     }
 
-    /// Returns the state before the conversation in plain numbers, or else what both sides agreed on.
+    /// Returns the state before the conversation as plain numbers, or, once the conversation has begun, the
+    /// agreed capabilities as the error.
     ///
     /// ```
     /// session.login_state()

@@ -1,13 +1,13 @@
 //! The kinds of packets.
 
-/// Who sends a packet.
+/// The sender of a packet.
 ///
 /// ```
 /// for reply in replies {
-///     let (kind, command) = pipeline.next(Side::Server, reply)?;
-///     if let PacketKind::Error = kind {
-///         return Ok(command == 2);
-///     }
+/// let (kind, command) = pipeline.next(Side::Server, reply)?;
+/// if let PacketKind::Error = kind {
+///     return Ok(command == 2);
+/// }
 /// }
 /// Ok(false)
 /// ```
@@ -22,20 +22,20 @@ pub enum Side {
 /// The format of the values of rows.
 #[derive(Clone, Copy, Debug, PartialEq, Eq)]
 pub enum RowFormat {
-    /// In text: the answer to a query.
+    /// Text, in the answer to a query.
     Text,
-    /// In binary: the answer to an execution.
+    /// Binary, in the answer to an execution.
     Binary,
 }
 
-/// The kind of a packet, with what the packet's place says of it.
+/// The kind of a packet, with the data that depends on the kind.
 ///
 /// ```
 /// for reply in replies {
-///     let (kind, command) = pipeline.next(Side::Server, reply)?;
-///     if let PacketKind::Error = kind {
-///         return Ok(command == 2);
-///     }
+/// let (kind, command) = pipeline.next(Side::Server, reply)?;
+/// if let PacketKind::Error = kind {
+///     return Ok(command == 2);
+/// }
 /// }
 /// Ok(false)
 /// ```
@@ -47,9 +47,9 @@ pub enum PacketKind {
     SslRequest,
     /// The client's response to the greeting.
     Login,
-    /// Of the server, while a client logs in or changes its user: a switch of the plugin.
+    /// The server's request for another authentication plugin, during a login or a change of user.
     AuthSwitch,
-    /// A switch to the old plugin, the byte `fe` alone.
+    /// A switch to the old plugin: the single byte `fe`.
     OldAuthSwitch,
     /// Further authentication data, after the byte `01`.
     AuthMoreData,
@@ -63,13 +63,13 @@ pub enum PacketKind {
     Command(u8),
     /// An OK packet.
     Ok,
-    /// An error. It ends what a command asked for.
+    /// An error. It ends the answer to a command.
     Error,
     /// An error that answers no command: the server ends the connection.
     UnsolicitedError,
-    /// A report of progress.
+    /// A progress report.
     ProgressReport,
-    /// The server asks for a local file.
+    /// The server's request for a local file.
     LocalInfile,
     /// A part of the file.
     InfileContent,
@@ -81,7 +81,7 @@ pub enum PacketKind {
     Column,
     /// The definition of a column in the answer to `COM_FIELD_LIST`, with its default value.
     FieldListColumn,
-    /// An EOF packet: the end of definitions and of rows, and of a stream of events under any capabilities.
+    /// An EOF packet: the end of definitions or rows, or, under any capabilities, of a stream of events.
     Eof,
     /// The end of rows as an OK packet, under `CLIENT_DEPRECATE_EOF`.
     OkTerminator,
@@ -91,11 +91,11 @@ pub enum PacketKind {
     PrepareOk(u16, u16, bool),
     /// The text in the answer to `COM_STATISTICS`.
     Statistics,
-    /// An event of a stream.
+    /// An event of a binary log stream.
     BinlogEvent,
     /// A replica's acknowledgement of an event.
     SemiSyncAck,
-    /// After `COM_CLONE`, a packet of the clone plugin's own protocol, of either side.
+    /// After `COM_CLONE`, a packet of the clone plugin's own protocol, from either side.
     Clone,
 }
 
@@ -120,7 +120,7 @@ pub struct UnexpectedPacket;
 /// ```
 #[derive(Clone, Copy, Debug, PartialEq, Eq)]
 pub enum InitialPhase {
-    /// After the login: the server authenticates the client.
+    /// After the greeting and the client's response: the server authenticates the client.
     Login,
     /// Between two commands.
     Commands,

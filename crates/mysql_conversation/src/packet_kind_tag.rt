@@ -5,7 +5,7 @@ ghost use Rattle.mysql_conversation.specs.PacketKindTag as spec;
 
 use crate::packet_kind::{PacketKind, RowFormat};
 
-/// A kind of packet without data: as [`PacketKind`], where [`PacketKind::Row`] is either a text row or a binary row.
+/// A kind of packet without its data: a [`PacketKind`], with separate variants for text rows and binary rows.
 ///
 /// ```
 /// if !connection.may_receive(PacketKindTag::Column) {
@@ -20,9 +20,9 @@ pub enum PacketKindTag {
     SslRequest,
     /// The client's response to the greeting.
     Login,
-    /// Of the server, while a client logs in or changes its user: a switch of the plugin.
+    /// The server's request for another authentication plugin, during a login or a change of user.
     AuthSwitch,
-    /// A switch to the old plugin, the byte `fe` alone.
+    /// A switch to the old plugin: the single byte `fe`.
     OldAuthSwitch,
     /// Further authentication data, after the byte `01`.
     AuthMoreData,
@@ -36,13 +36,13 @@ pub enum PacketKindTag {
     Command,
     /// An OK packet.
     Ok,
-    /// An error. It ends what a command asked for.
+    /// An error. It ends the answer to a command.
     Error,
     /// An error that answers no command: the server ends the connection.
     UnsolicitedError,
-    /// A report of progress.
+    /// A progress report.
     ProgressReport,
-    /// The server asks for a local file.
+    /// The server's request for a local file.
     LocalInfile,
     /// A part of the file.
     InfileContent,
@@ -54,7 +54,7 @@ pub enum PacketKindTag {
     Column,
     /// The definition of a column in the answer to `COM_FIELD_LIST`, with its default value.
     FieldListColumn,
-    /// An EOF packet: the end of definitions and of rows, and of a stream of events under any capabilities.
+    /// An EOF packet: the end of definitions or rows, or, under any capabilities, of a stream of events.
     Eof,
     /// The end of rows as an OK packet, under `CLIENT_DEPRECATE_EOF`.
     OkTerminator,
@@ -66,11 +66,11 @@ pub enum PacketKindTag {
     PrepareOk,
     /// The text in the answer to `COM_STATISTICS`.
     Statistics,
-    /// An event of a stream.
+    /// An event of a binary log stream.
     BinlogEvent,
     /// A replica's acknowledgement of an event.
     SemiSyncAck,
-    /// After `COM_CLONE`, a packet of the clone plugin's own protocol, of either side.
+    /// After `COM_CLONE`, a packet of the clone plugin's own protocol, from either side.
     Clone,
 }
 
@@ -155,7 +155,7 @@ impl PacketKindTag {
 }
 
 impl PacketKind {
-    /// Returns the kind without what the packet says of itself.
+    /// Returns the kind without its data.
     pub fn name(self) -> PacketKindTag
         ensures value { result ≡ spec.name_of self }
     {

@@ -11,15 +11,15 @@ use crate::agreed::{asks_factors, deprecates_eof, reports_progress};
 use crate::packet_kind::{PacketKind, RowFormat};
 use crate::state::{Answer, Command, Line, Reply, Request};
 use bitflags::Flags;
-use mysql_prepared::StmtPacketWithMetadata;
 use mysql_replies::{
     ColumnCount, CommonOkPacket, OkPacketRefDeserializer, OldEofPacket, ResultSetTerminator,
     SessionCapabilities,
 };
+use mysql_stmt::StmtPacketWithMetadata;
 use mysql_wire::{FaultOf, ParseBuf, StatusFlags, command_code as com};
 use std::alloc::Global;
 
-/// The mark of semi-synchronous replication, which begins an acknowledgement.
+/// The first byte of an acknowledgement in semi-synchronous replication.
 pub(crate) const SEMI_SYNC_MARK: u8 = 0xef;
 
 #[inline(always)]
@@ -46,7 +46,7 @@ pub(crate) fn first_is(byte: u8, payload: &[u8]) -> bool
     }
 }
 
-/// Whether the first byte says that it is a row, among rows.
+/// Whether the first byte says that a packet among rows is a row.
 #[inline(always)]
 pub(crate) fn is_row_by_first(format: RowFormat, payload: &[u8]) -> bool
     ensures { IsTrue result → (payloads.first_is 0xff payload.now ≡ false) × (payloads.first_is 0xfe payload.now ≡ false) × (spec.row_of format payload.now ≡ Some Row) }
@@ -60,7 +60,7 @@ pub(crate) fn is_row_by_first(format: RowFormat, payload: &[u8]) -> bool
     }
 }
 
-/// Whether it is a report of progress, where those are agreed on.
+/// Whether a packet is a progress report, if those are agreed on.
 #[tactic(auto, unfolding(crate::specs::Payloads::is_report))]
 #[inline(always)]
 pub(crate) fn is_report(agreed: SessionCapabilities, payload: &[u8]) -> bool
@@ -80,7 +80,7 @@ fn is_one_byte(payload: &[u8]) -> bool
     matches!(payload, [_])
 }
 
-/// Whether an execution asks for a cursor.
+/// Whether an execution requests a cursor.
 #[inline(always)]
 fn asks_cursor(payload: &[u8]) -> bool
     ensures { result ≡ payloads.asks_cursor payload.now }
@@ -269,9 +269,9 @@ pub(crate) fn authentication_kind(agreed: SessionCapabilities, payload: &[u8]) -
     PacketKind::AuthPluginData
 }
 
-/// The answer to a command with this first byte, if it is one.
+/// Returns the form of the answer to a command with this first byte, if there is one.
 #[inline(always)]
-fn answering(code: u8, cursor: bool) -> Option<Answer>
+pub(crate) fn answering(code: u8, cursor: bool) -> Option<Answer>
     ensures { result ≡ grammar.answering code cursor }
 {
     match code {
@@ -309,7 +309,7 @@ fn answering(code: u8, cursor: bool) -> Option<Answer>
     }
 }
 
-/// The first byte of a command: a server takes an empty packet for `COM_SLEEP`.
+/// The first byte of a command: a server treats an empty packet as `COM_SLEEP`.
 #[inline(always)]
 fn code_of(payload: &[u8]) -> u8
     ensures { result ≡ grammar.code_of payload.now }
@@ -320,7 +320,7 @@ fn code_of(payload: &[u8]) -> u8
     }
 }
 
-/// The command that a payload is, if it is one.
+/// Returns the command of a payload, if it is one.
 #[inline(always)]
 pub(crate) fn command_of(payload: &[u8]) -> Option<Command>
     ensures { result ≡ standing.command_of payload.now }

@@ -20,14 +20,14 @@ use std::alloc::Global;
 use std::collections::VecDeque;
 use thiserror::Error;
 
-/// A command that waits, and its number.
+/// A waiting command, and its number.
 #[derive(Clone, Copy, Debug, PartialEq, Eq)]
 pub(crate) struct Waiting {
     pub(crate) command: Command,
     pub(crate) number: u64,
 }
 
-/// The error of a session or a pipeline: the packet is not taken, and the state is unchanged.
+/// The error of a session or a pipeline. The packet is not accepted, and the state is unchanged.
 #[derive(Clone, Copy, Debug, PartialEq, Eq, Error)]
 pub enum SessionError {
     /// The packet may not come next.
@@ -42,7 +42,8 @@ pub enum SessionError {
     /// The connection continues in TLS, and the payload is not decrypted. Only a session returns it.
     #[error("the connection is encrypted")]
     Encrypted,
-    /// Both sides agreed on compression, so the bytes after the login are compressed packets. Only a session returns it.
+    /// Both sides agreed on compression, so the bytes after the login are compressed packets. Only a session
+    /// returns it.
     #[error("the connection is compressed")]
     Compressed,
 }
@@ -58,7 +59,7 @@ fn waits(waiting: &VecDeque<Waiting>) -> bool
     }
 }
 
-/// Whether the last command that waits is `COM_QUIT`.
+/// Whether the last waiting command is `COM_QUIT`.
 #[inline(always)]
 fn quits(waiting: &VecDeque<Waiting>) -> bool
     ensures { result ≡ spec.quits waiting.now.items }
@@ -71,8 +72,8 @@ fn quits(waiting: &VecDeque<Waiting>) -> bool
 
 /// A conversation in which commands may precede the answers to earlier ones.
 ///
-/// At most `limit` commands wait, each in 24 bytes. With a limit of 0 it does not allocate, and returns [`SessionError::Full`] for a
-/// command that would have to wait.
+/// At most `limit` commands wait, each in 24 bytes. With a limit of 0 it does not allocate, and returns the
+/// error [`SessionError::Full`] for a command that would have to wait.
 ///
 /// ```
 /// for reply in replies {
@@ -127,7 +128,7 @@ impl Pipeline {
         }
     }
 
-    /// Returns the number of commands that may wait.
+    /// Returns the maximum number of waiting commands.
     pub fn limit(&self) -> usize
         ensures { result ≡ piped.limit self.now }
     {
@@ -176,7 +177,7 @@ impl Pipeline {
         }
     }
 
-    /// Begins the next exchange that waits, if the current one is over.
+    /// Begins the next waiting exchange, if the current one is over.
     fn settle(&mut self)
         ensures settled { stands self.new ≡ spec.settle self.old.state self.old.number self.old.last self.old.waiting.items }
         ensures capacity { piped.capacity self.new ≡ piped.capacity self.old }
@@ -195,7 +196,7 @@ impl Pipeline {
         }
     }
 
-    /// Returns the payload's kind and the number of the command whose exchange it belongs to: the first is 1.
+    /// Returns the payload's kind, and the number of the command whose exchange it belongs to, from 1.
     #[inline]
     pub fn next(&mut self, from: Side, payload: &[u8]) -> Result<(PacketKind, u64), SessionError>
         // The packet, with this kind and number, is appended to what was taken.
@@ -226,7 +227,7 @@ impl Pipeline {
         }
     }
 
-    /// A packet of the client.
+    /// Takes a packet of the client.
     #[inline(never)]
     fn take_client(&mut self, payload: &[u8]) -> Result<(PacketKind, u64), SessionError>
         ensures taken { IfOk result (λ x. spec.pipe_step self.old.agreed (stands self.old) side.Client payload.now ≡ Some (x.0, x.1, stands self.new)) }
@@ -264,7 +265,7 @@ impl Pipeline {
         Ok((kind, self.number))
     }
 
-    /// Takes a client's packet that is no command, while the server is to send: it follows all commands so far.
+    /// Takes a client's packet that is no command, while the server is due to send: it follows all commands so far.
     fn set_aside(
         &mut self,
         kind: PacketKind,
@@ -319,7 +320,7 @@ impl Pipeline {
         Ok((PacketKind::Command(command.code), number))
     }
 
-    /// A packet of the server. A row changes nothing.
+    /// Takes a packet of the server. A row changes nothing.
     #[inline(always)]
     #[tactic(auto, using(crate::proofs::PipeSteps::served_stays))]
     fn take_server(&mut self, payload: &[u8]) -> Result<(PacketKind, u64), SessionError>
@@ -337,7 +338,7 @@ impl Pipeline {
         }
     }
 
-    /// A packet of the server, whichever it is.
+    /// Takes a packet of the server of any kind.
     // Not inlined, so that a row doesn't pay for it.
     #[inline(never)]
     fn take_any_served(&mut self, payload: &[u8]) -> Result<(PacketKind, u64), SessionError>

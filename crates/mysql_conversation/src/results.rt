@@ -1,4 +1,4 @@
-//! Results: the kind of a packet that is no error, and the state after it.
+//! Steps over results: the kind of a packet that is no error, and the state after it.
 
 ghost use Rattle.std.specs.Prelude.{◌≡◌, IfSome, IfNone, Some, None};
 ghost use Rattle.mysql_conversation.specs.Agreements as agreements;
@@ -11,12 +11,12 @@ use crate::agreed::deprecates_eof;
 use crate::packet_kind::PacketKind;
 use crate::payload::{first_is, has_more, old_end_of, opens_cursor, statement_at};
 use crate::state::{After, Line, Reply, Request, State, format_of};
-use mysql_prepared::StmtPacketWithMetadata;
 use mysql_replies::SessionCapabilities;
+use mysql_stmt::StmtPacketWithMetadata;
 use mysql_wire::StatusFlags;
 use std::alloc::Global;
 
-/// After definitions.
+/// Returns the state after the definitions.
 #[inline(always)]
 fn enter(after: After) -> State
     ensures { result ≡ spec.enter after }
@@ -32,7 +32,7 @@ fn enter(after: After) -> State
     }
 }
 
-/// The state before `count` definitions.
+/// Returns the state before `count` definitions.
 #[inline(always)]
 fn define(count: u64, after: After) -> State
     ensures { result ≡ spec.define count after }
@@ -43,7 +43,7 @@ fn define(count: u64, after: After) -> State
     }
 }
 
-/// The state after a definition that is followed by `left` others.
+/// Returns the state after a definition that is followed by `left` others.
 #[inline(always)]
 pub(crate) fn less(deprecates: bool, left: u64, after: After) -> State
     ensures { result ≡ spec.less deprecates left after }
@@ -55,7 +55,7 @@ pub(crate) fn less(deprecates: bool, left: u64, after: After) -> State
     }
 }
 
-/// The state at the end of a result.
+/// Returns the state at the end of a result.
 #[inline(always)]
 fn ended(request: Request, more: bool) -> State
     ensures { result ≡ spec.ended request more }
@@ -67,7 +67,7 @@ fn ended(request: Request, more: bool) -> State
     }
 }
 
-/// After a count.
+/// Returns the state after a column count.
 #[inline(always)]
 fn counted(deprecates: bool, count: u64, follow: bool, after: After) -> State
     ensures { result ≡ spec.counted deprecates count follow after }
@@ -81,7 +81,7 @@ fn counted(deprecates: bool, count: u64, follow: bool, after: After) -> State
     }
 }
 
-/// The form of an end.
+/// Returns the kind of an end.
 #[inline(always)]
 fn ending(deprecates: bool) -> PacketKind
     ensures { result ≡ grammar.ending deprecates }
@@ -93,7 +93,7 @@ fn ending(deprecates: bool) -> PacketKind
     }
 }
 
-/// The first packet of a result.
+/// Takes the first packet of a result.
 #[inline(always)]
 pub(crate) fn reply_step(
     state: &mut State,
@@ -120,7 +120,7 @@ pub(crate) fn reply_step(
     }
 }
 
-/// The answer to a file.
+/// Takes the answer to a file.
 #[inline(always)]
 pub(crate) fn infile_reply_step(
     state: &mut State,
@@ -139,7 +139,7 @@ pub(crate) fn infile_reply_step(
     }
 }
 
-/// After the EOF packet of a result's definitions.
+/// Takes the EOF packet after a result's definitions.
 #[inline(always)]
 fn columns_step(state: &mut State, status: StatusFlags, request: Request) -> PacketKind
     ensures { spec.columns_step status request ≡ Some (result, state.new) }
@@ -152,7 +152,7 @@ fn columns_step(state: &mut State, status: StatusFlags, request: Request) -> Pac
     PacketKind::Eof
 }
 
-/// The EOF packet after definitions.
+/// Takes the EOF packet after definitions.
 #[inline(always)]
 pub(crate) fn definitions_end_step(
     state: &mut State,
@@ -176,7 +176,7 @@ pub(crate) fn definitions_end_step(
     }
 }
 
-/// A row, or the end.
+/// Takes a row, or the end.
 #[inline(always)]
 pub(crate) fn line_step(
     state: &mut State,
@@ -197,7 +197,7 @@ pub(crate) fn line_step(
     }
 }
 
-/// A packet of this kind, after which another one or the end may come.
+/// Takes a packet of this kind, which another one or the end may follow.
 #[inline(always)]
 pub(crate) fn last_step(
     state: &mut State,
@@ -217,7 +217,7 @@ pub(crate) fn last_step(
     }
 }
 
-/// An event, or the EOF packet after the last, which is no OK packet under any capabilities.
+/// Takes an event, or the EOF packet after the last, which is no OK packet under any capabilities.
 #[inline(always)]
 pub(crate) fn event_step(
     alloc: Global,
@@ -237,7 +237,7 @@ pub(crate) fn event_step(
     Some(PacketKind::Eof)
 }
 
-/// Whether the definitions of a prepared statement follow: they do where no byte says so.
+/// Whether the definitions of a prepared statement follow: they do if no byte says otherwise.
 #[inline(always)]
 fn definitions_follow(statement: &StmtPacketWithMetadata) -> bool
     ensures { result ≡ payloads.definitions_follow statement.now }
@@ -248,7 +248,7 @@ fn definitions_follow(statement: &StmtPacketWithMetadata) -> bool
     }
 }
 
-/// The state if the definitions of `columns` columns are omitted, and EOF packets are not.
+/// Returns the state if the definitions of `columns` columns are omitted, and EOF packets are not.
 #[inline(always)]
 fn column_end(columns: u16) -> State
     ensures { result ≡ spec.column_end columns }
@@ -259,8 +259,9 @@ fn column_end(columns: u16) -> State
     }
 }
 
-/// The state if those of `params` parameters are omitted too: an EOF packet follows the parameters and one the columns, if
-/// there are any (`THD::send_result_metadata` in MySQL's `sql/sql_class.cc`).
+/// Returns the state if the definitions of `params` parameters are omitted too: an EOF packet follows the
+/// parameters and one the columns, if there are any (`THD::send_result_metadata` in MySQL's
+/// `sql/sql_class.cc`).
 #[inline(always)]
 fn param_end(params: u16, columns: u16) -> State
     ensures { result ≡ spec.param_end params columns }
@@ -274,7 +275,7 @@ fn param_end(params: u16, columns: u16) -> State
     }
 }
 
-/// The answer to a preparation.
+/// Takes the answer to a preparation.
 #[inline(always)]
 pub(crate) fn prepared_step(
     alloc: Global,
@@ -299,7 +300,7 @@ pub(crate) fn prepared_step(
     Some(PacketKind::PrepareOk(columns, params, follow))
 }
 
-/// An OK packet, after which no more results come.
+/// Takes an OK packet that no more results follow.
 #[inline(always)]
 pub(crate) fn last_ok(state: &mut State, next: State, reply: Option<Reply>) -> Option<PacketKind>
     ensures some { IfSome result (λ kind. spec.last_ok next reply ≡ Some (kind, state.new)) }
@@ -317,7 +318,7 @@ pub(crate) fn last_ok(state: &mut State, next: State, reply: Option<Reply>) -> O
     }
 }
 
-/// An OK packet; or an end, where the server may say so.
+/// Takes an OK packet, or an end if the server may send one.
 #[inline(always)]
 pub(crate) fn acknowledgement_step(
     state: &mut State,

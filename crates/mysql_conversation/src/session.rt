@@ -1,4 +1,4 @@
-//! Whole sessions.
+//! Sessions from the greeting on.
 
 ghost use Rattle.std.specs.Prelude.{◌≡◌, ◌≢◌, ◌↔◌, ◌⊎◌, ◌≤◌, ◌<◌, ◌-◌, ◌^◌, IfOk, IfErr, IfSome, IfNone, OnErr, OnOk, IsTrue, List, [], ◌∷◌, ◌++◌, ℕ, true, false, None, Some, length, not, ◌&&◌, Err};
 ghost use Rattle.mysql_auth.specs.declared.ssl_request.SslRequest as login_head;
@@ -23,15 +23,15 @@ use std::alloc::Global;
 /// The phase of a session, with the capabilities of the server.
 #[derive(Drop)]
 pub(crate) enum Phase {
-    /// The greeting, or an error in its place.
+    /// The greeting, or an error instead of it.
     Greeting,
-    /// Nothing: there was an error in place of the greeting or of the login.
+    /// Nothing: there was an error instead of the greeting or of the login.
     Refused,
-    /// The login, or a request to go on in TLS.
+    /// The login, or a request to continue in TLS.
     Login(SessionCapabilities),
     /// The connection continues in TLS.
     Encrypted(SessionCapabilities),
-    /// The login, which the caller has deciphered.
+    /// The login, which the caller has decrypted.
     InTls(SessionCapabilities),
     /// The error that answers a packet that is no login.
     NoLogin,
@@ -49,7 +49,7 @@ fn is_commands(phase: &Phase) -> bool
 
 /// A session from the server's greeting on: takes each payload of both sides and returns its kind.
 ///
-/// Greeting and login decide what both sides agree on; after them it is a [`Pipeline`].
+/// The greeting and the login determine the agreed capabilities; after them it is a [`Pipeline`].
 ///
 /// ```
 /// let mut session = Session::new(alloc, 16); // up to 16 commands may come before the answers to earlier ones
@@ -62,7 +62,7 @@ pub struct Session {
     pub(crate) phase: Phase,
 }
 
-/// The server's capabilities, if the payload is its greeting.
+/// Returns the server's capabilities, if the payload is its greeting.
 #[tactic(auto, using(crate::proofs::Faults::faults), unfolding(crate::specs::SessionSteps::greeting_at))]
 fn greeting(alloc: Global, payload: &[u8]) -> Option<SessionCapabilities>
     ensures { result ≡ greeting_at payload.now }
@@ -78,7 +78,7 @@ fn greeting(alloc: Global, payload: &[u8]) -> Option<SessionCapabilities>
     }
 }
 
-/// The 32 bytes that a login begins with.
+/// Reads the 32 bytes that a login begins with.
 #[tactic(auto, using(crate::proofs::Faults::faults), unfolding(crate::specs::SessionSteps::login_at))]
 fn login(alloc: Global, payload: &[u8]) -> Option<SslRequest>
     ensures { result ≡ login_at payload.now }
@@ -91,7 +91,7 @@ fn login(alloc: Global, payload: &[u8]) -> Option<SslRequest>
     }
 }
 
-/// Whether a login asks to go on in TLS. In TLS each has the flag that does.
+/// Whether a login requests TLS. In TLS the login itself has that flag too.
 fn asks_tls(in_tls: bool, head: &SslRequest) -> bool
     ensures { result ≡ not in_tls && sessions.asks_tls head.now }
 {
@@ -105,7 +105,7 @@ fn has_zero(bytes: &[u8]) -> bool
     bytes.iter().any(|byte| *byte == 0)
 }
 
-/// Whether the user's name ends, after the 32 bytes that a login begins with.
+/// Whether the user's name, after the 32 bytes that a login begins with, is complete.
 fn ends_name(payload: &[u8]) -> bool
     ensures { result ≡ sessions.ends_name payload.now }
 {
@@ -115,7 +115,7 @@ fn ends_name(payload: &[u8]) -> bool
     }
 }
 
-/// Whether it is an error that a server sends in clear: no record of TLS that it sends begins so.
+/// Whether a payload is an error that a server sends unencrypted: no TLS record that it sends begins this way.
 fn is_clear_error(payload: &[u8]) -> bool
     ensures { result ≡ sessions.is_clear_error payload.now }
 {
@@ -160,7 +160,7 @@ impl Session {
         }
     }
 
-    /// Returns the number of commands that may wait.
+    /// Returns the maximum number of waiting commands.
     pub fn limit(&self) -> usize
         ensures { result ≡ sessions.limit self.now }
     {
@@ -170,7 +170,7 @@ impl Session {
         }
     }
 
-    /// Returns what both sides agreed on, once the client has sent its login.
+    /// Returns the capabilities that both sides agreed on, once the client has sent its login.
     #[inline]
     pub fn agreed(&self) -> Option<SessionCapabilities>
         ensures some { IfSome result (λ a. (items : List Numbered) → SessionTaken self.now items → IsLoggedInAmong a items) }
@@ -196,7 +196,7 @@ impl Session {
         }
     }
 
-    /// Whether a packet of this kind may come next from this side. After a request for TLS that is the decrypted login.
+    /// Whether a packet of this kind may come next from this side. After a request for TLS it is the decrypted login.
     pub fn may_receive(&self, from: Side, name: PacketKindTag) -> bool
         ensures { (items : List Numbered) → SessionTaken self.now items → IsTrue result ↔ GoesOn from name items }
     {
@@ -223,8 +223,8 @@ impl Session {
         }
     }
 
-    /// Continues at the next command, in the middle of a connection or after a loss, under what both sides agreed on. The next
-    /// command has the number 1.
+    /// Continues at the next command under the agreed capabilities, in the middle of a connection or after a
+    /// loss. The next command has the number 1.
     pub fn resume(&mut self, agreed: SessionCapabilities)
         ensures resumed { SessionResumed self.new agreed [] }
         ensures limit { sessions.limit self.new ≡ sessions.limit self.old }
@@ -238,7 +238,8 @@ impl Session {
         ));
     }
 
-    /// Returns the payload's kind and the number of the command whose exchange it belongs to: 0 before the first command.
+    /// Returns the payload's kind, and the number of the command whose exchange it belongs to: 0 before the
+    /// first command.
     #[inline]
     pub fn next(&mut self, from: Side, payload: &[u8]) -> Result<(PacketKind, u64), SessionError>
         // The packet, with this kind and number, is appended to what was taken.
@@ -280,7 +281,7 @@ impl Session {
         }
     }
 
-    /// A packet of the server before the conversation.
+    /// Takes a packet of the server before the conversation.
     #[inline(never)]
     fn served(&mut self, payload: &[u8]) -> Result<(PacketKind, u64), SessionError>
         requires before { is_commands self.old.phase ≡ false }
@@ -308,7 +309,7 @@ impl Session {
         }
     }
 
-    /// An error, if it is one: nothing follows it.
+    /// Takes a packet that must be an error, after which nothing follows.
     fn refused(
         &mut self,
         kind: PacketKind,
@@ -327,7 +328,7 @@ impl Session {
         }
     }
 
-    /// A packet of the client before the conversation.
+    /// Takes a packet of the client before the conversation.
     #[inline(never)]
     fn sent(&mut self, payload: &[u8]) -> Result<(PacketKind, u64), SessionError>
         requires before { is_commands self.old.phase ≡ false }
@@ -355,7 +356,7 @@ impl Session {
         }
     }
 
-    /// The greeting, or an error in its place.
+    /// Takes the greeting, or an error instead of it.
     fn greeted(&mut self, payload: &[u8]) -> Result<(PacketKind, u64), SessionError>
         ensures taken { IfOk result (λ x. (x.1 ≡ 0) × (served_before phases.Greeting payload.now ≡ Some (x.0, self.new.phase))) }
         ensures refused { IfErr result (λ why. (why ≡ refusal.UnexpectedPacket) × (served_before phases.Greeting payload.now ≡ None)) }

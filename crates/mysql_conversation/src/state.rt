@@ -12,7 +12,7 @@ pub(crate) enum Request {
     Query,
     /// An execution.
     Execution,
-    /// An execution that asks for a cursor.
+    /// An execution that requests a cursor.
     Cursor,
 }
 
@@ -25,7 +25,7 @@ pub(crate) enum Answer {
     Prepared,
     /// Rows of a cursor.
     Rows,
-    /// An OK packet; or an end, where the server may say so.
+    /// An OK packet, or an end if the server may send one.
     Acknowledgement(bool),
     /// A text.
     Text,
@@ -35,7 +35,7 @@ pub(crate) enum Answer {
     Authentication,
     /// A stream of events.
     Events,
-    /// Nothing.
+    /// No answer.
     Nothing,
     /// No answer, and no command may follow.
     Quit,
@@ -52,14 +52,14 @@ pub(crate) struct Command {
     pub(crate) answer: Answer,
 }
 
-/// What follows the definitions.
+/// The part that follows the definitions.
 #[derive(Clone, Copy, Debug, PartialEq, Eq)]
 pub(crate) enum After {
     /// Rows.
     Rows(Request),
     /// The definitions of a given number of columns.
     Columns(u64),
-    /// The EOF packet of columns whose definitions are left out.
+    /// The EOF packet of columns whose definitions are omitted.
     End,
     /// Nothing.
     Rest,
@@ -70,13 +70,14 @@ pub(crate) enum After {
 pub(crate) enum State {
     /// A command.
     Rest,
-    /// A packet of authentication, of a login or of a change of user: of the server, and if it asked for something, of the client too.
+    /// A packet of authentication, during a login or a change of user: from the server, and after a request of
+    /// the server also from the client.
     Authentication(bool, bool),
     /// The first packet of a result.
     Reply(Request),
     /// A part of a file, or its end.
     Infile(Request),
-    /// The answer to a file.
+    /// The server's answer to a file.
     InfileReply(Request),
     /// A definition, and this many after it.
     Definitions(u64, After),
@@ -88,7 +89,7 @@ pub(crate) enum State {
     Prepared,
     /// A row of a cursor, or the end.
     Fetch,
-    /// An OK packet; or an end, where the server may say so.
+    /// An OK packet, or an end if the server may send one.
     Acknowledgement(bool),
     /// A text.
     Text,
@@ -100,7 +101,7 @@ pub(crate) enum State {
     SessionError,
     /// The OK packet in the answer to `COM_CLONE`.
     CloneReply,
-    /// A packet of the clone plugin's own protocol, of either side.
+    /// A packet of the clone plugin's own protocol, from either side.
     Clone,
     /// After `COM_QUIT`: nothing, or an error.
     Quit,

@@ -19,7 +19,7 @@ use crate::state::{Answer, Request, State, format_of};
 use mysql_replies::SessionCapabilities;
 use std::alloc::Global;
 
-/// The first state of a conversation.
+/// Returns the first state of a conversation.
 #[inline(always)]
 pub(crate) fn entrance(opening: InitialPhase) -> State
     ensures { result ≡ spec.entrance opening }
@@ -30,7 +30,7 @@ pub(crate) fn entrance(opening: InitialPhase) -> State
     }
 }
 
-/// The first state of an answer.
+/// Returns the first state of an answer.
 #[inline(always)]
 pub(crate) fn answers(answer: Answer) -> State
     ensures { result ≡ spec.answers answer }
@@ -51,7 +51,7 @@ pub(crate) fn answers(answer: Answer) -> State
     }
 }
 
-/// A command.
+/// Takes a command.
 #[inline(always)]
 #[tactic(auto, using(crate::proofs::Turns::rest_command))]
 fn command_step(state: &mut State, payload: &[u8]) -> Option<PacketKind>
@@ -63,7 +63,7 @@ fn command_step(state: &mut State, payload: &[u8]) -> Option<PacketKind>
     Some(PacketKind::Command(command.code))
 }
 
-/// A part of a file, or its end.
+/// Takes a part of a file, or its end.
 #[inline(always)]
 fn infile_step(state: &mut State, request: Request, payload: &[u8]) -> Option<PacketKind>
     requires { state.old ≡ spec_state.Infile request }
@@ -92,7 +92,7 @@ fn answer_step(state: &mut State, is_login: bool, asked: bool) -> Option<PacketK
     }
 }
 
-/// An acknowledgement of an event.
+/// Takes an acknowledgement of an event.
 #[inline(always)]
 fn ack_step(state: &State, payload: &[u8]) -> Option<PacketKind>
     requires { state.now ≡ spec_state.Events }
@@ -106,7 +106,7 @@ fn ack_step(state: &State, payload: &[u8]) -> Option<PacketKind>
     }
 }
 
-/// A packet of the client.
+/// Takes a packet of the client.
 #[inline(always)]
 fn client_step(state: &mut State, payload: &[u8]) -> Option<PacketKind>
     ensures some { IfSome result (λ kind. spec.client_step state.old payload.now ≡ Some (kind, state.new)) }
@@ -145,7 +145,7 @@ fn authentication_step(
     Some(authentication_kind(agreed, payload))
 }
 
-/// A packet of the server that is no error.
+/// Takes a packet of the server that is no error.
 #[inline(always)]
 fn serve(
     alloc: Global,
@@ -262,7 +262,7 @@ pub(crate) fn is_due(state: &State) -> bool
     }
 }
 
-/// Whether a progress report may come: while a command is answered, and the client is not asked for anything.
+/// Whether a progress report may come: while a command is answered, and no packet of the client is requested.
 #[inline(always)]
 pub(crate) fn reports(state: &State) -> bool
     ensures { result ≡ spec.reports state.now }
@@ -270,7 +270,7 @@ pub(crate) fn reports(state: &State) -> bool
     is_due(state) && !matches!(state, State::Authentication(true, _))
 }
 
-/// An error: in an exchange, of a login, which ends the connection, or in none, which does too.
+/// Takes an error: in an exchange, in a login, which ends the connection, or outside of any exchange, which does too.
 #[inline(always)]
 fn error_step(state: &mut State) -> Option<PacketKind>
     ensures some { IfSome result (λ kind. spec.error_step state.old ≡ Some (kind, state.new)) }
@@ -294,7 +294,7 @@ fn error_step(state: &mut State) -> Option<PacketKind>
     }
 }
 
-/// A packet of the server.
+/// Takes a packet of the server.
 #[inline(always)]
 #[tactic(auto, using(crate::proofs::Begun::no_report))]
 fn server_step(
@@ -353,7 +353,7 @@ pub(crate) fn take_sent(
     }
 }
 
-/// The row that a packet of the server is, if its first byte says so. The state stays.
+/// Returns the row that a packet of the server is, if its first byte says so. The state is unchanged.
 #[inline(always)]
 #[tactic(auto, using(crate::proofs::Begun::no_report))]
 pub(crate) fn row_at(

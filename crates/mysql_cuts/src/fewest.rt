@@ -1,4 +1,4 @@
-//! Whether a cut of rows into requests is a fewest one, checked by the rows' weights alone.
+//! Checks whether a cut of rows into requests is a fewest one, from the rows' weights.
 
 ghost use Rattle.std.specs.Prelude.{◌≡◌, ℕ, ◌+◌, ◌<◌, ◌≤◌, ◌↔◌, [], length, IsTrue, IfSome, MatchOption, List};
 ghost use Rattle.mysql_cuts.specs.Cut.{PartFits, WithinRows, HasFittingCut, IsFewest};
@@ -6,7 +6,7 @@ ghost use Rattle.mysql_cuts.specs.Fewest.{weights, NamesFitting, NamesFewest, Ca
 
 use crate::rule::BulkRule;
 
-/// The bytes that a request has for its rows.
+/// The number of bytes of a request that are left for its rows.
 fn capacity_for_rows(rule: BulkRule, limit: u64, arity: usize, types: bool) -> Option<u64>
     ensures { CapacityIs (weights rule limit arity) types [] result }
 {
@@ -18,7 +18,7 @@ fn capacity_for_rows(rule: BulkRule, limit: u64, arity: usize, types: bool) -> O
     }
 }
 
-/// Whether these rows may be one request.
+/// Whether these rows fit in one request.
 fn part_fits(rule: BulkRule, limit: u64, arity: usize, types: bool, part: &[u64]) -> bool
     ensures { IsTrue result ↔ PartFits (weights rule limit arity) types part.now }
 {
@@ -99,10 +99,11 @@ fn fewest_parts(rule: BulkRule, limit: u64, arity: usize, sizes: &[u64]) -> Opti
 
 /// Whether `ends` names a fitting cut of the rows, and no fitting cut has fewer requests.
 ///
-/// `limit` is the maximum length of a request in bytes, `arity` the number of values of a row, and `sizes` holds the bytes of
-/// each row: one and its own for each value. `ends` describes the cut by the number of rows up to the end of each request, so
-/// `[2, 5]` is two requests of two and three rows. Any numbers are valid: a sum above `u64::MAX` exceeds every limit, and ends
-/// that describe no cut return false. It takes no memory.
+/// `limit` is the maximum length of a request in bytes, `arity` the number of values of a row, and `sizes`
+/// holds the bytes of each row: one for each value, and the value's own. `ends` describes the cut by the number
+/// of rows up to the end of each request, so `[2, 5]` is two requests of two and three rows. Any numbers are
+/// valid: a sum above `u64::MAX` exceeds every limit, and ends that describe no cut return false. It takes no
+/// memory.
 pub fn cut_is_fewest(
     rule: BulkRule,
     limit: u64,

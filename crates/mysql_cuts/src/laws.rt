@@ -6,23 +6,23 @@ ghost use Rattle.mysql_cuts.specs.Fewest.{weighed, NamesFewest};
 
 pub use crate::rule::plain_rule_sends_types_once;
 
-/// A fitting cut exists exactly where each row fits alone in its place: the first row with types, a later one as the
-/// rule says.
+/// A fitting cut exists exactly if each row fits in a request of its own: the first row in one with types, a
+/// later row in one with or without types, as the rule says.
 pub fn fitting_cut_exists_where_each_row_fits_alone<Row>()
     ensures { (k : Packing Row) (rows : List Row) → HasFittingCut k rows ↔ RowsFitAlone k true rows }
 {}
 
-/// A beginning of rows that have a fitting cut has one.
+/// If rows have a fitting cut, so has each prefix of them.
 pub fn beginning_has_fitting_cut<Row>()
     ensures { (k : Packing Row) (rows : List Row) (n : ℕ) → HasFittingCut k rows → HasFittingCut k (take n rows) }
 {}
 
-/// The ends of a fewest cut of rows name a fewest cut of their weights, so that a check needs the weights alone.
+/// The ends of a fewest cut of rows are those of a fewest cut of their weights, so a check needs only the weights.
 pub fn fewest_cut_is_fewest_by_weights<Row>()
     ensures { (k : Packing Row) (rows : List Row) (cut : List (List Row)) → IsFewest k rows cut → NamesFewest (weighed k) (map k.weight rows) (ends_after 0 cut) }
 {}
 
-/// A fitting cut that is full from the front is a fewest one.
+/// A fitting cut that is full from the front is a fewest cut.
 pub fn full_cut_is_fewest<Row>()
     ensures { (k : Packing Row) (rows : List Row) (cut : List (List Row)) → IsFittingCut k rows cut → IsFullFromFront k rows cut → IsFewest k rows cut }
 {}

@@ -5,14 +5,16 @@ ghost use Rattle.std.specs.Prelude.{◌≡◌};
 use std::alloc::AllocError;
 use thiserror::Error;
 
-/// The error of a frame reader. No byte is lost: the bytes held and the rest of the input are, together, those before the call, and the
-/// expected number is the same. The reader may have taken part of the input.
+/// The error of a frame reader.
+///
+/// No byte is lost: the bytes held and the rest of the input are, together, those before the call, and the
+/// expected number is unchanged. The reader may have taken part of the input.
 #[derive(Clone, Copy, Debug, PartialEq, Eq, Error)]
 pub enum FrameError {
     /// An allocation failed for a payload that is joined from pieces or frames. Repeat the call with the rest of the input.
     #[error("out of memory for a payload")]
     Memory,
-    /// A frame has another sequence number than the expected one.
+    /// A frame's sequence number is not the expected one.
     #[error("packets are out of order")]
     OutOfOrder,
     /// The payload exceeds the limit, according to its headers.

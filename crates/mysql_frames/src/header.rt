@@ -4,13 +4,13 @@ ghost use Rattle.std.specs.Prelude.{◌≡◌, ◌+◌, ◌≤◌, ◌<◌, ◌+
 ghost use Rattle.mysql_frames.specs.FrameHeader.{length_in};
 ghost use Rattle.mysql_frames.specs.Frames as spec;
 
-/// The largest number of payload bytes in one frame.
+/// The maximum number of payload bytes in one frame.
 pub const MAX_FRAME_LEN: usize = 0xff_ffff;
 
 /// The length of a header in bytes.
 pub(crate) const HEADER_LEN: usize = 4;
 
-/// The length that a header says.
+/// Returns the length in a header.
 #[inline(always)]
 pub(crate) fn length_in(head: &[u8]) -> usize
     requires { 3 ≤ length head.now }

@@ -19,7 +19,7 @@ pub fn a_stream_goes_on()
         → Stream number payloads mid bytes rest → Framed mid payload after rest left → Stream number (payloads ++ payload ∷ []) after bytes left }
 {}
 
-/// The first header that is wrong says which error it is: what a reader holds never shows both.
+/// The first wrong header determines the error: the bytes held never show both errors.
 pub fn held_bytes_show_one_fault()
     ensures { (reader : ReaderState) → ShowsOutOfOrder reader → ShowsTooLong reader → ⊥ }
 {}

@@ -1,4 +1,4 @@
-//! A payload that is not whole yet.
+//! A payload that is not complete yet.
 
 ghost use Rattle.std.specs.Prelude.{◌≡◌, ◌≢◌, ◌↔◌, ◌+◌, ◌*◌, ◌<◌, ◌≤◌, ◌⊎◌, [], ◌++◌, length, slice_index, IfOk, OnErr, IfSome, IfNone, IsTrue, IsErrOf, IsOk, List, ℕ, true, false, vec_len, vec_capacity, max, min, ◌/◌};
 ghost use Rattle.std.specs.Cow.{cow_slice_items};
@@ -11,7 +11,7 @@ use std::alloc::{AllocError, Global};
 use std::borrow::CowSlice;
 use std::mem;
 
-/// The most memory that is reserved for bytes that haven't arrived.
+/// The maximum memory that is reserved for bytes that haven't arrived.
 const AT_ONCE: usize = 65536;
 
 /// Moves up to `missing` bytes from the front of the input to the end of `into`.
@@ -52,7 +52,7 @@ fn fill_header(into: &mut ArrayVec<u8, HEADER_LEN>, input: &mut &[u8]) -> bool
     front.len() == missing
 }
 
-/// A payload shorter than `bound`, in a single frame at the front of the input, and the input after it.
+/// Returns a payload shorter than `bound`, in a single frame at the front of the input, and the input after it.
 #[inline(always)]
 fn whole_at(bound: usize, number: u8, input: &[u8]) -> Option<(&[u8], &[u8])>
     requires { bound ≤ 0xffffff }
@@ -103,7 +103,7 @@ impl Unfinished {
     ghost use Rattle.mysql_frames.specs.FrameReader.{AllLonger, BeginsInOrder, HandsOut, HoldsAll, Keeps, LacksPart, NoneWhole, ShowsNoFault, ShowsOutOfOrder, ShowsTooLong};
     ghost use Rattle.mysql_frames.specs.Unfinished.{HasFrame, IsHeader, IsReading, IsReady, LacksCapacity, held, number_of, state_of};
 
-    /// No byte has arrived. The first frame has the number 0.
+    /// Creates the state in which no byte has arrived. The first frame has the number 0.
     pub(crate) fn new(alloc: Global, limit: usize) -> Self
         ensures reading { IsReading result }
         ensures ready { IsReady result }
@@ -122,7 +122,7 @@ impl Unfinished {
         }
     }
 
-    /// Lets go of what came. The next frame has this number.
+    /// Drops the bytes so far. The next frame has this number.
     pub(crate) fn expect(&mut self, number: u8)
         ensures reading { IsReading self.new }
         ensures ready { IsReady self.new }
@@ -190,7 +190,7 @@ impl Unfinished {
         fill_header(&mut self.head, input)
     }
 
-    /// The length in this header, which is that of the next frame.
+    /// Returns the length in the header, which is that of the next frame.
     fn length(&self) -> Result<usize, FrameError>
         requires reading { IsReading self.now }
         requires whole { length self.now.head.items ≡ 4 }
@@ -278,7 +278,7 @@ impl Unfinished {
         self.head.clear();
     }
 
-    /// Hands out the payload, after its last frame.
+    /// Returns the payload, after its last frame.
     fn finish(&mut self, len: usize) -> Vec<u8>
         requires reading { IsReading self.old }
         requires last { HasFrame self.old len }
@@ -295,7 +295,7 @@ impl Unfinished {
         mem::replace(&mut self.payload, Vec::new(self.alloc))
     }
 
-    /// Takes the input up to the end of a payload, and hands that out; or all of it.
+    /// Takes the input up to the end of a payload, and returns the payload; or takes all of the input.
     #[inline(never)]
     fn read_on(&mut self, input: &mut &[u8]) -> Result<Option<Vec<u8>>, FrameError>
         requires { IsReading self.old }
@@ -324,8 +324,8 @@ impl Unfinished {
 
     /// Reads the next payload, joined in a block of memory.
     ///
-    /// A function of its own, with an input of its own: the caller then keeps its input in registers, and clears no memory for a
-    /// result that is seldom made.
+    /// This is a function of its own, with an input of its own: the caller then keeps its input in registers,
+    /// and clears no memory for a result that is seldom made.
     #[inline(always)]
     fn read_joined<'a>(
         &mut self,

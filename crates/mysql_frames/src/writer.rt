@@ -11,8 +11,8 @@ use std::mem;
 
 /// Appends a frame, for which there is capacity.
 ///
-/// While the buffer is a variable of its own, the compiler makes one store of the four bytes. That there is capacity for the part is
-/// tested here once more: the compiler then leaves out the buffer's growth.
+/// While the buffer is a variable of its own, the compiler merges the four bytes into one store. The capacity
+/// for the part is tested here once more: the compiler then omits the buffer's growth.
 #[inline(always)]
 fn push_frame(out: &mut Vec<u8>, number: u8, part: &[u8])
     requires length { length part.now ≤ 0xffffff }
@@ -76,7 +76,7 @@ pub fn write_frames(out: &mut Vec<u8>, number: u8, payload: &[u8]) -> Result<u8,
     write_long(out, number, payload)
 }
 
-/// Writes a packet that needs several frames, as [`write_packet`] does: it is serialized apart first.
+/// Writes a packet that needs several frames, like [`write_packet`]: it is serialized separately first.
 #[inline(never)]
 fn write_long_packet<P: MySerialize>(
     out: &mut Vec<u8>,

@@ -5,6 +5,7 @@ use Rattle.mysql_conversation.specs.Agreements.{Agreed}
 use Rattle.mysql_conversation.specs.Pipelined.{Numbered, is_client, is_command}
 use Rattle.mysql_conversation.specs.Conversation.{commands}
 use Rattle.mysql_conversation.specs.Session.{Before, IsLoggedIn, IsLoggedInAmong}
+use Rattle.mysql_conversation.specs.declared.packet_kind.PacketKind.{PacketKind}
 use Rattle.mysql_conversation.specs.declared.packet_kind.PacketKind.TheVariants as kind
 use Rattle.mysql_conversation.specs.declared.session.Phase.TheVariants as phase
 use Rattle.mysql_conversation.proofs.Sessions.{more_of, logs_in_later}
@@ -13,8 +14,20 @@ use Rattle.mysql_statements.specs.declared.limits.PipelinedLimits.{PipelinedLimi
 use Rattle.mysql_observer.specs.Observed.{IsTrackedAs, AreTracked}
 use Rattle.mysql_observer.specs.Order.{Step, items_of, step_after, after_steps, AreEarlyAfter}
 use Rattle.mysql_observer.specs.PacketContext.{IsEarly}
-use Rattle.mysql_observer.specs.Tracked.{Tracked, tracked_after, nothing}
+use Rattle.mysql_observer.specs.Tracked.{Tracked, TrackedAfter, tracked_after, nothing}
 use Rattle.mysql_conversation.proofs.Sessions.{logged_in_once}
+
+-- ---- with memory
+
+both_true : (x y : Bool) → true ≡ (x && y) → (x ≡ true) × (y ≡ true)
+both_true true true e = (refl, refl)
+both_true true false e = absurd cc
+both_true false y e = absurd cc
+
+after_with_memory : (early : Bool) (a : Agreed) (k : PacketKind) (n : ℕ) (p : List ℕ) (old new : Tracked) → TrackedAfter true early a k n p old new → new ≡ tracked_after true true early a k n p old
+after_with_memory early a k n p old new h =
+    let b = both_true h.0 h.1 h.2 in
+    h.3 ∙ ap (λ r. tracked_after r h.1 early a k n p old) b.0 ∙ ap (λ m. tracked_after true m early a k n p old) b.1
 
 -- ---- after the login
 
@@ -22,7 +35,7 @@ step_by : (a : Agreed) (front : List Numbered) (x : Numbered) (before : List Num
     → IsTrackedAs true early (front ++ x ∷ before) y old next → next ≡ step_after a (record { item = y; is_early = early }) old
 step_by a front x before y old next early l (inl h) =
     let q = logged_in_once h.0 a h.1.0 front h.1.1 x h.1.2 (before ++ y ∷ []) (sym h.1.3 ∙ more_of front x before (y ∷ [])) h.1.4 l in
-    h.2 ∙ ap (λ b. tracked_after true early b y.packet.kind y.number y.packet.payload old) q.0
+    after_with_memory early h.0 y.packet.kind y.number y.packet.payload old next h.2 ∙ ap (λ b. tracked_after true true early b y.packet.kind y.number y.packet.payload old) q.0
 step_by a front x before y old next early l (inr h) = absurd (h.0 a (front, x, before ++ y ∷ [], more_of front x before (y ∷ []), l))
 
 -- what is tracked after the packets that follow the login
@@ -47,14 +60,14 @@ and_false false e = absurd cc
 no_command : (a : Agreed) (front : List Numbered) (x : Numbered) → IsLoggedIn a front x → is_command x.packet ≡ true → ⊥
 no_command a front x l e = and_false (is_client x.packet.from) (subst (λ k. (is_client x.packet.from && commands k) ≡ true) l.4.0.1 e)
 
-login_changes_nothing : (a : Agreed) (n : ℕ) (p : List ℕ) (limits : StatementLimits) (waiting : PipelinedLimits) → tracked_after true false a kind.Login n p (nothing limits waiting) ≡ nothing limits waiting
+login_changes_nothing : (a : Agreed) (n : ℕ) (p : List ℕ) (limits : StatementLimits) (waiting : PipelinedLimits) → tracked_after true true false a kind.Login n p (nothing limits waiting) ≡ nothing limits waiting
 login_changes_nothing a n p limits waiting = refl
 
 at_login : (a : Agreed) (front : List Numbered) (x : Numbered) (limits : StatementLimits) (waiting : PipelinedLimits) (next : Tracked) (early : Bool) → IsLoggedIn a front x → IsEarly early front x
     → IsTrackedAs true early front x (nothing limits waiting) next → next ≡ nothing limits waiting
 at_login a front x limits waiting next true l e h = absurd (no_command a front x l e.0)
 at_login a front x limits waiting next false l e (inl h) =
-    h.2 ∙ ap (λ k. tracked_after true false h.0 k x.number x.packet.payload (nothing limits waiting)) l.4.0.1 ∙ login_changes_nothing h.0 x.number x.packet.payload limits waiting
+    after_with_memory false h.0 x.packet.kind x.number x.packet.payload (nothing limits waiting) next h.2 ∙ ap (λ k. tracked_after true true false h.0 k x.number x.packet.payload (nothing limits waiting)) l.4.0.1 ∙ login_changes_nothing h.0 x.number x.packet.payload limits waiting
 at_login a front x limits waiting next false l e (inr h) = absurd (h.0 a (front, x, [], refl, l))
 
 -- ---- before it

@@ -4,7 +4,7 @@ use Rattle.std.proofs.lemmas.Bool.{eqb-true, ltb-true}
 use Rattle.mysql_wire.specs.Form.{bytes, number}
 use Rattle.mysql_wire.specs.Int.{raw}
 use Rattle.mysql_wire.specs.Constant.{const_byte}
-use Rattle.mysql_prepared.specs.LongData.{long_data}
+use Rattle.mysql_stmt.specs.LongData.{long_data}
 use Rattle.mysql_conversation.specs.Agreements.{Agreed}
 use Rattle.mysql_conversation.specs.Conversation.{code_of}
 use Rattle.mysql_statements.specs.After.{asked, asked_one, for_data, is_of_one}

@@ -137,7 +137,7 @@ pub record InOrder (a : Agreed) (t : Table) (items : List Numbered) (at last : �
   pub commands : AreCommands (later at items)
 
 held_when : (b : Bool) (n : ℕ) (p : List ℕ) (f : Tracked) → b ≡ true → has_place f.early (front p) ≡ b
-    → held true n p f ≡ record { table = f.table; early = record { limits = f.early.limits; commands = f.early.commands ++ command n (front p) ∷ [] }; lost = f.lost; params = None }
+    → held true n p f ≡ record { table = f.table; early = record { limits = f.early.limits; commands = f.early.commands ++ command n (front p) ∷ [] }; lost = f.lost; params = None; reached = None }
 held_when true n p f e h = rw h refl
 held_when false n p f e h = absurd cc
 
@@ -179,14 +179,14 @@ served_table a t items at last n f h le =
     ∙ ap (λ q. tables_after a q t) (sym (up_to_at at last n items le h.ascends))
 
 taken_when : (lost : Option ℕ) (a : Agreed) (x : Numbered) (f : Tracked) → f.lost ≡ lost → lost ≡ None
-    → (taken true a x.packet.kind x.number x.packet.payload f).lost ≡ None
-    × ((taken true a x.packet.kind x.number x.packet.payload f).table ≡ after true a x.packet.kind x.packet.payload (table_served a x.number f.early.commands f.table))
-    × ((taken true a x.packet.kind x.number x.packet.payload f).early.commands ≡ left_waiting x.number f.early.commands)
+    → (taken true true a x.packet.kind x.number x.packet.payload f).lost ≡ None
+    × ((taken true true a x.packet.kind x.number x.packet.payload f).table ≡ after true a x.packet.kind x.packet.payload (table_served a x.number f.early.commands f.table))
+    × ((taken true true a x.packet.kind x.number x.packet.payload f).early.commands ≡ left_waiting x.number f.early.commands)
 taken_when None a x f e n = rw e (refl, refl, refl)
 taken_when (Some k) a x f e n = absurd cc
 
 turn_in_order : (a : Agreed) (t : Table) (items : List Numbered) (at last : ℕ) (f : Tracked) (x : Numbered) → InOrder a t items at last f
-    → at ≤ x.number → InOrder a t (items ++ x ∷ []) x.number (max last x.number) (taken true a x.packet.kind x.number x.packet.payload f)
+    → at ≤ x.number → InOrder a t (items ++ x ∷ []) x.number (max last x.number) (taken true true a x.packet.kind x.number x.packet.payload f)
 turn_in_order a t items at last f x h le =
     let r = taken_when None a x f h.lost refl in
     let same : later x.number (items ++ x ∷ []) ≡ later x.number (later at items) = not_later x.number items x refl ∙ sym (later_later at x.number items le) in
@@ -202,7 +202,7 @@ turn_in_order a t items at last f x h le =
 
 step_in_order : (is_early : Bool) (a : Agreed) (t : Table) (items : List Numbered) (at last : ℕ) (f : Tracked) (x : Numbered) → InOrder a t items at last f → IsNext is_early at last x
     → (is_early ≡ true → IsTrue (has_place f.early (front x.packet.payload)))
-    → InOrder a t (items ++ x ∷ []) (at_after is_early at x) (max last x.number) (tracked_after true is_early a x.packet.kind x.number x.packet.payload f)
+    → InOrder a t (items ++ x ∷ []) (at_after is_early at x) (max last x.number) (tracked_after true true is_early a x.packet.kind x.number x.packet.payload f)
 step_in_order true a t items at last f x h n p =
     let e : last + 1 ≡ max last x.number = (let k = n.0 in omega (arith, k)) in
     subst (λ l. InOrder a t (items ++ x ∷ []) at l (held true x.number x.packet.payload f)) e (early_in_order a t items at last f x h n.0 n.1 (p refl))

@@ -23,9 +23,6 @@ filter_append test (x ∷ xs) ys = ap (λ l. cond (test x) (x ∷ l) l) (filter_
 
 -- ---- one more command
 
-number_is : ℕ → Numbered → Bool
-number_is n x = x.number == n
-
 -- it belongs to its exchange
 pub exchange_more : (n : ℕ) (items : List Numbered) (x : Numbered) → x.number ≡ n → of_exchange n (items ++ x ∷ []) ≡ of_exchange n items ++ x ∷ []
 exchange_more n items x e = filter_append (λ y. y.number == n) items (x ∷ []) ∙ ap (λ l. of_exchange n items ++ l) (keeps (λ y. y.number == n) x [] (eq-eqb x.number n e))

@@ -1,11 +1,12 @@
-pub mod Context
-pub mod Server
 pub mod Client
-pub mod Read
-pub mod PacketContext
+pub mod Context
 pub mod Event
 pub mod Latest
-pub mod Tracked
 pub mod Observed
 pub mod Order
+pub mod PacketContext
+pub mod Queries
+pub mod Read
 pub mod Records
+pub mod Server
+pub mod Tracked

@@ -15,7 +15,7 @@ use Rattle.mysql_statements.specs.ResultColumns.{ResultColumns}
 use Rattle.mysql_observer.specs.Latest.{latest_in}
 use Rattle.mysql_observer.specs.Order.{IsEarlyIn}
 use Rattle.mysql_observer.specs.PacketContext.{DefinedIn, IsEarly}
-use Rattle.mysql_observer.specs.Tracked.{KeptIn, Tracked, tracked_after, asks_memory}
+use Rattle.mysql_observer.specs.Tracked.{KeptIn, Tracked, TrackedAfter, asks_memory}
 use Rattle.mysql_observer.specs.declared.observer.Observer.{Observer}
 
 -- the highest number of an exchange
@@ -61,9 +61,9 @@ result_columns o = o.columns
 abbrev pub IsTrackedAs : (memory is_early : Bool) → List Numbered → Numbered → Tracked → Tracked → Type 0
 IsTrackedAs memory is_early items x old new =
     ((a : Agreed) × IsLoggedInAmong a (items ++ x ∷ [])
-    × (new ≡ tracked_after memory is_early a x.packet.kind x.number x.packet.payload old)
+    × TrackedAfter memory is_early a x.packet.kind x.number x.packet.payload old new
     × (memory ≡ false → IsTrue (asks_memory is_early a x.packet.kind x.number x.packet.payload old)))
-    ⊎ (((a : Agreed) → IsLoggedInAmong a (items ++ x ∷ []) → ⊥) × (new ≡ record old { params = None }) × (memory ≡ true))
+    ⊎ (((a : Agreed) → IsLoggedInAmong a (items ++ x ∷ []) → ⊥) × (new ≡ record old { params = None; reached = None }) × (memory ≡ true))
 
 -- the same; the packet is a pipelined command or not
 abbrev pub Tracks : (memory : Bool) → List Numbered → Numbered → Tracked → Tracked → Type 0

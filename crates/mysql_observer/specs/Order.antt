@@ -1,5 +1,5 @@
 -- The order of a conversation, by the numbers of its exchanges.
-use Rattle.std.specs.Prelude.{◌≡◌, ◌⊎◌, ℕ, zero, suc, ◌+◌, ◌==◌, ◌≤◌, max, Bool, true, false, List, [], ◌∷◌, ◌++◌, IsTrue}
+use Rattle.std.specs.Prelude.{◌≡◌, ℕ, zero, suc, ◌+◌, ◌==◌, ◌≤◌, max, Bool, true, false, List, [], ◌∷◌, ◌++◌, IsTrue}
 use Rattle.std.specs.List.{filter}
 use Rattle.mysql_conversation.specs.Agreements.{Agreed}
 use Rattle.mysql_conversation.specs.Conversation.{code_of}
@@ -61,7 +61,7 @@ at_last at [] = at
 at_last at (s ∷ ss) = at_last (at_after s.is_early at s.item) ss
 
 abbrev pub step_after : Agreed → Step → Tracked → Tracked
-step_after a s f = tracked_after true s.is_early a s.item.packet.kind s.item.number s.item.packet.payload f
+step_after a s f = tracked_after true true s.is_early a s.item.packet.kind s.item.number s.item.packet.payload f
 
 -- what is known after all packets, with enough memory
 abbrev pub after_steps : Agreed → List Step → Tracked → Tracked

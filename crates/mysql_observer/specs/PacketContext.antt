@@ -1,5 +1,5 @@
 -- The context in which a packet is read, as a function of the packets before it.
-use Rattle.std.specs.Prelude.{◌≡◌, ◌⊎◌, ◌&&◌, ℕ, Bool, true, false, List, [], ◌∷◌, Option, Some, None, option_copied, if◌then◌else◌, IsTrue}
+use Rattle.std.specs.Prelude.{◌≡◌, ◌⊎◌, ◌&&◌, ℕ, Bool, true, false, List, Option, Some, None, option_copied, if◌then◌else◌, IsTrue}
 use Rattle.mysql_wire.specs.declared.codes.column_type.ColumnType.{ColumnType}
 use Rattle.mysql_conversation.specs.Agreements.{Agreed}
 use Rattle.mysql_conversation.specs.Pipelined.{Numbered, is_command}

@@ -3,15 +3,14 @@ use Rattle.std.specs.Prelude.{◌≡◌, ◌⊎◌, ℕ, Bool, true, false, ◌|
 use Rattle.mysql_wire.specs.Form.{Form, ◌>>=◌, give}
 use Rattle.mysql_wire.specs.Reading.{Faults}
 use Rattle.mysql_wire.specs.declared.fault.FaultOf.{FaultOf}
-use Rattle.mysql_prepared.specs.ExecuteHead.{execute_head, cursor_flags}
-use Rattle.mysql_prepared.specs.Attributes.{Attribute}
-use Rattle.mysql_prepared.specs.ExecuteRead as read
-use Rattle.mysql_prepared.specs.ExecuteRead.{ParamsLeft, TypedParam, IsExecution}
-use Rattle.mysql_prepared.specs.declared.execute_head.ComStmtExecuteHead.{ComStmtExecuteHead}
-use Rattle.mysql_prepared.specs.declared.execute_view.BoundParam.{BoundParam}
+use Rattle.mysql_stmt.specs.ExecuteHead.{execute_head, cursor_flags}
+use Rattle.mysql_stmt.specs.Attributes.{Attribute}
+use Rattle.mysql_stmt.specs.ExecuteRead as read
+use Rattle.mysql_stmt.specs.ExecuteRead.{ParamsLeft, TypedParam, IsExecution}
+use Rattle.mysql_stmt.specs.declared.execute_head.ComStmtExecuteHead.{ComStmtExecuteHead}
+use Rattle.mysql_stmt.specs.declared.execute_view.BoundParam.{BoundParam}
 use Rattle.mysql_conversation.specs.Agreements.{Agreed}
 use Rattle.mysql_conversation.specs.declared.packet_kind.PacketKind.{PacketKind}
-use Rattle.mysql_conversation.specs.declared.packet_kind.PacketKind.TheVariants as kind
 use Rattle.mysql_wire.specs.Flags.{CapabilityFlags}
 use Rattle.mysql_observer.specs.Client.{client_packet}
 use Rattle.mysql_observer.specs.Context.{agreed_or_none}
@@ -21,7 +20,7 @@ use Rattle.mysql_statements.specs.ResultColumns.{ResultColumns}
 use Rattle.mysql_statements.specs.declared.row_column.RowColumn.{RowColumn}
 use Rattle.mysql_conversation.specs.Pipelined.{Numbered}
 use Rattle.mysql_observer.specs.PacketContext.{IsContext, type_of, unsigned}
-use Rattle.mysql_observer.specs.Tracked.{Tracked, Params, is_execution}
+use Rattle.mysql_observer.specs.Tracked.{Tracked, Params, Reached, is_execution}
 use Rattle.mysql_observer.specs.declared.execution.Known.{Known}
 use Rattle.mysql_observer.specs.declared.server.ServerPacket.{ServerPacket}
 use Rattle.mysql_observer.specs.declared.record.ClientRecord.{ClientRecord}
@@ -52,6 +51,11 @@ has_params (Some a) k = is_execution k
 abbrev pub known_params : Option Agreed → Option Params → PacketKind → Option Params
 known_params agreed ps k = if has_params agreed k then ps else None
 
+-- the parameters of a pipelined execution that the server has reached
+abbrev pub reached_params : Option Reached → Option Params
+reached_params None = None
+reached_params (Some r) = r.params
+
 abbrev pub params_in : Known → Option Params
 params_in k = if k.is_known then Some (record { params = k.params.now; is_bound = k.is_bound }) else None
 
@@ -69,11 +73,6 @@ Stands capabilities params p head view = (body : List ℕ) × ((execute_head.for
 -- its types are known: it sends them, an earlier one sent them, or it has no parameters
 abbrev pub is_typed : Params → ParamsLeft → Bool
 is_typed ps view = view.sends_types || ps.is_bound || view.left == 0
-
--- what its kind's grammar reads
-abbrev pub IsPlain : Option Agreed → PacketKind → List ℕ → ClientRecord → Type 0
-IsPlain agreed k p (by_client.Packet x) = (rest : List ℕ) × ((client_packet agreed k).reads p ≡ Ok (x, rest))
-IsPlain agreed k p (by_client.Execution head view) = ⊥
 
 -- what its kind's grammar reads; for an execution whose statement and types are known, its parameters
 abbrev pub IsClientRecord : Option Agreed → Option Params → PacketKind → List ℕ → ClientRecord → Type 0

@@ -8,8 +8,8 @@ use Rattle.mysql_auth.specs.AuthNextFactor.{auth_next_factor}
 use Rattle.mysql_auth.specs.AuthSwitchRequest.{auth_switch_request}
 use Rattle.mysql_auth.specs.Handshake.{handshake}
 use Rattle.mysql_auth.specs.OldAuthSwitchRequest.{old_auth_switch_request}
-use Rattle.mysql_prepared.specs.RowView.{RowLeft, ref_cell, row_front, row_left, text_row_left}
-use Rattle.mysql_prepared.specs.StmtWithMetadata.{stmt_with_metadata}
+use Rattle.mysql_stmt.specs.RowView.{RowLeft, ref_cell, row_front, row_left, text_row_left}
+use Rattle.mysql_stmt.specs.StmtWithMetadata.{stmt_with_metadata}
 use Rattle.mysql_repl.specs.BinlogStreamEvent.{stream_event}
 use Rattle.mysql_replies.specs.ColumnCount.{column_count}
 use Rattle.mysql_replies.specs.ErrPacket.{err_packet}

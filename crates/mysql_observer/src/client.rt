@@ -1,4 +1,4 @@
-//! A packet of the client, by its kind.
+//! Packets of the client, by kind.
 
 use mysql_auth::{HandshakeResponseRef, SslRequest};
 use mysql_commands::{BytesRef, Command};
@@ -7,7 +7,7 @@ use mysql_repl::SemiSyncAckPacket;
 /// A packet of the client: the record of its kind, whose texts stay in the payload.
 #[derive(Drop)]
 pub enum ClientPacket<'a> {
-    /// A request to go on in TLS.
+    /// A request to continue in TLS.
     SslRequest(SslRequest),
     /// The response to the greeting.
     Login(HandshakeResponseRef<'a>),

@@ -7,7 +7,7 @@ ghost use Rattle.mysql_observer.specs.Event as spec;
 use mysql_wire::{FaultOf, LeU32, ParseBuf, RawInt, Skip};
 use std::alloc::Global;
 
-/// The second byte, and the size in the event if the header precedes it.
+/// The second byte of a payload, and the size in the event if the header precedes it.
 #[derive(Drop)]
 pub(crate) struct Marks {
     mark: u8,

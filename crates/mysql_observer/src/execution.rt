@@ -1,36 +1,47 @@
 //! An execution and its parameters.
 
-ghost use Rattle.std.specs.Prelude.{◌≡◌, ◌||◌, false, true, Ok, IfOk, IfErr, Some, List, ℕ};
+ghost use Rattle.std.specs.Prelude.{◌≡◌, ◌||◌, false, true, None, Ok, IfOk, IfErr, Some, List, ℕ};
 ghost use Rattle.mysql_wire.specs.Reading.{Answers, Faults};
-ghost use Rattle.mysql_prepared.specs.ExecuteHead.{execute_head};
+ghost use Rattle.mysql_stmt.specs.ExecuteHead.{execute_head};
 ghost use Rattle.mysql_observer.specs.Records as spec;
 
 use crate::client_reader::client_packet;
 use crate::read_context::agreed_or_none;
 use crate::record::ClientRecord;
 use mysql_conversation::PacketKind;
-use mysql_prepared::{BoundParam, ComStmtExecuteHead, ExecuteParamsView};
 use mysql_replies::SessionCapabilities;
+use mysql_stmt::{BoundParam, ComStmtExecuteHead, ExecuteParamsView};
 use mysql_wire::{CapabilityFlags, FaultOf, ParseBuf};
 use std::alloc::Global;
 
-/// The parameters of a statement that is executed, and whether an earlier execution gave them types.
+/// The parameters of an executed statement, and whether an earlier execution sent their types.
 #[derive(Clone, Copy)]
 pub(crate) struct Known<'o> {
     pub(crate) params: &'o [BoundParam],
     pub(crate) is_bound: bool,
-    /// Whether they are known. If they aren't, the list is empty.
+    /// Whether the parameters are known. If they aren't, the list is empty.
     pub(crate) is_known: bool,
 }
 
-/// The fields before the parameters, and the bytes after them.
+/// Unknown parameters.
+pub(crate) fn unknown<'o>() -> Known<'o>
+    ensures { spec.params_in result ≡ None }
+{
+    Known {
+        params: &[],
+        is_bound: false,
+        is_known: false,
+    }
+}
+
+/// Reads the fields before the parameters.
 fn read_head<'a, 's>(buf: &mut ParseBuf<'a>) -> Result<ComStmtExecuteHead, FaultOf<'s>>
     ensures value { Answers false result buf.new ((execute_head.form tt).reads buf.old) }
 {
     buf.parse(())
 }
 
-/// The execution of a payload, for the parameters of its statement.
+/// Reads an execution, for the parameters of its statement.
 #[inline(never)]
 pub(crate) fn read_execution<'a, 'o, 's>(
     alloc: Global,
@@ -47,7 +58,8 @@ pub(crate) fn read_execution<'a, 'o, 's>(
     Ok((head, view))
 }
 
-/// The record of a packet of the client; of an execution whose statement and types are known, its parameters.
+/// Reads the record of a packet of the client; for an execution whose statement and types are known, with its
+/// parameters.
 #[inline(always)]
 pub(crate) fn read_client<'a, 'o, 's>(
     alloc: Global,

@@ -1,11 +1,11 @@
-//! The exchange of the packet that came last, and the result that came last.
+//! The exchanges of the last packet and of the last result.
 
 ghost use Rattle.std.specs.Prelude.{◌≡◌};
 ghost use Rattle.mysql_observer.specs.Latest as spec;
 
 use mysql_conversation::PacketKind;
 
-/// The exchange of the packet that came last, and that of the result that came last, with its number of columns.
+/// The exchange of the last packet, and that of the last result, with its number of columns.
 #[derive(Clone, Copy)]
 pub(crate) struct Latest {
     pub(crate) exchange: u64,
@@ -14,7 +14,7 @@ pub(crate) struct Latest {
 }
 
 impl Latest {
-    /// No packet came.
+    /// Creates the state before the first packet.
     pub(crate) fn none() -> Self
         ensures { result ≡ spec.none }
     {
@@ -25,7 +25,7 @@ impl Latest {
         }
     }
 
-    /// After a packet of this kind and exchange.
+    /// Returns the state after a packet of this kind and exchange.
     #[inline(always)]
     pub(crate) fn after(self, kind: PacketKind, exchange: u64) -> Self
         ensures { result ≡ spec.latest_after kind exchange self }
@@ -44,7 +44,7 @@ impl Latest {
         }
     }
 
-    /// Whether the packet that came last is of the exchange of the result.
+    /// Whether the last packet belongs to the exchange of the last result.
     #[inline(always)]
     pub(crate) fn is_of_result(self) -> bool
         ensures { result ≡ spec.is_of_result self }

@@ -1,4 +1,5 @@
-//! Laws: what was found to be of its kind by what it holds is read as one, and what an observer knows is in the order of the conversation.
+//! Laws: packets that are classified by their content are read without a fault, and an observer's knowledge is
+//! in the order of the conversation.
 
 ghost use Rattle.std.specs.Prelude.{◌≡◌, ◌∷◌, ◌++◌, [], ℕ, List, Bool, Some};
 ghost use Rattle.mysql_wire.specs.Flags as flags;
@@ -20,10 +21,10 @@ ghost use Rattle.mysql_observer.specs.Tracked as tracked;
 ghost use Rattle.mysql_observer.specs.Observed as observed;
 ghost use Rattle.mysql_observer.specs.Order as order;
 
-use mysql_prepared::TypedColumn;
+use mysql_stmt::TypedColumn;
 
-/// OK packets, ends, counts of columns, prepared statements and greetings are classified by their content, so reading one never
-/// fails.
+/// OK packets, ends, column counts, prepared statements and greetings are classified by their content, so
+/// reading one never fails.
 pub fn what_is_found_by_its_bytes_is_read<C: TypedColumn>()
     ensures ok { (c : context.ReadContext C) (a : agreement.Agreed) (more : Bool) (p : List ℕ) → c.agreed ≡ Some a → payloads.IsOk a more p → IsRead C.type_of C.unsigned c kind.Ok p }
     ensures end { (c : context.ReadContext C) (a : agreement.Agreed) (more : Bool) (p : List ℕ) → c.agreed ≡ Some a → payloads.IsEnd a more p → IsRead C.type_of C.unsigned c (ending (deprecates_eof a)) p }
@@ -33,8 +34,8 @@ pub fn what_is_found_by_its_bytes_is_read<C: TypedColumn>()
     ensures greeting { (c : context.ReadContext C) (server : agreement.Agreed) (p : List ℕ) → greeting_at p ≡ Some server → IsRead C.type_of C.unsigned c kind.Handshake p }
 {}
 
-/// If no pipelined command is lost, the table is that of the packets after the login in the order of the conversation: of the
-/// exchanges up to the one that the server has reached.
+/// If no pipelined command is lost, the table is that of the packets after the login in the order of the
+/// conversation, of the exchanges up to the one that the server has reached.
 pub fn what_is_known_is_in_the_order_of_the_conversation()
     ensures { (a : agreement.Agreed) (front : List Numbered) (x : Numbered) (limits : statement_limits.StatementLimits) (waiting : early_limits.PipelinedLimits) (steps : List order.Step)
         → IsLoggedIn a front x → IsSessionBeginning (front ++ x ∷ order.items_of steps)
@@ -43,8 +44,9 @@ pub fn what_is_known_is_in_the_order_of_the_conversation()
         → (order.after_steps a steps (tracked.nothing limits waiting)).table ≡ order.tables_after a (order.up_to (order.at_last 0 steps) (order.items_of steps)) (tables.empty limits) }
 {}
 
-/// What an observer tracks after a list of packets, as each call of [`Observer::next`](crate::Observer::next) says it, is what
-/// it is after the steps of the conversation that follows the login: each packet with whether it is a pipelined command.
+/// The state that an observer tracks after a list of packets, by its calls of
+/// [`Observer::next`](crate::Observer::next), is that after the steps of the conversation after the login, in
+/// which each packet says whether it is a pipelined command.
 pub fn tracked_packets_are_the_steps_of_a_conversation()
     ensures { (a : agreement.Agreed) (front : List Numbered) (x : Numbered) (rest : List Numbered) (limits : statement_limits.StatementLimits) (waiting : early_limits.PipelinedLimits) (f : tracked.Tracked)
         → IsLoggedIn a front x → observed.AreTracked [] (front ++ x ∷ rest) (tracked.nothing limits waiting) f

@@ -25,6 +25,7 @@ mod observed_packet;
 mod observer;
 mod packets;
 mod params;
+mod reached;
 mod read_context;
 mod record;
 mod server;

@@ -20,12 +20,13 @@ use crate::server_reader::server_packet;
 use crate::tracked::Tracked;
 use mysql_conversation::{PacketKind, PacketKindTag, RowFormat, Session, SessionError, Side};
 use mysql_replies::SessionCapabilities;
-use mysql_statements::{ResultColumns, RowColumn};
+use mysql_statements::{PipelinedCommand, ResultColumns, RowColumn};
 use mysql_wire::FaultOf;
+use mysql_wire::command_code::COM_STMT_EXECUTE;
 use std::alloc::Global;
 
-/// Observes a connection, from its greeting on or from a command on ([`resume`](Self::resume)): takes each payload of both sides, and
-/// returns its kind and its record.
+/// Observes a connection from its greeting on, or from a command on ([`resume`](Self::resume)): takes each
+/// payload of both sides, and returns its kind and its record.
 #[derive(Drop)]
 pub struct Observer {
     alloc: Global,
@@ -35,7 +36,7 @@ pub struct Observer {
     columns: ResultColumns,
     /// The number of the last exchange before the connection was resumed.
     before: u64,
-    /// The highest number of an exchange that came.
+    /// The highest number of an exchange so far.
     last: u64,
 }
 
@@ -45,6 +46,8 @@ impl Observer {
     ghost use Rattle.mysql_conversation.specs.Piped.{place};
     ghost use Rattle.mysql_conversation.specs.Session.{GoesOn, IsResumedBeginning, IsResumedSession, IsSession, IsSessionBeginning, SessionResumed};
     ghost use Rattle.mysql_conversation.specs.declared.packet_kind.PacketKind as declared;
+    ghost use Rattle.mysql_conversation.specs.declared.packet_kind.PacketKind.TheVariants as kinds;
+    ghost use Rattle.mysql_wire.specs.CommandCodes as first_bytes;
     ghost use Rattle.mysql_conversation.specs.Agreements as agreement;
     ghost use Rattle.mysql_conversation.specs.declared.packet_kind.Side.TheVariants as side;
     ghost use Rattle.mysql_conversation.specs.declared.pipeline.Pipeline as pipe;
@@ -58,7 +61,7 @@ impl Observer {
     /// Creates an observer before the first packet, with these limits.
     pub fn new(alloc: Global, limits: ObserverLimits) -> Self
         ensures observed { Observed result [] }
-        ensures tracked { observed.tracked result ≡ record { table = tables.empty limits.statements; early = early.none_waits limits.early; lost = None; params = None } }
+        ensures tracked { observed.tracked result ≡ record { table = tables.empty limits.statements; early = early.none_waits limits.early; lost = None; params = None; reached = None } }
         ensures columns { observed.result_columns result ≡ results.unknown limits.columns }
         ensures limit { observed.limit result ≡ limits.waiting }
     {
@@ -73,8 +76,8 @@ impl Observer {
         }
     }
 
-    /// Continues at the next command, under what both sides agreed on: in the middle of a connection, or after a loss. Exchanges
-    /// are counted on, and nothing is known of statements.
+    /// Continues at the next command under the agreed capabilities, in the middle of a connection or after a
+    /// loss. Exchange numbers continue, and no statement is known.
     ///
     /// ```
     /// observer.resume(agreed);
@@ -94,7 +97,8 @@ impl Observer {
         self.before = self.last;
     }
 
-    /// Continues after this command, the last that came: the answer to the one before it is lost. Its first six bytes are enough.
+    /// Continues after this command, the last one so far; the answer to the command before it is lost. Its
+    /// first six bytes are enough.
     pub fn resume_after(&mut self, agreed: SessionCapabilities, command: &[u8])
         ensures resumed { ResumedAfter self.new agreed (observed.last_exchange self.old - 1) command.now }
         ensures limit { observed.limit self.new ≡ observed.limit self.old }
@@ -105,7 +109,7 @@ impl Observer {
         let _observed = self.next(Side::Client, command);
     }
 
-    /// Returns the highest number of an exchange that came.
+    /// Returns the highest number of an exchange so far.
     pub fn last_exchange(&self) -> u64
         ensures { result ≡ observed.last_exchange self.now }
     {
@@ -120,7 +124,7 @@ impl Observer {
         self.session.is_idle()
     }
 
-    /// Returns what both sides agreed on, once the client has sent its login.
+    /// Returns the capabilities that both sides agreed on, once the client has sent its login.
     pub fn agreed(&self) -> Option<SessionCapabilities>
         ensures session { (items : List Numbered) → Observed self.now items → context.IsAgreed items result }
         ensures resumed { (a : agreement.Agreed) (before : ℕ) (items : List Numbered) → Resumed self.now a before items → result ≡ Some a }
@@ -148,17 +152,17 @@ impl Observer {
         self.session.tls_established();
     }
 
-    /// Which packet it is.
+    /// Classifies the next payload, and returns its kind and its exchange. An error changes nothing.
     #[inline(always)]
     pub fn next(&mut self, from: Side, payload: &[u8]) -> Result<ObservedPacket, SessionError>
-        // What was taken has now this packet, of this kind and exchange, at its end.
+        // The packet, with this kind and exchange, is appended to what was taken.
         ensures taken { IfOk result (λ x. (items : List Numbered) → Observed self.old items → Observed self.new (items ++ place from payload.now x.kind x.exchange ∷ [])) }
-        // What it says of later packets is known, where there was memory for it.
+        // What it says about later packets is known, if there was memory for it.
         ensures knows { IfOk result (λ x. (items : List Numbered) → Observed self.old items → Knows x.has_memory items (place from payload.now x.kind x.exchange) self.old self.new) }
-        // Of no kind and exchange does the packet go on with what was taken.
+        // With no kind and exchange does the packet continue what was taken.
         ensures refused { IfErr result (λ why. (items : List Numbered) (kind : declared.PacketKind) (number : ℕ) → why ≡ refusal.UnexpectedPacket → Observed self.old items
             → IsSessionBeginning (items ++ place from payload.now kind number ∷ []) → ⊥) }
-        // Of a connection that is resumed likewise.
+        // The same for a connection that was resumed.
         ensures resumed { IfOk result (λ x. (a : agreement.Agreed) (before : ℕ) (items : List Numbered) → Resumed self.old a before items
             → (number : ℕ) × (x.exchange ≡ observed.exchange_from before number) × Resumed self.new a before (items ++ place from payload.now x.kind number ∷ [])) }
         ensures more { IfOk result (λ x. (a : agreement.Agreed) (before : ℕ) (items : List Numbered) → Resumed self.old a before items
@@ -166,20 +170,19 @@ impl Observer {
         ensures not_next { IfErr result (λ why. (a : agreement.Agreed) (before : ℕ) (items : List Numbered) (kind : declared.PacketKind) (number : ℕ) → why ≡ refusal.UnexpectedPacket → Resumed self.old a before items
             → IsResumedBeginning a (items ++ place from payload.now kind number ∷ []) → ⊥) }
         ensures kept { OnErr result ((a : agreement.Agreed) (before : ℕ) (items : List Numbered) → Resumed self.old a before items → Resumed self.new a before items) }
-        // Exactly after a request for TLS, until `tls_established` says that what comes is decrypted: except for an error that the server sends
-        // in clear.
+        // Exactly after a request for TLS, until `tls_established` is called: except for an error that the server sends in clear.
         ensures encrypted { (result ≡ Err refusal.Encrypted) ↔ observed.IsHidden self.old from payload.now }
         ensures tls { IfOk result (λ _. observed.IsEncrypted self.new ↔ observed.AsksForTls self.old from payload.now) }
-        // Exactly of a login by which both sides agree on compression.
+        // Exactly for a login by which both sides agree on compression.
         ensures compressed { (result ≡ Err refusal.Compressed) ↔ observed.AgreesOnCompression self.old from payload.now }
-        // Exactly of a command, if as many wait as may, or 2^64 - 1 commands came.
+        // Exactly for a command, if the limit of waiting commands is reached, or 2^64 - 1 commands were counted.
         ensures full { (result ≡ Err refusal.Full) ↔ ((p : pipe.Pipeline) × observed.Continues self.old p × piped.IsFull p from payload.now) }
-        // There is no memory for a command that waits, as it may.
+        // The command would have to wait, and may, but there is no capacity for it.
         ensures asked { IfErr result (λ why. why ≡ refusal.Memory → piped.IsCommand from payload.now) }
         ensures memory { IfErr result (λ why. why ≡ refusal.Memory → (p : pipe.Pipeline) × observed.Continues self.old p × (from ≡ side.Client) × piped.MustWait p × (piped.waiting p < piped.limit p) × piped.HasNoCapacity p) }
-        // What is refused so comes here.
+        // A packet refused as full, or for memory, may come next.
         ensures comes { IfErr result (λ why. (why ≡ refusal.Full) ⊎ (why ≡ refusal.Memory) → observed.Comes self.old from payload.now) }
-        // A refusal changes nothing.
+        // An error changes nothing.
         ensures err { OnErr result ((items : List Numbered) → Observed self.old items → Observed self.new items) }
         ensures same { OnErr result (observed.tracked self.new ≡ observed.tracked self.old) }
         ensures unchanged { OnErr result (observed.IsSame self.old self.new) }
@@ -206,7 +209,7 @@ impl Observer {
         }
     }
 
-    /// The number of an exchange of this session, counted on.
+    /// Returns the number of an exchange of this session, continued from those before the connection was resumed.
     #[inline(always)]
     fn exchange_of(&self, number: u64) -> u64
         ensures value { result ≡ observed.exchange_from self.now.before number }
@@ -215,7 +218,7 @@ impl Observer {
         self.before.saturating_add(number)
     }
 
-    /// Keeps what a packet says of later ones. Whether there was memory for it.
+    /// Keeps what a packet says about later ones. Returns whether there was memory for it.
     #[inline(always)]
     fn keep(
         &mut self,
@@ -230,7 +233,7 @@ impl Observer {
         ensures tracked { spec.KeptIn agreed is_early kind exchange payload.now result self.old.tracked self.new.tracked }
     {
         let Some(agreed) = agreed else {
-            self.tracked.forget_params();
+            self.tracked.forget_executions();
             return true;
         };
         if is_early {
@@ -240,7 +243,7 @@ impl Observer {
         }
     }
 
-    /// Keeps what a packet says of the columns of a result. Whether there was memory for it.
+    /// Keeps what a packet says about the columns of a result. Returns whether there was memory for it.
     #[inline(always)]
     fn define(
         &mut self,
@@ -258,10 +261,12 @@ impl Observer {
         }
     }
 
-    /// Returns the columns of the result that came last, in order, if all of their definitions came and are kept.
+    /// Returns the columns of the last result, in order, if all of their definitions have come and are kept.
     ///
-    /// A value of a row of text is converted by the type and the sign of its column. There are none if the definitions were left out, one of them can't
-    /// be read, there are more than [`ObserverLimits::columns`](crate::ObserverLimits::columns), or there was no memory for them; nor after an error, and after a statement is prepared.
+    /// A value of a text row is converted by the type and the sign of its column. The result is `None` if the
+    /// definitions were omitted, one of them can't be read, there are more than
+    /// [`ObserverLimits::columns`](crate::ObserverLimits::columns), or there was no memory for them; also after
+    /// an error, and after a statement is prepared.
     ///
     /// ```
     /// observer.result_columns().unwrap_or(&[])
@@ -293,7 +298,7 @@ impl Observer {
         server_packet(self.alloc, &context, kind, payload)
     }
 
-    /// The context from the packets so far.
+    /// The context that results from the packets so far.
     #[inline(always)]
     fn context(&self, kind: PacketKind, payload: &[u8]) -> ReadContext<'_, RowColumn>
         ensures session { (items : List Numbered) → sessions.SessionTaken self.now.session items → context.IsAgreed items result.agreed }
@@ -310,7 +315,7 @@ impl Observer {
         }
     }
 
-    /// The agreed capabilities, by the session.
+    /// The agreed capabilities of the session.
     #[inline(always)]
     fn agreed_in_session(&self) -> Option<SessionCapabilities>
         ensures session { (items : List Numbered) → sessions.SessionTaken self.now.session items → context.IsAgreed items result }
@@ -319,7 +324,7 @@ impl Observer {
         self.session.agreed()
     }
 
-    /// The columns of a packet of this kind, which is a binary row, where they are known.
+    /// The columns of a packet of this kind, a binary row, if they are known.
     #[inline(always)]
     fn columns(&self, kind: PacketKind) -> Option<&[RowColumn]>
         ensures { option_copied result ≡ context.columns_for kind (context.columns_of_binary self.now.latest (observed.tracked self.now) (observed.result_columns self.now)) }
@@ -330,7 +335,7 @@ impl Observer {
         }
     }
 
-    /// The columns of the binary rows of this exchange, where they are known.
+    /// The columns of the binary rows of this exchange, if they are known.
     #[inline(always)]
     fn columns_of_binary(&self) -> Option<&[RowColumn]>
         ensures { option_copied result ≡ context.columns_of_binary self.now.latest (observed.tracked self.now) (observed.result_columns self.now) }
@@ -371,7 +376,49 @@ impl Observer {
         )
     }
 
-    /// The parameters of an execution, where its statement is known.
+    /// Returns the pipelined execution whose answer began with the packet that was passed last, if its statement is known. When the
+    /// execution came, its statement was not known yet, or an earlier command could still change its types.
+    ///
+    /// ```
+    /// let Some(execution) = observer.reached_execution() else {
+    /// return Ok(false);
+    /// };
+    /// let record = observer.reached_packet(execution.payload())?;
+    /// ```
+    pub fn reached_execution(&self) -> Option<&PipelinedCommand>
+        ensures some { IfSome result (λ c. (r : spec.Reached) × ((observed.tracked self.now).reached ≡ Some r) × (c.now ≡ r.command)) }
+        ensures none { IfNone result ((observed.tracked self.now).reached ≡ None) }
+    {
+        self.tracked.reached()
+    }
+
+    /// Returns the record of the pipelined execution that the server has reached, which has this payload.
+    ///
+    /// The errors are those of [`client_packet`](Self::client_packet).
+    pub fn reached_packet<'s, 'a, 'o>(
+        &'o self,
+        payload: &'a [u8],
+    ) -> Result<ClientRecord<'a, 'o>, FaultOf<'s>>
+        ensures packet { IfOk result (λ r. (items : List Numbered) → Observed self.now items → (agreed : Option agreement.Agreed) × context.IsAgreed items agreed
+            × records.IsClientRecord agreed (records.reached_params (observed.tracked self.now).reached) (kinds.Command first_bytes.COM_STMT_EXECUTE) payload.now r) }
+        ensures fault { IfErr result (λ e. (items : List Numbered) → Observed self.now items → (agreed : Option agreement.Agreed) × context.IsAgreed items agreed
+            × records.IsClientFault agreed (records.reached_params (observed.tracked self.now).reached) (kinds.Command first_bytes.COM_STMT_EXECUTE) payload.now e) }
+        ensures resumed { IfOk result (λ r. (a : agreement.Agreed) (before : ℕ) (items : List Numbered) → Resumed self.now a before items
+            → records.IsClientRecord (Some a) (records.reached_params (observed.tracked self.now).reached) (kinds.Command first_bytes.COM_STMT_EXECUTE) payload.now r) }
+        ensures resumed_fault { IfErr result (λ e. (a : agreement.Agreed) (before : ℕ) (items : List Numbered) → Resumed self.now a before items
+            → records.IsClientFault (Some a) (records.reached_params (observed.tracked self.now).reached) (kinds.Command first_bytes.COM_STMT_EXECUTE) payload.now e) }
+    {
+        let agreed = self.agreed_in_session();
+        read_client(
+            self.alloc,
+            agreed,
+            PacketKind::Command(COM_STMT_EXECUTE),
+            self.tracked.reached_params(),
+            payload,
+        )
+    }
+
+    /// The parameters of an execution, if its statement is known.
     #[inline(always)]
     fn known_params(&self, agreed: Option<SessionCapabilities>, kind: PacketKind) -> Known<'_>
         ensures { records.params_in result ≡ records.known_params agreed (observed.tracked self.now).params kind }

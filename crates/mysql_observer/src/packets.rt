@@ -1,4 +1,4 @@
-//! What packets say about statements.
+//! Reads what packets say about statements.
 
 ghost use Rattle.std.specs.Prelude.{◌≡◌, ◌&&◌, not, false};
 ghost use Rattle.mysql_wire.specs.Reading.{Answers};
@@ -16,7 +16,7 @@ use mysql_wire::command_code::{COM_STMT_BULK_EXECUTE, COM_STMT_EXECUTE};
 use mysql_wire::{FaultOf, LeU32, ParseBuf, RawInt};
 use std::alloc::Global;
 
-/// The number of a statement after the first byte.
+/// Reads the number of a statement after the first byte.
 fn read_number<'s>(buf: &mut ParseBuf<'_>) -> Result<u32, FaultOf<'s>>
     ensures value { Answers false result buf.new (packets.numbered.reads buf.old) }
 {
@@ -25,7 +25,7 @@ fn read_number<'s>(buf: &mut ParseBuf<'_>) -> Result<u32, FaultOf<'s>>
     Ok(id.0)
 }
 
-/// The number of a statement, after the first byte of a command.
+/// Returns the statement's number after the first byte of a command, or `None` if its four bytes are incomplete.
 #[tactic(auto, using(mysql_statements::proofs::Refused::faults), unfolding(mysql_statements::specs::Packets::number_at))]
 pub(crate) fn number_at(alloc: Global, payload: &[u8]) -> Option<u32>
     ensures { result ≡ packets.number_at payload.now }
@@ -38,7 +38,7 @@ pub(crate) fn number_at(alloc: Global, payload: &[u8]) -> Option<u32>
     }
 }
 
-/// The first byte of a command: 0 of an empty packet, which a server takes for COM_SLEEP.
+/// The first byte of a command; 0 for an empty packet, which a server treats as COM_SLEEP.
 pub(crate) fn code_of(payload: &[u8]) -> u8
     ensures { result ≡ first_byte payload.now }
 {
@@ -48,8 +48,9 @@ pub(crate) fn code_of(payload: &[u8]) -> u8
     }
 }
 
-/// The bytes of a pipelined command that say what it does with a statement: all of an execution, since its types may be
-/// anywhere, and of another command those before the data of `COM_STMT_SEND_LONG_DATA`.
+/// Returns the bytes of a pipelined command that determine its effect on a statement: all bytes of an
+/// execution, since its types may be anywhere, otherwise the bytes before the data of
+/// `COM_STMT_SEND_LONG_DATA`.
 pub(crate) fn front_of(payload: &[u8]) -> &[u8]
     ensures { result.now ≡ spec.front payload.now }
 {
@@ -61,7 +62,7 @@ pub(crate) fn front_of(payload: &[u8]) -> &[u8]
     }
 }
 
-/// Whether it is an execution.
+/// Whether a packet is an execution.
 pub(crate) fn is_execution(kind: PacketKind) -> bool
     ensures { result ≡ spec.is_execution kind }
 {
@@ -71,7 +72,7 @@ pub(crate) fn is_execution(kind: PacketKind) -> bool
     }
 }
 
-/// Whether it is a command.
+/// Whether a packet is a command.
 #[inline(always)]
 fn is_command(from: Side, kind: PacketKind, payload: &[u8]) -> bool
     ensures { result ≡ is_command_packet (packet from payload.now kind) }
@@ -82,7 +83,7 @@ fn is_command(from: Side, kind: PacketKind, payload: &[u8]) -> bool
     }
 }
 
-/// Whether it is a command while an earlier one isn't answered.
+/// Whether a packet is a command while an earlier one isn't answered.
 #[inline(always)]
 pub(crate) fn is_early(is_between: bool, from: Side, kind: PacketKind, payload: &[u8]) -> bool
     ensures { result ≡ not is_between && is_command_packet (packet from payload.now kind) }
@@ -90,7 +91,7 @@ pub(crate) fn is_early(is_between: bool, from: Side, kind: PacketKind, payload: 
     !is_between && is_command(from, kind, payload)
 }
 
-/// Whether a packet has parameters, which are known where those of its statement are: it is an execution, after the login.
+/// Whether a packet has parameters, which are known if those of its statement are: it is an execution, after the login.
 pub(crate) fn has_params(agreed: Option<SessionCapabilities>, kind: PacketKind) -> bool
     ensures { result ≡ records.has_params agreed kind }
 {
@@ -100,7 +101,7 @@ pub(crate) fn has_params(agreed: Option<SessionCapabilities>, kind: PacketKind) 
     }
 }
 
-/// Whether it is an event of a stream.
+/// Whether a packet is an event of a stream.
 #[inline(always)]
 pub(crate) fn is_event(kind: PacketKind) -> bool
     ensures { result ≡ context.is_event kind }
@@ -108,12 +109,19 @@ pub(crate) fn is_event(kind: PacketKind) -> bool
     matches!(kind, PacketKind::BinlogEvent)
 }
 
-/// Whether it is a row.
+/// Whether a packet, such as a row or an OK packet, says nothing about later packets.
 #[inline(always)]
-pub(crate) fn is_row(kind: PacketKind) -> bool
-    ensures { result ≡ spec.is_row kind }
+pub(crate) fn is_silent(kind: PacketKind) -> bool
+    ensures { result ≡ spec.is_silent kind }
 {
-    matches!(kind, PacketKind::Row(_))
+    match kind {
+        PacketKind::Command(_)
+        | PacketKind::PrepareOk(_, _, _)
+        | PacketKind::Column
+        | PacketKind::ColumnCount(_, _)
+        | PacketKind::Error => false,
+        _ => true,
+    }
 }
 
 /// Whether there was memory for both.

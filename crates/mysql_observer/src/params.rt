@@ -1,16 +1,16 @@
-//! The parameters of the execution that came last.
+//! The parameters of the last execution.
 
-ghost use Rattle.std.specs.Prelude.{◌≡◌, ◌&&◌, IsTrue, None, false, if◌then◌else◌, Some, IfSome, IfNone};
+ghost use Rattle.std.specs.Prelude.{◌≡◌, ◌&&◌, IsTrue, None, false, if◌then◌else◌, is_some, Some, IfSome, IfNone};
 ghost use Rattle.mysql_observer.specs.Tracked as spec;
 ghost use Rattle.mysql_observer.specs.Records as records;
 
 use crate::execution::Known;
-use mysql_prepared::BoundParam;
 use mysql_statements::Statement;
+use mysql_stmt::BoundParam;
 use std::alloc::Global;
 use std::marker::Model;
 
-/// The parameters of the last execution, as they were known before it; or none.
+/// The parameters of the last execution, as they were known before it, if any.
 #[derive(Drop)]
 pub(crate) struct Params {
     params: Vec<BoundParam>,
@@ -28,7 +28,7 @@ impl Model for Params {
 }
 
 impl Params {
-    /// None.
+    /// Creates the state without an execution.
     pub(crate) fn none(alloc: Global) -> Self
         ensures { result ≡ None }
     {
@@ -39,7 +39,7 @@ impl Params {
         }
     }
 
-    /// Forgets them.
+    /// Forgets the parameters.
     #[inline(always)]
     pub(crate) fn forget(&mut self)
         ensures { self.new ≡ None }
@@ -47,7 +47,8 @@ impl Params {
         self.is_known = false;
     }
 
-    /// Copies those of a statement, and returns whether the allocation succeeded; if it didn't, they are unknown.
+    /// Copies the parameters of a statement, and returns whether the allocation succeeded; if it didn't, they
+    /// are unknown.
     pub(crate) fn copy(&mut self, statement: &Statement) -> bool
         ensures { self.new ≡ spec.params_kept result (Some statement.now) }
     {
@@ -61,7 +62,14 @@ impl Params {
         true
     }
 
-    /// They, and whether an earlier execution gave them types.
+    /// Whether the parameters are known.
+    pub(crate) fn is_known(&self) -> bool
+        ensures { result ≡ is_some self.now }
+    {
+        self.is_known
+    }
+
+    /// The parameters, and whether an earlier execution sent their types.
     pub(crate) fn known(&self) -> Known<'_>
         ensures { records.params_in result ≡ self.now }
     {

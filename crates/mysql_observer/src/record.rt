@@ -1,9 +1,9 @@
-//! The record of a packet of the client.
+//! The record of a packet of the client, with the parameters of executions.
 
 use crate::client::ClientPacket;
-use mysql_prepared::{ComStmtExecuteHead, ExecuteParamsView};
+use mysql_stmt::{ComStmtExecuteHead, ExecuteParamsView};
 
-/// A packet of the client.
+/// A packet of the client, with the parameters of executions.
 #[derive(Drop)]
 pub enum ClientRecord<'a, 'o> {
     /// The record of the packet's kind.

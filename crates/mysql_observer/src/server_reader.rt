@@ -1,4 +1,4 @@
-//! Packets of the server are read by their kind.
+//! Reads packets of the server by their kind.
 #![tactic(auto, using(mysql_wire::proofs::Packets::packets))]
 
 ghost use Rattle.std.specs.Prelude.{false, ◌≡◌, Ok, List, ℕ, OnErr, IfOk, IfErr};
@@ -8,16 +8,16 @@ ghost use Rattle.mysql_observer.specs.Server as spec;
 use crate::read_context::{ReadContext, agreed_or_none};
 use crate::server::ServerPacket;
 use mysql_conversation::{PacketKind, RowFormat};
-use mysql_prepared::{BinaryRowView, TextRowView, TypedColumn};
 use mysql_replies::{
     CommonOkPacket, OkPacketRef, OkPacketRefDeserializer, OldEofPacket, ProgressReportRef,
     ResultSetTerminator, SessionCapabilities,
 };
+use mysql_stmt::{BinaryRowView, TextRowView, TypedColumn};
 use mysql_values::ServerSide;
 use mysql_wire::{FaultOf, ParseBuf, Skip};
 use std::alloc::Global;
 
-/// An OK packet.
+/// Reads an OK packet.
 fn read_ok<'s, 'a>(
     agreed: SessionCapabilities,
     buf: &mut ParseBuf<'a>,
@@ -28,7 +28,7 @@ fn read_ok<'s, 'a>(
     Ok(packet.into_inner())
 }
 
-/// An EOF packet.
+/// Reads an EOF packet.
 fn read_eof<'s, 'a>(
     agreed: SessionCapabilities,
     buf: &mut ParseBuf<'a>,
@@ -39,7 +39,7 @@ fn read_eof<'s, 'a>(
     Ok(packet.into_inner())
 }
 
-/// The OK packet at the end of rows.
+/// Reads the OK packet at the end of rows.
 fn read_ok_terminator<'s, 'a>(
     agreed: SessionCapabilities,
     buf: &mut ParseBuf<'a>,
@@ -50,7 +50,7 @@ fn read_ok_terminator<'s, 'a>(
     Ok(packet.into_inner())
 }
 
-/// A report of progress, after the three bytes that say so.
+/// Reads a progress report, after the three bytes that mark it.
 fn read_progress_report<'s, 'a>(
     buf: &mut ParseBuf<'a>,
 ) -> Result<ProgressReportRef<'a>, FaultOf<'s>>
@@ -60,7 +60,7 @@ fn read_progress_report<'s, 'a>(
     buf.parse(())
 }
 
-/// A row of text.
+/// Reads a text row.
 #[inline(always)]
 fn read_text_row<'a>(columns: usize, buf: &mut ParseBuf<'a>) -> TextRowView<'a>
     ensures value { (spec.text_row columns).reads buf.old ≡ Ok (result, buf.new) }
@@ -70,7 +70,7 @@ fn read_text_row<'a>(columns: usize, buf: &mut ParseBuf<'a>) -> TextRowView<'a>
     row
 }
 
-/// A binary row.
+/// Reads a binary row.
 #[inline]
 fn read_binary_row<'s, 'a, 'c, C: TypedColumn>(
     columns: &'c [C],
@@ -83,7 +83,7 @@ fn read_binary_row<'s, 'a, 'c, C: TypedColumn>(
     Ok(row)
 }
 
-/// The packet of this kind.
+/// Reads the packet of this kind.
 // (a call, which a row of text doesn't pay for)
 #[inline(never)]
 fn read_of_kind<'s, 'a, 'c, C: TypedColumn>(
@@ -136,15 +136,30 @@ fn read_of_kind<'s, 'a, 'c, C: TypedColumn>(
     }
 }
 
+/// Reads the packet of this kind. An OK packet is read without the moves of the other records.
+#[inline(always)]
+fn read_packet<'s, 'a, 'c, C: TypedColumn>(
+    context: &ReadContext<'c, C>,
+    kind: PacketKind,
+    buf: &mut ParseBuf<'a>,
+) -> Result<ServerPacket<'a, 'c, C>, FaultOf<'s>>
+    ensures value { Answers false result buf.new ((spec.server_packet C.type_of C.unsigned context.now kind).reads buf.old) }
+{
+    if let PacketKind::Ok = kind {
+        return Ok(ServerPacket::Ok(read_ok(agreed_or_none(context.agreed), buf)?));
+    }
+    read_of_kind(context, kind, buf)
+}
+
 /// Reads the packet of this kind from the front of the bytes.
 ///
-/// Bytes after the record stay. A row has all bytes, since its values are read later: [`TextRowView::rest`] and
-/// [`BinaryRowView::rest`] return those after them.
+/// Bytes after the record remain. A row has all bytes, since its values are read later: [`TextRowView::rest`]
+/// and [`BinaryRowView::rest`] return those after them.
 ///
-/// The fault is that of the kind's reader. A binary row is returned if its first byte and its bitmap of NULLs are complete: a
-/// fault of a value is returned by [`BinaryRowView::next_value`]. If its columns are unknown, it is returned as bytes. A kind
-/// of the client's packets is `InvalidInput`. After an error the bytes are unchanged. It takes no memory, and never returns
-/// `Memory`.
+/// The fault is that of the kind's reader. A binary row is returned if its first byte and its NULL bitmap are
+/// complete: a fault of a value is returned by [`BinaryRowView::next_value`]. If its columns are unknown, it is
+/// returned as bytes. A kind of the client's packets is `InvalidInput`. After an error the bytes are unchanged.
+/// It takes no memory, and never returns `Memory`.
 #[inline(always)]
 pub fn read_server_packet<'s, 'a, 'c, C: TypedColumn>(
     context: &ReadContext<'c, C>,
@@ -158,12 +173,12 @@ pub fn read_server_packet<'s, 'a, 'c, C: TypedColumn>(
         return Ok(ServerPacket::TextRow(read_text_row(context.column_count, buf)));
     }
     let mut rest = buf.rest();
-    let packet = read_of_kind(context, kind, &mut rest)?;
+    let packet = read_packet(context, kind, &mut rest)?;
     *buf = rest;
     Ok(packet)
 }
 
-/// The packet that a payload of this kind is, as [`read_server_packet`] reads it. Bytes may follow it.
+/// Reads a payload as the packet of this kind, like [`read_server_packet`]. Bytes may follow the record.
 #[inline(always)]
 pub fn server_packet<'s, 'a, 'c, C: TypedColumn>(
     alloc: Global,

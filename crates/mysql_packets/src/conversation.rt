@@ -2,5 +2,5 @@
 
 pub use mysql_conversation::{
     Conversation, ConversationState, InitialPhase, LoginState, PacketKind, PacketKindTag, Pipeline,
-    RowFormat, Session, SessionError, Side, UnexpectedPacket, agreed_on,
+    PipelineState, RowFormat, Session, SessionError, Side, UnexpectedPacket, agreed_on,
 };

@@ -10,8 +10,8 @@ use thiserror::Error;
 
 /// The error of a call that finds, classifies, reads or writes packets.
 ///
-/// `?` converts each of those errors. `Memory` stands for all allocations that failed, whichever call made them: each leaves its
-/// reader, session or buffer unchanged, so the call can be repeated.
+/// `?` converts each of those errors. `Memory` covers every failed allocation: the reader, session or buffer is
+/// unchanged, so the call can be repeated.
 ///
 /// # Examples
 ///

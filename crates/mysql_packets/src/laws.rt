@@ -1,4 +1,4 @@
-//! The laws of all libraries, each library's in a module of its name; and those of the program.
+//! The laws of all libraries, in a module for each library, and those of the program.
 
 ghost use Rattle.mysql_commands.specs.AsRead.{AreBytes};
 
@@ -18,7 +18,7 @@ pub use mysql_stmt::laws as stmt;
 pub use mysql_values::laws as values;
 pub use mysql_wire::laws as wire;
 
-/// The items of a byte slice are bytes: the premise of [`commands::read_commands_are_written_as_they_were`].
+/// The items of a byte slice are bytes, which is the premise of [`commands::read_commands_are_written_as_they_were`].
 pub fn these_are_bytes(bytes: &[u8])
     ensures value { AreBytes bytes.now }
 {}

@@ -1,6 +1,6 @@
-//! The packets of the MySQL and MariaDB protocol under one roof.
+//! The packets of the MySQL and MariaDB protocol, re-exported from one crate.
 //!
-//! A crate that reads or writes packets depends on this one alone: the modules have the original's names.
+//! A crate that reads or writes packets depends only on this one; the modules have the original's names.
 #![tactic(auto)]
 
 pub mod constants;

@@ -1,4 +1,4 @@
-//! Prepared statements, as whoever watches a connection keeps them.
+//! The prepared statements of an observed connection.
 
 pub use mysql_statements::{
     PipelinedCommand, PipelinedCommands, PipelinedLimits, ResultColumns, RowColumn, Statement,

@@ -2,9 +2,9 @@
 use Rattle.std.proofs.Common.{◌≡◌, ◌<◌, ◌≤◌, ◌+◌, ◌∷◌, ℕ, zero, suc, true, false, ◌&&◌, List, [], length, drop, get_or, refl, sym, ap, ◌∙◌, arith, add-one}
 use Rattle.std.proofs.lemmas.Bool.{and_parts}
 use Rattle.std.specs.List.{list_all}
-use Rattle.mysql_prepared.specs.BinaryRow.{takes, takes_row}
-use Rattle.mysql_prepared.proofs.RowBytes.{integer-saturated}
-use Rattle.mysql_packets_c.proofs.BulkRows.{swapped}
+use Rattle.mysql_stmt.specs.BinaryRow.{takes, takes_row}
+use Rattle.mysql_stmt.proofs.RowBytes.{integer-saturated}
+use Rattle.mysql_packets_c.proofs.BulkCells.{swapped}
 use Rattle.mysql_packets_c.specs.ColumnType.{type_of, unsigned_of}
 use Rattle.mysql_packets_c.specs.BinaryRow.{takes_value}
 use Rattle.mysql_packets_c.specs.Rows.{row_fits}

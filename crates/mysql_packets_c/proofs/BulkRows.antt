@@ -1,125 +1,39 @@
--- Rows are counted in order.
-use Rattle.std.proofs.Common.{◌≡◌, ◌≢◌, ◌<◌, ◌≤◌, ◌+◌, ◌*◌, ◌++◌, ◌∷◌, ◌-◌, ◌^◌, ℕ, zero, suc, Bool, true, false, ◌&&◌, List, [], length, map, take, drop, Option, Some, None, refl, sym, subst, ap, ◌∙◌, arith, inl, inr, ◌⊎◌, get_or, min, add-one, append_assoc, if◌then◌else◌, sum_by}
-use Rattle.std.proofs.lemmas.Bool.{and_parts}
-use Rattle.std.proofs.lemmas.List.{append-nil, drop-drop, take-map, drop-map, length-drop, length-map, length-take-le, nil_from_length}
-use Rattle.std.proofs.lemmas.List.{map-append, take_more, take_all}
-use Rattle.std.proofs.lemmas.List.Elements.{All-nil, All-push}
-use Rattle.std.proofs.lemmas.List.Folds.{list_all-append}
+-- Rows of a bulk request that are counted one after another, and the request that is written of them.
+use Rattle.std.proofs.Common.{◌≡◌, ◌≢◌, ◌<◌, ◌≤◌, ◌+◌, ◌*◌, ◌++◌, ◌∷◌, ◌-◌, ◌^◌, ◌&&◌, ◌||◌, ℕ, zero, suc, Bool, true, false, List, [], length, map, take, drop, refl, sym, subst, ap, ◌∙◌, arith, inl, inr, min, sum_by}
+use Rattle.std.proofs.lemmas.List.{append-nil, drop-drop, length-append, length-map, map-append, nil_from_length}
+use Rattle.std.proofs.lemmas.List.Concat.{length-flat_map}
+use Rattle.std.proofs.lemmas.List.Folds.{flat_map-map, list_all-append}
 use Rattle.std.proofs.lemmas.List.Sums.{sum_by-append}
 use Rattle.std.proofs.lemmas.Nat.{mul-le}
-use Rattle.std.specs.List.{list_all, position, prefix_len}
-use Rattle.std.specs.Prelude.{All, nat_le, not, ◌==◌, ◌%◌, ◌||◌}
+use Rattle.std.specs.List.{flat_map, list_all}
+use Rattle.std.specs.Prelude.{nat_le, ◌==◌, ◌%◌}
 use Rattle.mysql_wire.specs.Writing.{saturated}
-use Rattle.mysql_bulk.specs.Builder.{BuilderState}
-use Rattle.mysql_bulk.specs.BuilderRows.{rows_of}
-use Rattle.mysql_bulk.specs.ColumnTypes.{TakesTypes, is_declarable, spell_row, can_encode}
-use Rattle.mysql_bulk.specs.Row.{param_size, row_size}
-use Rattle.mysql_values.specs.Value.{Content}
-use Rattle.mysql_packets_c.specs.Bulk.{AreRows, Counted, HasRows, NextIsFull, RefusesAny, WhyRefused, builder_for, declared_type, declared_types, first_refused, first_rows, may_ask, row_at, takes_row, takes_value}
-use Rattle.mysql_packets_c.specs.Value.{is_value, value_content, values_contents}
+use Rattle.mysql_bulk.specs.BulkValue.{Cell, cells_bytes}
+use Rattle.mysql_bulk.specs.HeadTypes.{length-param_type}
+use Rattle.mysql_bulk.specs.Request.{request_flags}
+use Rattle.mysql_bulk.specs.RequestWriter.{WriterState}
+use Rattle.mysql_bulk.specs.ValueRows.{rows_bytes}
+use Rattle.mysql_bulk.proofs.RequestBytes.{length-head}
+use Rattle.mysql_values.specs.ParamType.{param_type}
+use Rattle.mysql_packets_c.specs.Bulk.{Counted, IsCounted, NextIsFull, RefusesAny, WhyRefused, WritesBuilt, cells_of, declared_type, declared_types, first_rows, head_for, head_with, may_ask, request_with, row_at, row_bytes, rows_from, rows_of, takes_row, takes_rows, writer_for}
+use Rattle.mysql_packets_c.specs.Output.{PutsUnlessTooLong}
 use Rattle.mysql_packets_c.specs.declared.bulk.BulkCall.{BulkCall}
 use Rattle.mysql_packets_c.specs.declared.rows.CColumnType.{CColumnType}
 use Rattle.mysql_packets_c.specs.declared.value.CValue.{CValue}
 
--- ---- the types
-
-prefix-map : (columns : List CColumnType) → prefix_len (λ kind. not (not (is_declarable kind))) (declared_types columns) ≡ prefix_len (λ column. not (not (is_declarable (declared_type column)))) columns
-prefix-map [] = refl
-prefix-map (c ∷ columns) = ap (λ n. if not (not (is_declarable (declared_type c))) then 1 + n else 0) (prefix-map columns)
-
--- the first refused type is that of the first such column
-pub first-refused : (columns : List CColumnType) → position (λ column. not (is_declarable (declared_type column))) columns ≡ first_refused columns
-first-refused columns = rw (prefix-map columns, length-map columns declared_type) refl
-
--- ---- one value more of a row
-
-pub swapped : (a b c d : Bool) → ((a && b) && (c && d)) ≡ ((a && c) && (b && d))
-swapped true true c d = by c d
-  where
-    by : (c d : Bool) → (c && d) ≡ (c && (true && d))
-    by true d = refl
-    by false d = refl
-swapped true false true d = refl
-swapped true false false d = refl
-swapped false b c d = refl
-
-pub takes-from : (columns : List CColumnType) (row : List CValue) (i : ℕ) (c : CColumnType) (v : CValue) → length columns ≡ length row → i < length row
-    → takes_row (drop i columns) (drop i row) ≡ (takes_value (get_or columns i c) (get_or row i v) && takes_row (drop (i + 1) columns) (drop (i + 1) row))
-takes-from columns row i c v same lt = rw add-one (from columns row i same lt)
-  where
-    from : (columns : List CColumnType) (row : List CValue) (i : ℕ) → length columns ≡ length row → i < length row
-        → takes_row (drop i columns) (drop i row) ≡ (takes_value (get_or columns i c) (get_or row i v) && takes_row (drop (suc i) columns) (drop (suc i) row))
-    from [] [] i same lt = absurd (omega (arith, lt))
-    from [] (w ∷ row) i same lt = absurd (omega (arith, same))
-    from (d ∷ columns) [] i same lt = absurd (omega (arith, same))
-    from (d ∷ columns) (w ∷ row) zero same lt = swapped (is_value w) (list_all is_value row) (can_encode (declared_type d) (value_content w)) (spell_row (declared_types columns) (values_contents row))
-    from (d ∷ columns) (w ∷ row) (suc i) same lt = from columns row i (omega (arith, same)) (omega (arith, lt))
-
-pub size-more : (row : List CValue) (i : ℕ) (v : CValue) → i < length row → row_size (values_contents (take (i + 1) row)) ≡ row_size (values_contents (take i row)) + param_size (value_content (get_or row i v))
-size-more row i v lt =
-    let whole = ap (λ l. row_size (values_contents l)) (take_more row i v lt) ∙ ap row_size (map-append value_content (take i row) (get_or row i v ∷ [])) in
-    omega (arith, whole, sum_by-append param_size (values_contents (take i row)) (value_content (get_or row i v) ∷ []))
-
-pub ruleset row_values = (takes-from, size-more, take_all)
-
 -- ---- places
 
-take-none : {A : Type 0} (m : ℕ) → take {A = A} m [] ≡ []
-take-none zero = refl
-take-none (suc m) = refl
-
-pub take-add : {A : Type 0} (n m : ℕ) (xs : List A) → take (n + m) xs ≡ take n xs ++ take m (drop n xs)
-take-add zero m xs = let e : 0 + m ≡ m = omega arith in rw e refl
-take-add {A} (suc n) m [] = take-none {A = A} (suc n + m) ∙ sym (take-none {A = A} m)
-take-add (suc n) m (x ∷ xs) = let e : suc n + m ≡ suc (n + m) = omega arith in rw e (ap (λ l. x ∷ l) (take-add n m xs))
-
--- where the next row ends
 pub next-place : (columns n : ℕ) → (n + 1) * columns ≡ n * columns + columns
 next-place columns n = omega arith
 
 -- the next row lies within the values
-pub row-within : (columns rows n len : ℕ) → len ≡ rows * columns → n < rows → n * columns + columns ≤ len
-row-within columns rows n len e h =
+pub row-within : (columns rows n len : ℕ) → rows * columns ≤ len → n < rows → n * columns + columns ≤ len
+row-within columns rows n len le h =
     let most : (n + 1) * columns ≤ rows * columns = mul-le (n + 1) columns rows columns (omega (arith, h)) (omega arith) in
-    omega (arith, most, e, next-place columns n)
+    omega (arith, most, le, next-place columns n)
 
-pub row-there : (columns rows n : ℕ) (values : List CValue) → length values ≡ rows * columns → n < rows → columns ≤ length (drop (n * columns) values)
-row-there columns rows n values e h = omega (arith, row-within columns rows n (length values) e h, length-drop (n * columns) values)
-
--- one more row of values
-pub rows-next : (columns rows n : ℕ) (values : List CValue) → length values ≡ rows * columns → n < rows → AreRows columns n values → list_all is_value (row_at columns n values) ≡ true → AreRows columns (n + 1) values
-rows-next columns rows n values e h before row = record {
-  within = omega (arith, row-within columns rows n (length values) e h, next-place columns n);
-  are_values = ap (λ k. list_all is_value (take k values)) (next-place columns n)
-      ∙ ap (list_all is_value) (take-add (n * columns) columns values)
-      ∙ list_all-append is_value (take (n * columns) values) (row_at columns n values)
-      ∙ ap (λ b. b && list_all is_value (row_at columns n values)) before.are_values ∙ row;
-}
-
--- ---- rows
-
-pub length-rows_of : (a n : ℕ) (values : List Content) → length (rows_of a n values) ≡ n
-length-rows_of a zero values = refl
-length-rows_of a (suc n) values = ap suc (length-rows_of a n (drop a values))
-
-rows_of-next : (a n : ℕ) (values : List Content) → rows_of a (suc n) values ≡ rows_of a n values ++ take a (drop (n * a) values) ∷ []
-rows_of-next a zero values = let e : 0 * a ≡ 0 = omega arith in rw e refl
-rows_of-next a (suc n) values =
-    let later = rows_of-next a n (drop a values) in
-    let further : a + n * a ≡ suc n * a = omega arith in
-    let place : drop (n * a) (drop a values) ≡ drop (suc n * a) values = drop-drop (n * a) a values ∙ ap (λ k. drop k values) further in
-    ap (λ rows. take a values ∷ rows) (later ∙ ap (λ row. rows_of a n (drop a values) ++ take a row ∷ []) place)
-
-pub first-next : (columns n : ℕ) (values : List CValue) → first_rows columns (n + 1) values ≡ first_rows columns n values ++ values_contents (row_at columns n values) ∷ []
-first-next columns n values =
-    let one : n + 1 ≡ suc n = omega arith in
-    let row : take columns (drop (n * columns) (values_contents values)) ≡ values_contents (row_at columns n values) =
-    ap (take columns) (drop-map value_content (n * columns) values) ∙ take-map value_content columns (drop (n * columns) values) in
-    ap (λ k. first_rows columns k values) one ∙ rows_of-next columns n (values_contents values) ∙ ap (λ r. first_rows columns n values ++ r ∷ []) row
-
-row-length : (columns rows n : ℕ) (values : List CValue) → length values ≡ rows * columns → n < rows → length (values_contents (row_at columns n values)) ≡ columns
-row-length columns rows n values e h =
-    length-map (row_at columns n values) value_content ∙ length-take-le columns (drop (n * columns) values) (row-there columns rows n values e h)
+pub row-inside : (columns rows n len : ℕ) → len ≡ rows * columns → n < rows → n * columns + columns ≤ len
+row-inside columns rows n len e h = row-within columns rows n len (omega (arith, e)) h
 
 -- such a call has columns
 third : (a b c d : Bool) → (a && (b && (c && d))) ≡ true → c ≡ true
@@ -134,18 +48,61 @@ some-columns flags max zero values h =
     absurd cc
 some-columns flags max (suc columns) values h = omega arith
 
--- no row is refused if there is none
-pub none-there : (s : BuilderState) (columns : ℕ) (values : List CValue) (code : ℕ) → RefusesAny s columns values code → 1 ≤ columns → values ≡ [] → ⊥
-none-there s columns values code refused some none =
-    let there : refused.count * columns + columns ≤ 0 = subst (λ (vs : List CValue). refused.count * columns + columns ≤ length vs) none refused.refused.there in
-    omega (arith, there, some)
+-- ---- rows
+
+pub length-rows_of : (columns n : ℕ) (values : List CValue) → length (rows_of columns n values) ≡ n
+length-rows_of columns zero values = refl
+length-rows_of columns (suc n) values = ap suc (length-rows_of columns n (drop columns values))
+
+pub rows-next : (columns n : ℕ) (values : List CValue) → rows_of columns (n + 1) values ≡ rows_of columns n values ++ row_at columns n values ∷ []
+rows-next columns n values = let one : n + 1 ≡ suc n = omega arith in ap (λ k. rows_of columns k values) one ∙ next n values
+  where
+    next : (n : ℕ) (values : List CValue) → rows_of columns (suc n) values ≡ rows_of columns n values ++ row_at columns n values ∷ []
+    next zero values = let e : 0 * columns ≡ 0 = omega arith in rw e refl
+    next (suc n) values =
+        let further : columns + n * columns ≡ suc n * columns = omega arith in
+        let place : drop (n * columns) (drop columns values) ≡ drop (suc n * columns) values = drop-drop (n * columns) columns values ∙ ap (λ k. drop k values) further in
+        ap (λ (rows : List (List CValue)). take columns values ∷ rows) (next n (drop columns values) ∙ ap (λ (vs : List CValue). rows_of columns n (drop columns values) ++ take columns vs ∷ []) place)
+
+pub first-next : (columns n : ℕ) (values : List CValue) → first_rows columns (n + 1) values ≡ first_rows columns n values ++ cells_of (row_at columns n values) ∷ []
+first-next columns n values = ap (map cells_of) (rows-next columns n values) ∙ map-append cells_of (rows_of columns n values) (row_at columns n values ∷ [])
+
+taken-next : (types : List CColumnType) (n : ℕ) (values : List CValue) → takes_rows types n values ≡ true → takes_row types (row_at (length types) n values) ≡ true → takes_rows types (n + 1) values ≡ true
+taken-next types n values before row =
+    ap (list_all (takes_row types)) (rows-next (length types) n values)
+    ∙ list_all-append (takes_row types) (rows_of (length types) n values) (row_at (length types) n values ∷ [])
+    ∙ ap (λ (b : Bool). b && (takes_row types (row_at (length types) n values) && true)) before
+    ∙ ap (λ (b : Bool). b && true) row
+
+-- the rows from one on are that row and those after it
+pub rows-from-next : (types : List CColumnType) (count n : ℕ) (values : List CValue) → n < count → rows_from types count n values ≡ row_bytes types (row_at (length types) n values) ++ rows_from types count (n + 1) values
+rows-from-next types count n values lt =
+    let one : count - n ≡ suc (count - (n + 1)) = omega arith in
+    let place : drop (length types) (drop (n * length types) values) ≡ drop ((n + 1) * length types) values =
+    drop-drop (length types) (n * length types) values ∙ ap (λ k. drop k values) (sym (next-place (length types) n)) in
+    ap (λ k. rows_bytes (declared_types types) (first_rows (length types) k (drop (n * length types) values))) one
+    ∙ ap (λ (vs : List CValue). row_bytes types (row_at (length types) n values) ++ rows_bytes (declared_types types) (first_rows (length types) (count - (n + 1)) vs)) place
+
+pub rows-from-none : (types : List CColumnType) (count n : ℕ) (values : List CValue) → count ≤ n → rows_from types count n values ≡ []
+rows-from-none types count n values le = let none : count - n ≡ 0 = omega arith in rw none refl
+
+pub rows-all : (types : List CColumnType) (count : ℕ) (values : List CValue) → rows_from types count 0 values ≡ rows_bytes (declared_types types) (first_rows (length types) count values)
+rows-all types count values =
+    let none : 0 * length types ≡ 0 = omega arith in
+    let whole : count - 0 ≡ count = omega arith in
+    rw (none, whole) refl
+
+-- ---- the head
+
+-- the types of the columns, as they are written
+pub types-sent : (columns : List CColumnType) → flat_map (λ column. param_type.bytes (declared_type column)) columns ≡ flat_map param_type.bytes (declared_types columns)
+types-sent columns = sym (flat_map-map param_type.bytes declared_type columns)
+
+pub head-size : (statement_id flags : ℕ) (types : List CColumnType) → length (head_for statement_id flags types) ≡ 7 + 2 * length types
+head-size statement_id flags types =
+    omega (arith, length-head (record { stmt_id = statement_id; bulk_flags = request_flags true (flags == 64); types = declared_types types }), length-map types declared_type)
 
 -- ---- one row more
-
--- the bytes of the rows and of one more
-size-next : (call : BulkCall) (columns n : ℕ) (values : List CValue)
-    → sum_by row_size (first_rows columns n values ++ values_contents (row_at columns n values) ∷ []) ≡ sum_by row_size (first_rows columns n values) + row_size (values_contents (row_at columns n values))
-size-next call columns n values = omega (arith, sum_by-append row_size (first_rows columns n values) (values_contents (row_at columns n values) ∷ []))
 
 -- sums that saturate at 2^64 - 1
 pub past-limit : (limit len more longer size : ℕ) → more ≡ saturated size → longer ≡ min (len + more) (2 ^ 64 - 1) → limit < longer → limit < len + size
@@ -156,96 +113,120 @@ pub within-limit : (limit len more longer size : ℕ) → more ≡ saturated siz
 unfolding saturated
 within-limit limit len more longer size e f h top = omega (arith, e, f, h, top)
 
-pub none-counted : (call : BulkCall) (len : ℕ) (values : List CValue) → len ≡ 7 + 2 * length call.columns.now → HasRows (builder_for call) (length call.columns.now) 0 len values
-none-counted call len values e = record {
-  are_rows = record { within = omega arith; are_values = let none : 0 * length call.columns.now ≡ 0 = omega arith in rw none refl };
-  taken = All-nil (TakesTypes (builder_for call).columns);
-  fit = λ some. absurd (some refl);
-  size = omega (arith, e);
-}
+-- the bytes of rows and of one more
+pub size-more : (types : List CColumnType) (rows : List (List Cell)) (row : List CValue)
+    → sum_by (λ cells. length (cells_bytes (declared_types types) cells)) (rows ++ cells_of row ∷ []) ≡ sum_by (λ cells. length (cells_bytes (declared_types types) cells)) rows + length (row_bytes types row)
+size-more types rows row = omega (arith, sum_by-append (λ cells. length (cells_bytes (declared_types types) cells)) rows (cells_of row ∷ []))
 
--- it fits
-pub row-counted : (call : BulkCall) (rows n len longer : ℕ) (values : List CValue) → length values ≡ rows * length call.columns.now → n < rows → HasRows (builder_for call) (length call.columns.now) n len values
-    → takes_row call.columns.now (row_at (length call.columns.now) n values) ≡ true → longer ≡ len + row_size (values_contents (row_at (length call.columns.now) n values)) → longer ≤ call.max_allowed_packet - 4
-    → HasRows (builder_for call) (length call.columns.now) (n + 1) longer values
-row-counted call rows n len longer values whole lt h taken is within =
-    let columns = length call.columns.now in
-    let row = row_at columns n values in
-    let parts = and_parts (list_all is_value row) (spell_row (declared_types call.columns.now) (values_contents row)) taken in
-    let next = first-next columns n values in
-    let size : sum_by row_size (first_rows columns (n + 1) values) ≡ sum_by row_size (first_rows columns n values) + row_size (values_contents row) = ap (sum_by row_size) next ∙ size-next call columns n values in
-    let total : longer ≡ 7 + 2 * columns + sum_by row_size (first_rows columns (n + 1) values) = omega (arith, is, h.size, size) in
-    record {
-      are_rows = rows-next columns rows n values whole lt h.are_rows parts.0;
-      taken = subst (λ rs. All (TakesTypes (builder_for call).columns) rs) (sym next) (All-push (TakesTypes (builder_for call).columns) (first_rows columns n values) (values_contents row) h.taken parts.1);
-      fit = λ some. (omega (arith, total, within), tt);
-      size = total;
-    }
+module _ (call : BulkCall) (values : List CValue) where
+  abbrev types : List CColumnType
+  types = call.columns.now
 
--- it does not fit
-row-past : (call : BulkCall) (rows n len : ℕ) (values : List CValue) → length values ≡ rows * length call.columns.now → n < rows → HasRows (builder_for call) (length call.columns.now) n len values
-    → takes_row call.columns.now (row_at (length call.columns.now) n values) ≡ true → call.max_allowed_packet - 4 < len + row_size (values_contents (row_at (length call.columns.now) n values))
-    → NextIsFull (builder_for call) (length call.columns.now) n values
-row-past call rows n len values whole lt h taken past =
-    let columns = length call.columns.now in
-    let row = row_at columns n values in
-    let parts = and_parts (list_all is_value row) (spell_row (declared_types call.columns.now) (values_contents row)) taken in
-    let long = row-length columns rows n values whole lt in
-    let size = size-next call columns n values in
-    record {
-      are_values = parts.0;
-      taken = (long ∙ sym (length-map call.columns.now declared_type), parts.1);
-      full = λ fits. absurd (omega (arith, fits.0, past, h.size, size, long));
-    }
+  abbrev row : ℕ → List CValue
+  row n = row_at (length call.columns.now) n values
 
-pub row-full : (call : BulkCall) (rows n len : ℕ) (values : List CValue) → length values ≡ rows * length call.columns.now → n < rows → HasRows (builder_for call) (length call.columns.now) n len values
-    → takes_row call.columns.now (row_at (length call.columns.now) n values) ≡ true → call.max_allowed_packet - 4 < len + row_size (values_contents (row_at (length call.columns.now) n values)) → n ≢ 0
-    → Counted (builder_for call) (length call.columns.now) n len values
-row-full call rows n len values whole lt h taken past some = record { rows = h; full = inr (row-past call rows n len values whole lt h taken past); some = λ none. absurd (some none) }
+  pub none-counted : (len : ℕ) → len ≡ 7 + 2 * length call.columns.now → IsCounted call 0 len values
+  none-counted len e = record {
+    rows = record { within = omega arith; taken = refl; fit = λ some. absurd (some refl) };
+    size = omega (arith, e, length-map call.columns.now declared_type);
+  }
 
-refused : (call : BulkCall) (rows n len code : ℕ) (values : List CValue) → length values ≡ rows * length call.columns.now → n < rows → HasRows (builder_for call) (length call.columns.now) n len values
-    → WhyRefused (builder_for call) (length call.columns.now) n values code → RefusesAny (builder_for call) (length call.columns.now) values code
-refused call rows n len code values whole lt h why = record {
-  count = n;
-  refused = record { rows = h.are_rows; there = row-within (length call.columns.now) rows n (length values) whole lt; taken = h.taken; fit = h.fit; why = why };
-}
+  -- it fits
+  pub row-counted : (rows n len longer : ℕ) → length values ≡ rows * length call.columns.now → n < rows → IsCounted call n len values → takes_row call.columns.now (row n) ≡ true
+      → longer ≡ len + length (row_bytes call.columns.now (row n)) → longer ≤ call.max_allowed_packet - 4 → IsCounted call (n + 1) longer values
+  row-counted rows n len longer whole lt h taken is within =
+      let next = ap (sum_by (λ cells. length (cells_bytes (declared_types types) cells))) (first-next (length types) n values) ∙ size-more types (first_rows (length types) n values) (row n) in
+      record {
+        rows = record {
+          within = omega (arith, row-inside (length types) rows n (length values) whole lt, next-place (length types) n);
+          taken = taken-next types n values h.rows.taken taken;
+          fit = λ some. (omega (arith, is, h.size, next, within), tt);
+        };
+        size = omega (arith, is, h.size, next);
+      }
 
-pub row-too-large : (call : BulkCall) (rows n len : ℕ) (values : List CValue) → length values ≡ rows * length call.columns.now → n < rows → HasRows (builder_for call) (length call.columns.now) n len values
-    → takes_row call.columns.now (row_at (length call.columns.now) n values) ≡ true → call.max_allowed_packet - 4 < len + row_size (values_contents (row_at (length call.columns.now) n values)) → n ≡ 0
-    → RefusesAny (builder_for call) (length call.columns.now) values 6
-row-too-large call rows n len values whole lt h taken past first =
-    refused call rows n len 6 values whole lt h (inr (inr (refl, first, row-past call rows n len values whole lt h taken past)))
+  -- it does not fit
+  row-past : (rows n len : ℕ) → n < rows → IsCounted call n len values → takes_row call.columns.now (row n) ≡ true
+      → call.max_allowed_packet - 4 < len + length (row_bytes call.columns.now (row n)) → NextIsFull (writer_for call) call.columns.now n values
+  row-past rows n len lt h taken past = record {
+    taken = taken;
+    full = λ fits. absurd (omega (arith, fits.0, past, h.size, size-more types (first_rows (length types) n values) (row n)));
+  }
 
-pub row-refused : (call : BulkCall) (rows n len : ℕ) (values : List CValue) → length values ≡ rows * length call.columns.now → n < rows → HasRows (builder_for call) (length call.columns.now) n len values
-    → takes_row call.columns.now (row_at (length call.columns.now) n values) ≡ false → RefusesAny (builder_for call) (length call.columns.now) values 3
-row-refused call rows n len values whole lt h none =
-    refused call rows n len 3 values whole lt h (why (list_all is_value (row_at (length call.columns.now) n values)) refl none)
-  where
-    why : (b : Bool) → list_all is_value (row_at (length call.columns.now) n values) ≡ b → (b && spell_row (declared_types call.columns.now) (values_contents (row_at (length call.columns.now) n values))) ≡ false
-        → WhyRefused (builder_for call) (length call.columns.now) n values 3
-    why false e h = inl (refl, e)
-    why true e h = inr (inl (refl, e, λ (t : spell_row (declared_types call.columns.now) (values_contents (row_at (length call.columns.now) n values)) ≡ true). absurd (let f : spell_row (declared_types call.columns.now) (values_contents (row_at (length call.columns.now) n values)) ≡ false = h in cc)))
+  pub row-full : (rows n len : ℕ) → n < rows → IsCounted call n len values → takes_row call.columns.now (row n) ≡ true
+      → call.max_allowed_packet - 4 < len + length (row_bytes call.columns.now (row n)) → n ≢ 0 → Counted call n len values
+  row-full rows n len lt h taken past some = record { counted = h; full = inr (row-past rows n len lt h taken past); some = λ none. absurd (some none) }
 
-pub all-counted : (call : BulkCall) (rows len : ℕ) (values : List CValue) → length values ≡ rows * length call.columns.now → HasRows (builder_for call) (length call.columns.now) rows len values
-    → Counted (builder_for call) (length call.columns.now) rows len values
-all-counted call rows len values whole h = record {
-  rows = h;
-  full = inl (sym whole);
-  some = λ none.
-      let nothing : 0 * length call.columns.now ≡ 0 = omega arith in
-      nil_from_length values (whole ∙ ap (λ k. k * length call.columns.now) none ∙ nothing);
-}
+  refused : (rows n len code : ℕ) → length values ≡ rows * length call.columns.now → n < rows → IsCounted call n len values → WhyRefused (writer_for call) call.columns.now n values code
+      → RefusesAny (writer_for call) call.columns.now values code
+  refused rows n len code whole lt h why = record { count = n; rows = h.rows; there = row-inside (length types) rows n (length values) whole lt; why = why }
+
+  pub row-too-large : (rows n len : ℕ) → length values ≡ rows * length call.columns.now → n < rows → IsCounted call n len values → takes_row call.columns.now (row n) ≡ true
+      → call.max_allowed_packet - 4 < len + length (row_bytes call.columns.now (row n)) → n ≡ 0 → RefusesAny (writer_for call) call.columns.now values 6
+  row-too-large rows n len whole lt h taken past first = refused rows n len 6 whole lt h (inr (refl, first, row-past rows n len lt h taken past))
+
+  pub row-refused : (rows n len : ℕ) → length values ≡ rows * length call.columns.now → n < rows → IsCounted call n len values → takes_row call.columns.now (row n) ≡ false
+      → RefusesAny (writer_for call) call.columns.now values 3
+  row-refused rows n len whole lt h none = refused rows n len 3 whole lt h (inl (refl, none))
+
+  pub all-counted : (rows len : ℕ) → length values ≡ rows * length call.columns.now → IsCounted call rows len values → Counted call rows len values
+  all-counted rows len whole h = record {
+    counted = h;
+    full = inl (sym whole);
+    some = λ none. let nothing : 0 * length types ≡ 0 = omega arith in nil_from_length values (whole ∙ ap (λ k. k * length types) none ∙ nothing);
+  }
+
+  -- ---- the request
+
+  pub counted-bytes : (n len : ℕ) → IsCounted call n len values → len ≡ length (request_with call n values)
+  counted-bytes n len h =
+      omega (
+        arith,
+        h.size,
+        length-append (head_with call) (rows_from types n 0 values),
+        head-size call.statement_id call.flags types,
+        ap length (rows-all types n values),
+        length-flat_map (cells_bytes (declared_types types)) (first_rows (length types) n values),
+        length-map types declared_type,
+      )
+
+  some-rows : (n : ℕ) → 1 ≤ n → first_rows (length call.columns.now) n values ≢ []
+  some-rows n some none =
+      let e : n ≡ 0 = sym (length-map (rows_of (length types) n values) cells_of ∙ length-rows_of (length types) n values) ∙ ap length none in
+      omega (arith, e, some)
+
+  pub rows-written : (n len code : ℕ) (old new : List ℕ) (written rows : ℕ) → IsCounted call n len values → 1 ≤ n → call.max_allowed_packet < 2 ^ 64
+      → PutsUnlessTooLong (request_with call n values) code old new written → (code ≡ 0 → rows ≡ n) → (code ≢ 0 → rows ≡ 0)
+      → WritesBuilt (writer_for call) (first_rows (length call.columns.now) n values) n code old new written rows
+  rows-written n len code old new written rows h some limit puts done small =
+      let fits = h.rows.fit (some-rows n some) in
+      let short : length (request_with call n values) < 2 ^ 64 - 1 = omega (arith, fits.0, h.size, counted-bytes n len h, limit) in
+      record {
+        request = request_with call n values;
+        built = (some-rows n some, ap (λ (l : List ℕ). head_with call ++ l) (rows-all types n values), fits);
+        bytes = puts.puts (λ e. omega (arith, (puts.long e).long, short));
+        done = done;
+        small = small;
+      }
 
 -- no row is counted if there is none
-pub none-first : (call : BulkCall) (n len : ℕ) (values : List CValue) → HasRows (builder_for call) (length call.columns.now) n len values → 1 ≤ length call.columns.now → values ≡ [] → n ≡ 0
-none-first call n len values h some none = no-rows n (subst (λ (vs : List CValue). n * length call.columns.now ≤ length vs) none h.are_rows.within)
+pub none-first : (call : BulkCall) (n len : ℕ) (values : List CValue) → IsCounted call n len values → 1 ≤ length call.columns.now → values ≡ [] → n ≡ 0
+none-first call n len values h some none = no-rows n (subst (λ (vs : List CValue). n * length call.columns.now ≤ length vs) none h.rows.within)
   where
     no-rows : (n : ℕ) → n * length call.columns.now ≤ 0 → n ≡ 0
     no-rows zero h = refl
     no-rows (suc n) h = let e : suc n * length call.columns.now ≡ length call.columns.now + n * length call.columns.now = omega arith in absurd (omega (arith, h, e, some))
 
-pub ruleset row_places = (row-within)
+-- no row is refused if there is none
+pub none-there : (w : WriterState) (types : List CColumnType) (values : List CValue) (code : ℕ) → RefusesAny w types values code → 1 ≤ length types → values ≡ [] → ⊥
+none-there w types values code refused some none =
+    let there : refused.count * length types + length types ≤ 0 = subst (λ (vs : List CValue). refused.count * length types + length types ≤ length vs) none refused.there in
+    omega (arith, there, some)
 
-pub ruleset bulk_calls = (none-first, none-there, some-columns)
+pub ruleset row_places = (row-within, row-inside)
 
-pub ruleset bulk_rows = (row-there, rows-next)
+pub ruleset type_sizes = (length-param_type)
+
+pub ruleset heads = (types-sent, append-nil)
+
+pub ruleset bulk_rows = (row-within, row-inside, none-counted, all-counted, none-first, none-there, some-columns, counted-bytes, rows-written, rows-from-none)

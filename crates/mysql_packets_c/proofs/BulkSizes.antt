@@ -2,13 +2,11 @@
 use Rattle.std.proofs.Common.{◌≡◌, ◌<◌, ◌≤◌, ◌+◌, ◌*◌, ◌-◌, ◌++◌, ◌∷◌, ◌&&◌, ℕ, suc, true, List, [], length, take, drop, slice_set, refl, sym, ap, ◌∙◌, arith}
 use Rattle.std.proofs.lemmas.List.{drop-drop, map-append, take_more_set, take-append-drop}
 use Rattle.mysql_wire.specs.Writing.{saturated}
-use Rattle.mysql_bulk.specs.Row.{row_size}
-use Rattle.mysql_packets_c.specs.Bulk.{first_rows, row_at, takes_row}
-use Rattle.mysql_packets_c.specs.BulkSizes.{sizes_of, takes_rows}
-use Rattle.mysql_packets_c.specs.Value.{values_contents}
+use Rattle.mysql_packets_c.specs.Bulk.{row_at, row_bytes, rows_of, takes_row, takes_rows}
+use Rattle.mysql_packets_c.specs.BulkSizes.{sizes_of}
 use Rattle.mysql_packets_c.specs.declared.rows.CColumnType.{CColumnType}
 use Rattle.mysql_packets_c.specs.declared.value.CValue.{CValue}
-use Rattle.mysql_packets_c.proofs.BulkRows.{first-next, length-rows_of, next-place}
+use Rattle.mysql_packets_c.proofs.BulkRows.{length-rows_of, next-place, row-inside, rows-next}
 use Rattle.mysql_packets_c.proofs.FilledRows.{others-kept}
 
 -- the rows from one on are that row and those after it
@@ -31,21 +29,17 @@ pub takes-none : (columns : List CColumnType) (rows n : ℕ) (values : List CVal
 takes-none columns rows n values le = let none : rows - n ≡ 0 = omega arith in rw none refl
 
 -- one more size is in its place
-pub size-put : (columns n size : ℕ) (values : List CValue) (sizes : List ℕ) → take n sizes ≡ sizes_of (first_rows columns n values) → n < length sizes
-    → size ≡ saturated (row_size (values_contents (row_at columns n values))) → take (n + 1) (slice_set sizes n size) ≡ sizes_of (first_rows columns (n + 1) values)
+pub size-put : (columns : List CColumnType) (n size : ℕ) (values : List CValue) (sizes : List ℕ) → take n sizes ≡ sizes_of columns (rows_of (length columns) n values) → n < length sizes
+    → size ≡ saturated (length (row_bytes columns (row_at (length columns) n values))) → take (n + 1) (slice_set sizes n size) ≡ sizes_of columns (rows_of (length columns) (n + 1) values)
 size-put columns n size values sizes so_far fits is =
     take_more_set sizes n size fits
     ∙ ap (λ l. l ++ size ∷ []) so_far
-    ∙ ap (λ s. sizes_of (first_rows columns n values) ++ s ∷ []) is
-    ∙ sym (map-append (λ row. saturated (row_size row)) (first_rows columns n values) (values_contents (row_at columns n values) ∷ []))
-    ∙ sym (ap sizes_of (first-next columns n values))
+    ∙ ap (λ s. sizes_of columns (rows_of (length columns) n values) ++ s ∷ []) is
+    ∙ sym (map-append (λ row. saturated (length (row_bytes columns row))) (rows_of (length columns) n values) (row_at (length columns) n values ∷ []))
+    ∙ sym (ap (sizes_of columns) (rows-next (length columns) n values))
 
 -- all of them are there
 pub sizes-put : (n : ℕ) (old new front : List ℕ) → take n new ≡ front → drop n new ≡ drop n old → new ≡ front ++ drop n old
 sizes-put n old new front first others = sym (take-append-drop n new) ∙ ap (λ l. l ++ drop n new) first ∙ ap (λ l. front ++ l) others
 
--- how many rows there are
-pub count-rows : (columns n : ℕ) (values : List CValue) → length (first_rows columns n values) ≡ n
-count-rows columns n values = length-rows_of columns n (values_contents values)
-
-pub ruleset bulk_sizes = (takes-all, takes-next, takes-none, size-put, sizes-put, others-kept, count-rows)
+pub ruleset bulk_sizes = (takes-all, takes-next, takes-none, size-put, sizes-put, others-kept, length-rows_of, row-inside)

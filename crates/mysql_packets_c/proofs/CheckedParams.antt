@@ -10,18 +10,18 @@ use Rattle.mysql_values.specs.Value.{Content, NULL, Bytes, Int, UInt, Float, Dou
 use Rattle.mysql_values.specs.declared.date_time_with_offset.DateTimeWithOffset.{DateTimeWithOffset}
 use Rattle.mysql_values.specs.declared.param_type.ParamType.{ParamType}
 use Rattle.mysql_wire.specs.Writing.{le_bytes, saturated}
-use Rattle.mysql_prepared.specs.Bitmap.{bytes_for}
-use Rattle.mysql_prepared.specs.ExecuteHead.{execute_head, head_with, with_count}
-use Rattle.mysql_prepared.specs.ExecuteParam.{Sent, SentAhead, contents, value_of}
-use Rattle.mysql_prepared.specs.ExecuteRead.{TypedParam}
-use Rattle.mysql_prepared.specs.ExecuteWithOptions.{asked}
-use Rattle.mysql_prepared.specs.Execution.{execution_bytes}
-use Rattle.mysql_prepared.specs.NullMarks.{bitmap_of, first_eight, is_null, packed}
-use Rattle.mysql_prepared.specs.SentParam.{bytes_under, first_unspelled, is_spelled_under, type_bytes, value_bytes}
-use Rattle.mysql_prepared.specs.declared.execute_head.ComStmtExecuteHead.{ComStmtExecuteHead}
-use Rattle.mysql_prepared.specs.declared.execute_with_options.ComStmtExecuteOptionsBuilder.{ComStmtExecuteOptionsBuilder}
-use Rattle.mysql_prepared.proofs.PackedBits.{bitmap-long, bytes-long, packed-more}
-use Rattle.mysql_prepared.proofs.SentBytes.{first-sent, length-type}
+use Rattle.mysql_stmt.specs.Bitmap.{bytes_for}
+use Rattle.mysql_stmt.specs.ExecuteHead.{execute_head, head_with, with_count}
+use Rattle.mysql_stmt.specs.ExecuteParam.{Sent, SentAhead, contents, value_of}
+use Rattle.mysql_stmt.specs.ExecuteRead.{TypedParam}
+use Rattle.mysql_stmt.specs.ExecuteWithOptions.{asked}
+use Rattle.mysql_stmt.specs.Execution.{execution_bytes}
+use Rattle.mysql_stmt.specs.NullMarks.{bitmap_of, first_eight, is_null, packed}
+use Rattle.mysql_stmt.specs.SentParam.{bytes_under, first_unspelled, is_spelled_under, type_bytes, value_bytes}
+use Rattle.mysql_stmt.specs.declared.execute_head.ComStmtExecuteHead.{ComStmtExecuteHead}
+use Rattle.mysql_stmt.specs.declared.execute_with_options.ComStmtExecuteOptionsBuilder.{ComStmtExecuteOptionsBuilder}
+use Rattle.mysql_stmt.proofs.PackedBits.{bitmap-long, bytes-long, packed-more}
+use Rattle.mysql_stmt.proofs.SentBytes.{first-sent, length-type}
 use Rattle.mysql_packets_c.specs.CheckedParams.{bitmap_for, bits_of, has_null, is_null_sent, may_send, plainly, sent_bytes, type_sent}
 use Rattle.mysql_packets_c.specs.Execution.{is_set}
 use Rattle.mysql_packets_c.specs.Output.{PutsUnlessTooLong}

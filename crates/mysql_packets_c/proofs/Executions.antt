@@ -1,6 +1,7 @@
 -- An execution read into places.
 use Rattle.std.proofs.Common.{◌≡◌, ◌≢◌, ◌<◌, ◌≤◌, ◌-◌, ◌++◌, ◌∷◌, ◌+◌, ℕ, List, [], slice_set, Result, Ok, Err, Bool, length, drop, map, take, get_or, false, refl, sym, subst, ap, ◌∙◌, arith, if◌then◌else◌}
-use Rattle.std.proofs.lemmas.List.{append-nil, append_assoc, drop-drop, drop_more, length-drop, length-map, take_more_set}
+use Rattle.std.proofs.lemmas.List.{append-nil, append_assoc, drop_more, length-drop, length-map, length-take-le, take_more_set}
+use Rattle.std.specs.List.{AllZip}
 use Rattle.mysql_wire.specs.declared.fault.FaultKind.{FaultKind}
 use Rattle.mysql_wire.specs.declared.fault.FaultKind.TheVariants as kind
 use Rattle.mysql_wire.specs.declared.fault.FaultOf.{FaultOf}
@@ -9,23 +10,22 @@ use Rattle.mysql_wire.specs.Each.{each}
 use Rattle.mysql_wire.specs.Flags.{CapabilityFlags}
 use Rattle.mysql_wire.specs.Form.{Form}
 use Rattle.mysql_wire.specs.Reading.{Reading, Faults, then_read}
-use Rattle.mysql_prepared.specs.Attributes.{Attribute, AttributesLeft, attribute, attributes_left, attributes_read}
-use Rattle.mysql_prepared.specs.ExecuteHead.{cursor_flags, stmt_id}
-use Rattle.mysql_prepared.specs.ExecuteRead.{AttributesAhead, Gives, HasNoParam, ParamsBytes, ParamsLeft, RefusesParam, StandsAfter, TypedParam, attributes_at, execution, execution_front, execution_of, left_of, params_of, params_to}
-use Rattle.mysql_prepared.specs.SentTypes.{NamedType}
-use Rattle.mysql_prepared.proofs.ParamViews.{no-param}
-use Rattle.mysql_prepared.specs.declared.execute_head.ComStmtExecuteHead.{ComStmtExecuteHead}
-use Rattle.mysql_prepared.specs.declared.execute_view.BoundParam.{BoundParam}
+use Rattle.mysql_stmt.specs.Attributes.{Attribute, AttributesLeft, attribute, attributes_left, attributes_read}
+use Rattle.mysql_stmt.specs.ExecuteHead.{cursor_flags, stmt_id}
+use Rattle.mysql_stmt.specs.ExecuteRead.{AttributesAhead, Gives, HasNoParam, ParamsBytes, ParamsLeft, RefusesParam, StandsAfter, TypedParam, attributes_at, bytes_after, execution, execution_front, execution_of, left_of, params_of, params_to}
+use Rattle.mysql_stmt.specs.SentTypes.{NamedType}
+use Rattle.mysql_stmt.proofs.ParamViews.{no-param}
+use Rattle.mysql_stmt.specs.declared.execute_head.ComStmtExecuteHead.{ComStmtExecuteHead}
+use Rattle.mysql_stmt.specs.declared.execute_view.BoundParam.{BoundParam}
 use Rattle.mysql_packets_c.specs.Code.{fault_code, kind_code}
 use Rattle.mysql_packets_c.specs.Input.{used_of}
-use Rattle.mysql_packets_c.specs.Value.{param_content}
-use Rattle.mysql_packets_c.specs.Execution.{ExecutionInto, FillsParams, HoldsExecution, HoldsParams, KeepsRest, ParamsInto, TakesParams, bound_list, bound_of, content_of, contents_of, last_left, sends_types, type_held, types_of}
+use Rattle.mysql_packets_c.specs.Value.{IsSet, param_content}
+use Rattle.mysql_packets_c.specs.Execution.{ExecutionInto, FillsGood, FillsParams, HoldsExecution, HoldsParams, KeepsRest, ParamsInto, TakesParams, bound_list, bound_of, content_of, contents_of, good_after, good_execution, good_params, last_left, sends_types, type_held, types_of}
 use Rattle.mysql_packets_c.specs.declared.execution.CExecution.{CExecution}
 use Rattle.mysql_packets_c.specs.declared.execution.CBoundParam.{CBoundParam}
 use Rattle.mysql_packets_c.specs.declared.rows.CColumnType.{CColumnType}
 use Rattle.mysql_packets_c.specs.declared.value.CValue.{CValue}
-use Rattle.mysql_packets_c.specs.Rows.{FillsBoth, FillsPlaces}
-use Rattle.mysql_packets_c.proofs.FilledRows.{none-both, none-filled, one-more, one-param-set}
+use Rattle.mysql_packets_c.proofs.FilledRows.{one-more, one-param-set}
 
 -- ---- one more parameter
 
@@ -91,38 +91,6 @@ then-fault r next (fault.InvalidData text) h = rw h refl
 then-fault r next (fault.InvalidInput text) h = rw h refl
 then-fault r next fault.Memory h = absurd cc
 
--- ---- places
-
-pub some-filled : (count : ℕ) (is_read : Type 0) (old new : ParamsLeft) (values_before values : List CValue) (types_before types : List CColumnType)
-    → old.left ≡ count → FillsParams old new values_before values types_before types → (is_read → HasNoParam new) → FillsPlaces count is_read values_before values
-some-filled count is_read old new values_before values types_before types left fills done = record {
-  count = old.left - new.left;
-  few = omega (arith, left);
-  all = λ h. let none : new.left ≡ 0 = (done h).0 in omega (arith, left, none);
-  places = record { set = fills.set; others = fills.other_values };
-}
-
--- the same number of places is set in both arrays
-pub both-filled : (count : ℕ) (is_read : Type 0) (old new : ParamsLeft) (values_before values : List CValue) (types_before types : List CColumnType)
-    → old.left ≡ count → FillsParams old new values_before values types_before types → (is_read → HasNoParam new) → FillsBoth count is_read values_before values types_before types
-both-filled count is_read old new values_before values types_before types left fills done = record {
-  count = old.left - new.left;
-  few = omega (arith, left);
-  all = λ h. let none : new.left ≡ 0 = (done h).0 in omega (arith, left, none);
-  places = record { set = fills.set; others = fills.other_values };
-  other_places = fills.other_types;
-}
-
--- further places are unchanged too
-dropped : {X : Type 0} (i n : ℕ) (before after : List X) → i ≤ n → drop i after ≡ drop i before → drop n after ≡ drop n before
-dropped i n before after le same =
-    let whole : i + (n - i) ≡ n = omega arith in
-    ap (λ k. drop k after) (sym whole) ∙ sym (drop-drop (n - i) i after) ∙ ap (drop (n - i)) same ∙ drop-drop (n - i) i before ∙ ap (λ k. drop k before) whole
-
-pub types-kept : (count : ℕ) (old new : ParamsLeft) (values_before values : List CValue) (types_before types : List CColumnType)
-    → old.left ≡ count → FillsParams old new values_before values types_before types → drop count types ≡ drop count types_before
-types-kept count old new values_before values types_before types left fills = dropped (old.left - new.left) count types_before types (omega (arith, left)) fills.other_types
-
 -- ---- codes
 
 pub not-memory : {A : Type 0} (e : FaultOf) (read : Reading A) → Faults false e read → fault_code e ≢ 4
@@ -141,6 +109,86 @@ pub all-left : (sent : ParamsBytes) (params : List CBoundParam) → sent.left �
 all-left sent params len =
     let none : length params - sent.left ≡ 0 = omega (arith, len) in
     ap (λ (k : ℕ). left_of sent (bound_list (drop k params))) none
+
+-- ---- places
+
+-- everything before the fault was read
+module _ (old new : ParamsLeft) (values_before values : List CValue) (types_before types : List CColumnType) (fit : old.left ≤ length types_before) (fills : FillsParams old new values_before values types_before types)
+    (none : new.params ≡ []) where
+  abbrev count : ℕ
+  count = old.left - new.left
+
+  all-contents : contents_of old.params ≡ map param_content (take count values)
+  all-contents = fills.contents ∙ ap (λ (ps : List TypedParam). map param_content (take count values) ++ contents_of ps) none ∙ append-nil (map param_content (take count values))
+
+  all-types : types_of old.params ≡ take count types
+  all-types = fills.types ∙ ap (λ (ps : List TypedParam). take count types ++ types_of ps) none ∙ append-nil (take count types)
+
+  good-count : length old.params ≡ count
+  good-count = sym (length-map old.params (λ p. type_held p.named_type.param_type)) ∙ ap length all-types ∙ length-take-le count types (omega (arith, fit, fills.type_count))
+
+  params-filled : FillsGood old.params values_before values types_before types
+  params-filled = record {
+    contents = ap (λ n. map param_content (take n values)) good-count ∙ sym all-contents;
+    types = ap (λ n. take n types) good-count ∙ sym all-types;
+    places = record {
+      set = subst (λ (n : ℕ). AllZip IsSet (take n values_before) (take n values)) (sym good-count) fills.set;
+      others = subst (λ (n : ℕ). drop n values ≡ drop n values_before) (sym good-count) fills.other_values;
+    };
+    other_types = subst (λ (n : ℕ). drop n types ≡ drop n types_before) (sym good-count) fills.other_types;
+  }
+
+-- the good parameters are those that are left after the front
+pub good-are : (c : CapabilityFlags) (flags : ℕ) (list : List CBoundParam) (bytes : List ℕ) (sent : ParamsBytes) → StandsAfter c flags (length list) bytes sent → good_params c flags (bound_list list) bytes ≡ (last_left sent list).params
+good-are c flags list bytes sent (f, rest, reads, is) =
+    let ps = bound_list list in
+    let len : length ps ≡ length list = length-map list bound_of in
+    let left : sent.left ≡ length list = ap (λ (b : ParamsBytes). b.left) is in
+    let whole : last_left sent list ≡ left_of (bytes_after (length ps) f rest) ps = all-left sent list left ∙ ap (λ (b : ParamsBytes). left_of b ps) (is ∙ ap (λ (n : ℕ). bytes_after n f rest) (sym len)) in
+    ap (good_after ps) (ap (λ (n : ℕ). (execution_front c flags n).reads bytes) len ∙ reads) ∙ ap (λ (l : ParamsLeft). l.params) (sym whole)
+
+pub good-filled : (c : CapabilityFlags) (flags : ℕ) (list : List CBoundParam) (bytes : List ℕ) (values_before values : List CValue) (types_before types : List CColumnType) (sent after : ParamsBytes)
+    → StandsAfter c flags (length list) bytes sent → length list ≤ length types_before → FillsParams (last_left sent list) (last_left after list) values_before values types_before types → (last_left after list).params ≡ []
+    → FillsGood (good_params c flags (bound_list list) bytes) values_before values types_before types
+good-filled c flags list bytes values_before values types_before types sent after stands fit fills none =
+    let left : sent.left ≡ length list = ap (λ (b : ParamsBytes). b.left) stands.3 in
+    subst (λ (g : List TypedParam). FillsGood g values_before values types_before types) (sym (good-are c flags list bytes sent stands))
+    (params-filled (last_left sent list) (last_left after list) values_before values types_before types (omega (arith, left, fit)) fills none)
+
+-- no parameter stands after a front, or a head, that is none
+module _ (P : List TypedParam → Type 0) (none : P []) where
+  front-fault : (c : CapabilityFlags) (flags : ℕ) (list : List CBoundParam) (bytes : List ℕ) (k : FaultKind) → (execution_front c flags (length list)).reads bytes ≡ Err k → P (good_params c flags (bound_list list) bytes)
+  front-fault c flags list bytes k h = rw (length-map list bound_of, h) none
+
+  pub no-front : (c : CapabilityFlags) (flags : ℕ) (list : List CBoundParam) (bytes : List ℕ) (e : FaultOf) → Faults false e ((execution_front c flags (length list)).reads bytes) → P (good_params c flags (bound_list list) bytes)
+  no-front c flags list bytes fault.UnexpectedEof h = front-fault c flags list bytes kind.UnexpectedEof h
+  no-front c flags list bytes (fault.InvalidData text) h = front-fault c flags list bytes kind.InvalidData h
+  no-front c flags list bytes (fault.InvalidInput text) h = front-fault c flags list bytes kind.InvalidInput h
+  no-front c flags list bytes fault.Memory h = absurd cc
+
+  head-fault-of : (c : CapabilityFlags) (params : List BoundParam) (read : Reading ComStmtExecuteHead) (k : FaultKind) → read ≡ Err k → P (good_execution c params read)
+  head-fault-of c params read k h = rw h none
+
+  pub no-head : (c : CapabilityFlags) (params : List BoundParam) (read : Reading ComStmtExecuteHead) (e : FaultOf) → Faults false e read → P (good_execution c params read)
+  no-head c params read fault.UnexpectedEof h = head-fault-of c params read kind.UnexpectedEof h
+  no-head c params read (fault.InvalidData text) h = head-fault-of c params read kind.InvalidData h
+  no-head c params read (fault.InvalidInput text) h = head-fault-of c params read kind.InvalidInput h
+  no-head c params read fault.Memory h = absurd cc
+
+nothing-filled : (values : List CValue) (types : List CColumnType) → FillsGood [] values values types types
+nothing-filled values types = record { contents = refl; types = refl; places = record { set = tt; others = refl }; other_types = refl }
+
+pub front-refused : (c : CapabilityFlags) (flags : ℕ) (list : List CBoundParam) (bytes : List ℕ) (values : List CValue) (types : List CColumnType) (e : FaultOf)
+    → Faults false e ((execution_front c flags (length list)).reads bytes) → FillsGood (good_params c flags (bound_list list) bytes) values values types types
+front-refused c flags list bytes values types e h = no-front (λ g. FillsGood g values values types types) (nothing-filled values types) c flags list bytes e h
+
+pub head-refused : (c : CapabilityFlags) (params : List BoundParam) (read : Reading ComStmtExecuteHead) (values : List CValue) (types : List CColumnType) (e : FaultOf) → Faults false e read
+    → FillsGood (good_execution c params read) values values types types
+head-refused c params read values types e h = no-head (λ g. FillsGood g values values types types) (nothing-filled values types) c params read e h
+
+pub head-read : (c : CapabilityFlags) (params : List BoundParam) (read : Reading ComStmtExecuteHead) (values_before values : List CValue) (types_before types : List CColumnType) (h : ComStmtExecuteHead) (after : List ℕ) → read ≡ Ok (h, after)
+    → FillsGood (good_params c (cursor_flags h) params after) values_before values types_before types → FillsGood (good_execution c params read) values_before values types_before types
+head-read c params read values_before values types_before types h after e fills = rw e fills
 
 -- what is left after the last parameter
 pub record NoneLeft (sent : ParamsBytes) (left : ParamsLeft) : Type 0 where
@@ -278,4 +326,4 @@ module _ (c : CapabilityFlags) (packet : List ℕ) (params : List BoundParam) (r
 
 pub ruleset fills = (one-content, one-type, one-param-set)
 
-pub ruleset executions = (not-memory, into-execution, fault-of-head, fault-of-params, none-both, none-filled, both-filled, some-filled, types-kept)
+pub ruleset executions = (not-memory, into-execution, fault-of-head, fault-of-params, good-filled, front-refused, head-refused, head-read)

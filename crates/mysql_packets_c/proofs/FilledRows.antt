@@ -9,9 +9,9 @@ use Rattle.mysql_wire.specs.declared.fault.FaultOf.TheVariants as fault
 use Rattle.mysql_wire.specs.Reading.{Reading, Faults}
 use Rattle.mysql_values.specs.ParamValue.{ParamContent, Plain, WithOffset}
 use Rattle.mysql_values.specs.Value.{Content, NULL, Bytes, Int, UInt, Float, Double, Date, Time}
-use Rattle.mysql_prepared.specs.RowView.{Gives, IsBinaryRow, RowLeft, IsDone, RefusesNext, read_to, read_of, row_front, text_row_left}
+use Rattle.mysql_stmt.specs.RowView.{Gives, IsBinaryRow, RowLeft, IsDone, RefusesNext, read_to, read_of, row_front, text_row_left}
 use Rattle.mysql_packets_c.specs.ColumnType.{type_of, unsigned_of}
-use Rattle.mysql_packets_c.specs.Rows.{Fills, FillsBoth, FillsGood, FillsPlaces, good_after, good_binary, good_text, values_held}
+use Rattle.mysql_packets_c.specs.Rows.{Fills, FillsGood, good_after, good_binary, good_text, values_held}
 use Rattle.mysql_packets_c.specs.Value.{IsSet, Sets, SetsParam, date_with_offset_of, kind_of, param_content, value_content}
 use Rattle.mysql_packets_c.specs.declared.rows.CColumnType.{CColumnType}
 use Rattle.mysql_packets_c.specs.declared.value.CValue.{CValue}
@@ -93,24 +93,6 @@ one-filled first row after before values place x z c so_far gives content sets f
   set = one-set before values place x z c so_far.set so_far.others so_far.len fits content sets;
   others = others-kept before values place x so_far.others;
   len = length-set values place x ∙ so_far.len;
-}
-
--- no place is set
-pub none-filled : (columns : ℕ) (is_read : Type 0) (values : List CValue) → (is_read → ⊥) → FillsPlaces columns is_read values values
-none-filled columns is_read values none = record {
-  count = 0;
-  few = omega arith;
-  all = λ h. absurd (none h);
-  places = record { set = tt; others = refl };
-}
-
-pub none-both : {X : Type 0} (columns : ℕ) (is_read : Type 0) (values : List CValue) (others : List X) → (is_read → ⊥) → FillsBoth columns is_read values values others others
-none-both columns is_read values others none = record {
-  count = 0;
-  few = omega arith;
-  all = λ h. absurd (none h);
-  places = record { set = tt; others = refl };
-  other_places = refl;
 }
 
 -- everything before the fault was read

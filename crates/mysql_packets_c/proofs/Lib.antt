@@ -9,7 +9,7 @@ pub mod MergedNames
 pub mod Mixed
 pub mod BinaryRows
 pub mod BulkRows
-pub mod BulkRequests
+pub mod BulkCells
 pub mod BulkByRow
 pub mod BulkSizes
 pub mod ReadBulkRows

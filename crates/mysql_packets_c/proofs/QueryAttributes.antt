@@ -1,6 +1,6 @@
 -- The attributes of a query, one by one.
 use Rattle.std.proofs.Common.{◌≡◌, ℕ, zero, suc, ◌<◌, ◌-◌, List, [], ◌∷◌, Option, Some, None, Ok, Err, false, refl, sym, subst, ap, ◌∙◌, arith}
-use Rattle.mysql_prepared.specs.Attributes.{Attribute, AttributesLeft, IsGood, attributes_read, more}
+use Rattle.mysql_stmt.specs.Attributes.{Attribute, AttributesLeft, IsGood, attributes_read, more}
 use Rattle.mysql_wire.specs.declared.fault.FaultOf.{FaultOf}
 use Rattle.mysql_wire.specs.declared.fault.FaultOf.TheVariants as fault
 use Rattle.mysql_wire.specs.Reading.{Reading, Faults}

@@ -1,6 +1,7 @@
 -- The types and the rows of a bulk execution, read in order.
-use Rattle.std.proofs.Common.{◌≡◌, ◌<◌, ◌≤◌, ◌+◌, ◌*◌, ◌-◌, ◌++◌, ◌∷◌, ℕ, Bool, true, false, List, [], length, map, take, drop, get_or, slice_set, Result, Ok, Err, refl, sym, subst, ap, ◌∙◌, arith, if◌then◌else◌, nat_lt}
-use Rattle.std.proofs.lemmas.List.{drop-drop, get_or-map, length-map, length-set, map-append, take_all, take_more_set}
+use Rattle.std.proofs.Common.{◌≡◌, ◌<◌, ◌≤◌, ◌+◌, ◌*◌, ◌-◌, ◌++◌, ◌∷◌, ℕ, suc, Bool, true, false, List, [], length, map, take, drop, get_or, slice_set, Result, Ok, Err, refl, sym, subst, ap, ◌∙◌, arith, if◌then◌else◌, nat_lt}
+use Rattle.std.proofs.lemmas.Bool.{lt-ltb}
+use Rattle.std.proofs.lemmas.List.{append-nil, append_assoc, drop_all, drop_more, get_or-map, length-map, length-set, length-take-le, map-append, take_all, take_more_set}
 use Rattle.std.specs.List.{AllZip}
 use Rattle.mysql_wire.specs.Each.{each}
 use Rattle.mysql_wire.specs.FlagMasks.{UNSIGNED, UNSIGNED_FLAG}
@@ -23,16 +24,15 @@ use Rattle.mysql_bulk.specs.ParamValue.{ParamValue, contents, param_value}
 use Rattle.mysql_bulk.specs.ParamValues.{BulkColumn, value_of_column}
 use Rattle.mysql_bulk.specs.ReadRows.{content_of_column, row_of_columns}
 use Rattle.mysql_bulk.proofs.HeadTypes.{types_read, types_short}
-use Rattle.mysql_packets_c.specs.BulkRow.{ContentsInto, FillsTypes, HoldsRow, ReadsRow, ReadsTypes, RowInto, TypesInto, bulk_row, column_of, indicators_of, types_held}
+use Rattle.mysql_packets_c.specs.BulkRow.{ContentsInto, FillsRow, FillsTypes, HoldsRow, ReadsRow, ReadsTypes, RowInto, TypesInto, bulk_row, column_of, good_block, good_row, good_types, indicators_of, types_held}
 use Rattle.mysql_packets_c.specs.Code.{fault_code, kind_code}
 use Rattle.mysql_packets_c.specs.ColumnType.{type_of, unsigned_of}
 use Rattle.mysql_packets_c.specs.Execution.{type_held}
-use Rattle.mysql_packets_c.specs.Rows.{FillsBoth, FillsPlaces}
 use Rattle.mysql_packets_c.specs.Value.{IsSet, Sets, value_content, values_contents}
 use Rattle.mysql_packets_c.specs.declared.rows.CColumnType.{CColumnType}
 use Rattle.mysql_packets_c.specs.declared.text.CBytes.{CBytes}
 use Rattle.mysql_packets_c.specs.declared.value.CValue.{CValue}
-use Rattle.mysql_packets_c.proofs.FilledRows.{none-both, none-filled, one-set, others-kept}
+use Rattle.mysql_packets_c.proofs.FilledRows.{one-set, others-kept}
 
 -- ---- types
 
@@ -40,6 +40,7 @@ use Rattle.mysql_packets_c.proofs.FilledRows.{none-both, none-filled, one-set, o
 pub record TypesSoFar (old rest : List ℕ) (before types : List CColumnType) (place : ℕ) : Type 0 where
   pub found : List ParamType
   pub read : (n : ℕ) → place ≤ n → with_front found ((counted (n - place) (param_type.form tt)).reads rest) ≡ (counted n (param_type.form tt)).reads old
+  pub good : good_types (length before) old ≡ found ++ good_types (length before - place) rest
   pub held : take place types ≡ types_held found
   pub others : drop place types ≡ drop place before
   pub len : length types ≡ length before
@@ -53,11 +54,21 @@ pub no-type : (old : List ℕ) (before : List CColumnType) → TypesSoFar old ol
 no-type old before = record {
   found = [];
   read = λ n le. let whole : n - 0 ≡ n = omega arith in rw whole (front-none ((counted n (param_type.form tt)).reads old));
+  good = let whole : length before - 0 ≡ length before = omega arith in rw whole refl;
   held = refl;
   others = refl;
   len = refl;
   within = omega arith;
 }
+
+one-good : (m k : ℕ) (rest after : List ℕ) (t : ParamType) → m ≡ suc k → (param_type.form tt).reads rest ≡ Ok (t, after) → good_types m rest ≡ t ∷ good_types k after
+one-good m k rest after t e reads = rw (e, reads) refl
+
+none-good : (m k : ℕ) (rest : List ℕ) (e : FaultOf) → m ≡ suc k → Faults false e ((param_type.form tt).reads rest) → good_types m rest ≡ []
+none-good m k rest fault.UnexpectedEof e h = rw (e, h) refl
+none-good m k rest (fault.InvalidData text) e h = rw (e, h) refl
+none-good m k rest (fault.InvalidInput text) e h = rw (e, h) refl
+none-good m k rest fault.Memory e h = absurd cc
 
 pub one-type : (old rest after : List ℕ) (before types : List CColumnType) (place : ℕ) (t : ParamType) (x : CColumnType) → TypesSoFar old rest before types place → place < length before
     → (param_type.form tt).reads rest ≡ Ok (t, after) → x ≡ type_held t → TypesSoFar old after before (slice_set types place x) (place + 1)
@@ -66,6 +77,8 @@ one-type old rest after before types place t x s lt reads is =
     record {
       found = s.found ++ t ∷ [];
       read = λ n le. next-item (param_type.form tt) s.found t n place rest after _ (omega (arith, le)) reads (s.read n (omega (arith, le)));
+      good = s.good ∙ ap (λ l. s.found ++ l) (one-good (length before - place) (length before - (place + 1)) rest after t (omega (arith, lt)) reads)
+          ∙ sym (append_assoc s.found (t ∷ []) (good_types (length before - (place + 1)) after));
       held = take_more_set types place x fits ∙ ap (λ l. l ++ x ∷ []) s.held ∙ ap (λ y. types_held s.found ++ y ∷ []) is ∙ sym (map-append type_held s.found (t ∷ []));
       others = others-kept before types place x s.others;
       len = length-set types place x ∙ s.len;
@@ -83,18 +96,26 @@ all-types old rest before types place s le =
     (s.found, all-read (param_type.form tt) s.found (length before) place rest _ le (s.read (length before) s.within), sym all ∙ s.held)
 
 -- those that were read are in the first places
-pub types-filled : (old rest : List ℕ) (before types : List CColumnType) (place : ℕ) → TypesSoFar old rest before types place → FillsTypes old before types
-types-filled old rest before types place s = record {
-  count = place;
-  types = s.found;
-  rest = rest;
-  read = let same : place ≤ place = omega arith in all-read (param_type.form tt) s.found place place rest _ same (s.read place same);
-  held = s.held;
-  others = s.others;
-}
+types-filled : (old rest : List ℕ) (before types : List CColumnType) (place : ℕ) → TypesSoFar old rest before types place → good_types (length before - place) rest ≡ []
+    → FillsTypes (good_types (length before) old) before types
+types-filled old rest before types place s none =
+    let all : good_types (length before) old ≡ s.found = s.good ∙ ap (λ l. s.found ++ l) none ∙ append-nil s.found in
+    let count : length s.found ≡ place = sym (length-map s.found type_held) ∙ sym (ap length s.held) ∙ length-take-le place types (omega (arith, s.within, s.len)) in
+    subst (λ (good : List ParamType). FillsTypes good before types) (sym all) (record {
+      held = subst (λ (n : ℕ). take n types ≡ types_held s.found) (sym count) s.held;
+      others = subst (λ (n : ℕ). drop n types ≡ drop n before) (sym count) s.others;
+    })
 
-pub no-types-filled : (old : List ℕ) (types : List CColumnType) → FillsTypes old types types
-no-types-filled old types = types-filled old old types types 0 (no-type old types)
+pub all-filled : (old rest : List ℕ) (before types : List CColumnType) (place : ℕ) → TypesSoFar old rest before types place → length before ≤ place → FillsTypes (good_types (length before) old) before types
+all-filled old rest before types place s le = types-filled old rest before types place s (let none : length before - place ≡ 0 = omega (arith, le) in rw none refl)
+
+pub good-filled : (old rest : List ℕ) (before types : List CColumnType) (place : ℕ) (e : FaultOf) → TypesSoFar old rest before types place → place < length before
+    → Faults false e ((param_type.form tt).reads rest) → FillsTypes (good_types (length before) old) before types
+good-filled old rest before types place e s lt h =
+    types-filled old rest before types place s (none-good (length before - place) (length before - (place + 1)) rest e (omega (arith, lt)) h)
+
+no-types-filled : (types : List CColumnType) → FillsTypes [] types types
+no-types-filled types = record { held = refl; others = refl }
 
 -- in their block
 abbrev bytes_if : (short : Bool) → ℕ → List ℕ → Reading (List ℕ)
@@ -105,13 +126,36 @@ front-of : (short : Bool) (count : ℕ) (old block rest : List ℕ) → bytes_if
 front-of true count old block rest e = absurd cc
 front-of false count old block rest e = let same : (take count old, drop count old) ≡ (block, rest) = cc in sym (ap (λ (p : List ℕ × List ℕ). p.0) same)
 
-block-front : (short : Bool) (count : ℕ) (old block rest : List ℕ) → nat_lt (length old) count ≡ short → (bytes count).reads old ≡ Ok (block, rest) → block ≡ take count old
-unfolding bytes
-block-front true count old block rest e reads = front-of true count old block rest (rw e at reads)
-block-front false count old block rest e reads = front-of false count old block rest (rw e at reads)
+good-of : (short : Bool) (count : ℕ) (old block rest : List ℕ) → bytes_if short (2 * count) old ≡ Ok (block, rest) → (if short then [] else good_types count (take (2 * count) old)) ≡ good_types count block
+good-of true count old block rest e = absurd cc
+good-of false count old block rest e = ap (good_types count) (sym (front-of false (2 * count) old block rest e))
 
-pub block-filled : (count : ℕ) (old block rest : List ℕ) (before types : List CColumnType) → (bytes count).reads old ≡ Ok (block, rest) → FillsTypes block before types → FillsTypes (take count old) before types
-block-filled count old block rest before types e fills = subst (λ (b : List ℕ). FillsTypes b before types) (block-front (nat_lt (length old) count) count old block rest refl e) fills
+block-good : (short : Bool) (count : ℕ) (old block rest : List ℕ) → nat_lt (length old) (2 * count) ≡ short → (bytes (2 * count)).reads old ≡ Ok (block, rest) → good_block count old ≡ good_types count block
+unfolding bytes
+block-good true count old block rest e reads = rw e (good-of true count old block rest (rw e at reads))
+block-good false count old block rest e reads = rw e (good-of false count old block rest (rw e at reads))
+
+pub block-filled : (count : ℕ) (old block rest : List ℕ) (before types : List CColumnType) → (bytes (2 * count)).reads old ≡ Ok (block, rest) → FillsTypes (good_types count block) before types → FillsTypes (good_block count old) before types
+block-filled count old block rest before types e fills =
+    subst (λ (good : List ParamType). FillsTypes good before types) (sym (block-good (nat_lt (length old) (2 * count)) count old block rest refl e)) fills
+
+-- no type is read of fewer bytes
+pub short-block : (count : ℕ) (old : List ℕ) (types : List CColumnType) → length old < 2 * count → FillsTypes (good_block count old) types types
+short-block count old types lt = rw (lt-ltb (length old) (2 * count) lt) (no-types-filled types)
+
+missing-as : (short : Bool) (count : ℕ) (old : List ℕ) (types : List CColumnType) (k : FaultKind) → nat_lt (length old) (2 * count) ≡ short → (bytes (2 * count)).reads old ≡ Err k → FillsTypes (good_block count old) types types
+unfolding bytes
+missing-as true count old types k e reads = rw e (no-types-filled types)
+missing-as false count old types k e reads = absurd (let none = rw e at reads in cc)
+
+missing-block-as : (count : ℕ) (old : List ℕ) (types : List CColumnType) (k : FaultKind) → (bytes (2 * count)).reads old ≡ Err k → FillsTypes (good_block count old) types types
+missing-block-as count old types k reads = missing-as (nat_lt (length old) (2 * count)) count old types k refl reads
+
+pub missing-block : (count : ℕ) (old : List ℕ) (types : List CColumnType) (e : FaultOf) → Faults false e ((bytes (2 * count)).reads old) → FillsTypes (good_block count old) types types
+missing-block count old types fault.UnexpectedEof h = missing-block-as count old types kind.UnexpectedEof h
+missing-block count old types (fault.InvalidData text) h = missing-block-as count old types kind.InvalidData h
+missing-block count old types (fault.InvalidInput text) h = missing-block-as count old types kind.InvalidInput h
+missing-block count old types fault.Memory h = absurd cc
 
 block-read : (count : ℕ) (old block rest left : List ℕ) (types : List CColumnType) → (bytes (2 * count)).reads old ≡ Ok (block, rest) → ReadsTypes (Ok tt) types left ((counted count (param_type.form tt)).reads block)
     → ReadsTypes (Ok tt) types rest ((types_block true count).reads old)
@@ -171,6 +215,7 @@ column-reads c d types place rest is lt =
 pub record RowSoFar (types : List CColumnType) (old rest : List ℕ) (values_before values : List CValue) (indicators_before indicators : List ℕ) (place : ℕ) : Type 0 where
   pub row : List ParamValue
   pub read : with_front row ((each value_of_column place (drop place (map column_of types))).reads rest) ≡ (bulk_row types).reads old
+  pub good : good_row types old ≡ row ++ good_row (drop place types) rest
   pub held : HoldsRow row (take place values) (take place indicators)
   pub set : AllZip IsSet (take place values_before) (take place values)
   pub other_values : drop place values ≡ drop place values_before
@@ -183,6 +228,7 @@ pub no-value : (types : List CColumnType) (old : List ℕ) (values : List CValue
 no-value types old values indicators = record {
   row = [];
   read = front-none ((bulk_row types).reads old);
+  good = refl;
   held = record { values_are = refl; indicators_are = refl };
   set = tt;
   other_values = refl;
@@ -207,6 +253,17 @@ held-next row p values indicators place code value h fits fits_indicators conten
       ∙ sym (map-append (λ v. mariadb_bulk_indicator_code v.indicator) row (p ∷ []));
 }
 
+good-value : (types : List CColumnType) (place : ℕ) (c d : CColumnType) (p : ParamValue) (rest after : List ℕ) → place < length types → c ≡ get_or types place d
+    → (param_value (type_of c) (unsigned_of c)).reads rest ≡ Ok (p, after) → good_row (drop place types) rest ≡ p ∷ good_row (drop (place + 1) types) after
+good-value types place c d p rest after lt is reads = rw (drop_more types place d lt, ← is, reads) refl
+
+none-good-value : (types : List CColumnType) (place : ℕ) (c d : CColumnType) (rest : List ℕ) (e : FaultOf) → place < length types → c ≡ get_or types place d
+    → Faults false e ((param_value (type_of c) (unsigned_of c)).reads rest) → good_row (drop place types) rest ≡ []
+none-good-value types place c d rest fault.UnexpectedEof lt is h = rw (drop_more types place d lt, ← is, h) refl
+none-good-value types place c d rest (fault.InvalidData text) lt is h = rw (drop_more types place d lt, ← is, h) refl
+none-good-value types place c d rest (fault.InvalidInput text) lt is h = rw (drop_more types place d lt, ← is, h) refl
+none-good-value types place c d rest fault.Memory lt is h = absurd cc
+
 pub one-value : (types : List CColumnType) (old rest after : List ℕ) (values_before values : List CValue) (indicators_before indicators : List ℕ) (place code : ℕ) (c d : CColumnType) (value z : CValue) (p : ParamValue)
     → RowSoFar types old rest values_before values indicators_before indicators place → place < length types → length types ≤ length values_before → length types ≤ length indicators_before
     → c ≡ get_or types place d → (param_value (type_of c) (unsigned_of c)).reads rest ≡ Ok (p, after)
@@ -219,6 +276,7 @@ one-value types old rest after values_before values indicators_before indicators
     record {
       row = s.row ++ p ∷ [];
       read = next-one value_of_column s.row (map column_of types) place rest _ s.read (column_of d) p after within (column-reads c d types place rest is lt ∙ reads);
+      good = s.good ∙ ap (λ l. s.row ++ l) (good-value types place c d p rest after lt is reads) ∙ sym (append_assoc s.row (p ∷ []) (good_row (drop (place + 1) types) after));
       held = held-next s.row p values indicators place code value s.held fits fits_indicators content coded;
       set = one-set values_before values place value z p.content s.set s.other_values s.value_places fits content sets;
       other_values = others-kept values_before values place value s.other_values;
@@ -252,31 +310,34 @@ all-values types old rest values_before values indicators_before indicators plac
     let last : length (map column_of types) ≤ place = omega (arith, le, length-map types column_of) in
     (s.row, none-left value_of_column s.row (map column_of types) place rest _ s.read last, subst (λ (n : ℕ). HoldsRow s.row (take n values) (take n indicators)) end s.held)
 
-pub places-filled : (is_read : Type 0) (types : List CColumnType) (old rest : List ℕ) (values_before values : List CValue) (indicators_before indicators : List ℕ) (place : ℕ)
-    → RowSoFar types old rest values_before values indicators_before indicators place → (is_read → length types ≤ place) → FillsPlaces (length types) is_read values_before values
-places-filled is_read types old rest values_before values indicators_before indicators place s all = record {
-  count = place;
-  few = s.within;
-  all = λ is. omega (arith, all is, s.within);
-  places = record { set = s.set; others = s.other_values };
-}
+-- those that were read are in the first places
+row-filled : (types : List CColumnType) (old rest : List ℕ) (values_before values : List CValue) (indicators_before indicators : List ℕ) (place : ℕ)
+    → RowSoFar types old rest values_before values indicators_before indicators place → length types ≤ length indicators_before → good_row (drop place types) rest ≡ []
+    → FillsRow (good_row types old) values_before values indicators_before indicators
+row-filled types old rest values_before values indicators_before indicators place s some_indicators none =
+    let all : good_row types old ≡ s.row = s.good ∙ ap (λ l. s.row ++ l) none ∙ append-nil s.row in
+    let fits : place ≤ length indicators = omega (arith, s.within, some_indicators, s.indicator_places) in
+    let count : length s.row ≡ place = sym (length-map s.row (λ v. mariadb_bulk_indicator_code v.indicator)) ∙ sym (ap length s.held.indicators_are) ∙ length-take-le place indicators fits in
+    subst (λ (good : List ParamValue). FillsRow good values_before values indicators_before indicators) (sym all) (record {
+      held = subst (λ (n : ℕ). HoldsRow s.row (take n values) (take n indicators)) (sym count) s.held;
+      places = record {
+        set = subst (λ (n : ℕ). AllZip IsSet (take n values_before) (take n values)) (sym count) s.set;
+        others = subst (λ (n : ℕ). drop n values ≡ drop n values_before) (sym count) s.other_values;
+      };
+      other_indicators = subst (λ (n : ℕ). drop n indicators ≡ drop n indicators_before) (sym count) s.other_indicators;
+    })
 
-pub both-filled : (is_read : Type 0) (types : List CColumnType) (old rest : List ℕ) (values_before values : List CValue) (indicators_before indicators : List ℕ) (place : ℕ)
-    → RowSoFar types old rest values_before values indicators_before indicators place → (is_read → length types ≤ place) → FillsBoth (length types) is_read values_before values indicators_before indicators
-both-filled is_read types old rest values_before values indicators_before indicators place s all = record {
-  count = place;
-  few = s.within;
-  all = λ is. omega (arith, all is, s.within);
-  places = record { set = s.set; others = s.other_values };
-  other_places = s.other_indicators;
-}
+pub row-whole : (types : List CColumnType) (old rest : List ℕ) (values_before values : List CValue) (indicators_before indicators : List ℕ) (place : ℕ)
+    → RowSoFar types old rest values_before values indicators_before indicators place → length types ≤ length indicators_before → length types ≤ place
+    → FillsRow (good_row types old) values_before values indicators_before indicators
+row-whole types old rest values_before values indicators_before indicators place s some_indicators le =
+    row-filled types old rest values_before values indicators_before indicators place s some_indicators (ap (λ (l : List CColumnType). good_row l rest) (drop_all place types le))
 
-pub indicators-kept : (types : List CColumnType) (old rest : List ℕ) (values_before values : List CValue) (indicators_before indicators : List ℕ) (place : ℕ)
-    → RowSoFar types old rest values_before values indicators_before indicators place → drop (length types) indicators ≡ drop (length types) indicators_before
-indicators-kept types old rest values_before values indicators_before indicators place s =
-    let n = length types in
-    let whole : place + (n - place) ≡ n = omega (arith, s.within) in
-    ap (λ k. drop k indicators) (sym whole) ∙ sym (drop-drop (n - place) place indicators) ∙ ap (drop (n - place)) s.other_indicators ∙ drop-drop (n - place) place indicators_before ∙ ap (λ k. drop k indicators_before) whole
+pub row-refused : (types : List CColumnType) (old rest : List ℕ) (values_before values : List CValue) (indicators_before indicators : List ℕ) (place : ℕ) (c d : CColumnType) (e : FaultOf)
+    → RowSoFar types old rest values_before values indicators_before indicators place → length types ≤ length indicators_before → place < length types → c ≡ get_or types place d
+    → Faults false e ((param_value (type_of c) (unsigned_of c)).reads rest) → FillsRow (good_row types old) values_before values indicators_before indicators
+row-refused types old rest values_before values indicators_before indicators place c d e s some_indicators lt is h =
+    row-filled types old rest values_before values indicators_before indicators place s some_indicators (none-good-value types place c d rest e lt is h)
 
 pub row-into : (read : Reading (List ParamValue)) (old new : CBytes) (values : List CValue) (indicators rest : List ℕ) → ReadsRow (Ok tt) values indicators rest read → new.bytes.now ≡ rest → RowInto read 0 old new values indicators
 row-into read old new values indicators rest (row, reads, held) left = subst (λ (r : Reading (List ParamValue)). RowInto r 0 old new values indicators) (sym reads) (refl, held, left)
@@ -327,4 +388,4 @@ contents-fault types bytes values left (fault.InvalidData text) h = contents-fau
 contents-fault types bytes values left (fault.InvalidInput text) h = contents-fault-of types bytes values left kind.InvalidInput h
 contents-fault types bytes values left fault.Memory h = absurd cc
 
-pub ruleset bulk_reads = (no-type, no-types-filled, no-value, block-answers, block-missing, types_short, types-into, types-fault, row-into, row-fault, contents-into, contents-fault, none-both, none-filled)
+pub ruleset bulk_reads = (no-type, short-block, no-value, block-answers, block-missing, types_short, types-into, types-fault, row-into, row-fault, contents-into, contents-fault)

@@ -3,18 +3,18 @@ use Rattle.std.proofs.Common.{◌≡◌, ◌≢◌, ◌<◌, ◌≤◌, ◌++◌
 use Rattle.std.specs.Option.{option_copied, option_map}
 use Rattle.std.proofs.lemmas.Bool.{ltb-false, ltb-true}
 use Rattle.mysql_wire.specs.Writing.{saturated}
-use Rattle.mysql_prepared.specs.ComQuery.{RefusesAttribute, attributes, query_bytes, text}
-use Rattle.mysql_prepared.specs.ExecuteParam.{attribute_param}
-use Rattle.mysql_prepared.specs.ExecuteHead.{head_with, with_count}
-use Rattle.mysql_prepared.specs.ExecuteRead.{TypedParam}
-use Rattle.mysql_prepared.specs.ExecuteWithOptions.{IsSpelled, Refuses, asked, counted}
-use Rattle.mysql_prepared.specs.Execution.{Execution, has_some}
-use Rattle.mysql_prepared.specs.SentParam.{attribute_type, first_unspelled, list_of, sent_params}
-use Rattle.mysql_prepared.specs.declared.com_query.ComQuery.{ComQuery}
-use Rattle.mysql_prepared.specs.declared.execute_param.QueryAttribute.{QueryAttribute}
-use Rattle.mysql_prepared.specs.declared.execute_with_options.ComStmtExecuteOptionsBuilder.{ComStmtExecuteOptionsBuilder}
-use Rattle.mysql_prepared.specs.declared.typed_param.TypedExecutionError.{TypedExecutionError}
-use Rattle.mysql_prepared.specs.declared.typed_param.TypedExecutionError.TheVariants as refusal
+use Rattle.mysql_stmt.specs.ComQuery.{RefusesAttribute, attributes, query_bytes, text}
+use Rattle.mysql_stmt.specs.ExecuteParam.{attribute_param}
+use Rattle.mysql_stmt.specs.ExecuteHead.{head_with, with_count}
+use Rattle.mysql_stmt.specs.ExecuteRead.{TypedParam}
+use Rattle.mysql_stmt.specs.ExecuteWithOptions.{IsSpelled, Refuses, asked, counted}
+use Rattle.mysql_stmt.specs.Execution.{Execution, has_some}
+use Rattle.mysql_stmt.specs.SentParam.{attribute_type, first_unspelled, list_of, sent_params}
+use Rattle.mysql_stmt.specs.declared.com_query.ComQuery.{ComQuery}
+use Rattle.mysql_stmt.specs.declared.execute_param.QueryAttribute.{QueryAttribute}
+use Rattle.mysql_stmt.specs.declared.execute_with_options.ComStmtExecuteOptionsBuilder.{ComStmtExecuteOptionsBuilder}
+use Rattle.mysql_stmt.specs.declared.typed_param.TypedExecutionError.{TypedExecutionError}
+use Rattle.mysql_stmt.specs.declared.typed_param.TypedExecutionError.TheVariants as refusal
 use Rattle.mysql_packets_c.specs.Output.{PutsUnlessTooLong}
 use Rattle.mysql_packets_c.specs.Parameter.{named_type, param_given, sent}
 use Rattle.mysql_packets_c.specs.Query.{are_encoded, query_of}

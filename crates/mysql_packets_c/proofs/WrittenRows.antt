@@ -2,8 +2,8 @@
 use Rattle.std.proofs.Common.{if◌then◌else◌, ◌≡◌, ◌<◌, ◌≤◌, ◌-◌, ◌^◌, ◌++◌, ◌∷◌, ℕ, List, [], Bool, true, false, ◌&&◌, IsTrue, length, drop, refl, sym, subst, ap, ◌∙◌, arith}
 use Rattle.std.specs.List.{flat_map, list_all}
 use Rattle.std.proofs.lemmas.List.Folds.{flat_map-map}
-use Rattle.mysql_prepared.specs.ExecuteParam.{Sent, contents, value_of}
-use Rattle.mysql_prepared.specs.TextRow.{text_cell_bytes, text_row_bytes}
+use Rattle.mysql_stmt.specs.ExecuteParam.{Sent, contents, value_of}
+use Rattle.mysql_stmt.specs.TextRow.{text_cell_bytes, text_row_bytes}
 use Rattle.mysql_wire.specs.Writing.{saturated}
 use Rattle.mysql_values.specs.ParamValue.{Plain, WithOffset}
 use Rattle.mysql_values.specs.Value.{Content, NULL}

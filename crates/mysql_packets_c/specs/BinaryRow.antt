@@ -1,6 +1,6 @@
 -- A binary row, value by value.
 use Rattle.std.specs.Prelude.{ℕ, List, Bool, ◌&&◌}
-use Rattle.mysql_prepared.specs.BinaryRow.{bin_in, takes}
+use Rattle.mysql_stmt.specs.BinaryRow.{bin_in, takes}
 use Rattle.mysql_packets_c.specs.ColumnType.{type_of, unsigned_of}
 use Rattle.mysql_packets_c.specs.Value.{value_content, is_value}
 use Rattle.mysql_packets_c.specs.declared.rows.CColumnType.{CColumnType}

@@ -1,5 +1,5 @@
 -- An execution whose parameters were checked.
-use Rattle.mysql_prepared.specs.Execution.{Execution}
+use Rattle.mysql_stmt.specs.Execution.{Execution}
 use Rattle.mysql_packets_c.specs.CheckedParams.{plainly}
 use Rattle.mysql_packets_c.specs.declared.checked_execution.CheckedExecution.{CheckedExecution}
 

@@ -1,11 +1,11 @@
 -- Parameters of an execution that were checked, and their bytes, where they have no names.
 use Rattle.std.specs.Prelude.{◌≡◌, ℕ, Bool, true, false, ◌&&◌, List, None, Option, MatchOption, map, length}
 use Rattle.std.specs.List.{list_all, list_any}
-use Rattle.mysql_prepared.specs.ExecuteParam.{Param, contents, param_bytes, value_of}
-use Rattle.mysql_prepared.specs.Execution.{Execution}
-use Rattle.mysql_prepared.specs.NullMarks.{bitmap_of, is_null, null_bit}
-use Rattle.mysql_prepared.specs.SentParam.{bytes_under, is_spelled_under}
-use Rattle.mysql_prepared.specs.declared.execute_head.ComStmtExecuteHead.{ComStmtExecuteHead}
+use Rattle.mysql_stmt.specs.ExecuteParam.{Param, contents, param_bytes, value_of}
+use Rattle.mysql_stmt.specs.Execution.{Execution}
+use Rattle.mysql_stmt.specs.NullMarks.{bitmap_of, is_null, null_bit}
+use Rattle.mysql_stmt.specs.SentParam.{bytes_under, is_spelled_under}
+use Rattle.mysql_stmt.specs.declared.execute_head.ComStmtExecuteHead.{ComStmtExecuteHead}
 use Rattle.mysql_values.specs.ParamType.{param_type}
 use Rattle.mysql_wire.specs.Writing.{saturated}
 use Rattle.mysql_packets_c.specs.Execution.{param}

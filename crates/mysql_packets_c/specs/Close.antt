@@ -1,6 +1,6 @@
 -- The end of a prepared statement, in C.
 use Rattle.std.specs.Prelude.{◌≡◌, ℕ, List}
-use Rattle.mysql_prepared.specs.declared.close.ComStmtClose.{ComStmtClose}
+use Rattle.mysql_stmt.specs.declared.close.ComStmtClose.{ComStmtClose}
 
 -- the statement's number
 abbrev pub IsClosed : ComStmtClose → List ℕ → ℕ → Type 0

@@ -38,6 +38,7 @@ code_text code =
     else if code == 7 then Some (codes "end of the list")
     else if code == 8 then Some (codes "the number is out of range")
     else if code == 9 then Some (codes "both sides agreed on compression")
+    else if code == 10 then Some (codes "too many pipelined commands")
     else None
 
 -- 0 and the text of a code; or 3, and the output is unchanged

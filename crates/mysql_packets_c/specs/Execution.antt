@@ -1,16 +1,16 @@
 -- An execution, in C.
 use Rattle.std.specs.List.{AllZip}
 use Rattle.std.specs.Option.{unwrap_or}
-use Rattle.std.specs.Prelude.{◌≡◌, ℕ, ◌-◌, ◌==◌, ◌++◌, Bool, false, not, if◌then◌else◌, List, drop, length, map, take, Result, Ok, Err}
-use Rattle.mysql_prepared.specs.Attributes.{Attribute}
-use Rattle.mysql_prepared.specs.BindFront.{BindFront}
-use Rattle.mysql_prepared.specs.ExecuteHead as head
-use Rattle.mysql_prepared.specs.ExecuteParam.{Param, Sent, SentAhead, AsSent}
-use Rattle.mysql_prepared.specs.ExecuteRead.{ParamsBytes, ParamsLeft, TypedParam, execution, execution_front, left_of}
-use Rattle.mysql_prepared.specs.SentParam.{type_of_param}
-use Rattle.mysql_prepared.specs.SentTypes.{NamedType}
-use Rattle.mysql_prepared.specs.declared.execute_head.ComStmtExecuteHead.{ComStmtExecuteHead}
-use Rattle.mysql_prepared.specs.declared.execute_view.BoundParam.{BoundParam}
+use Rattle.std.specs.Prelude.{◌≡◌, ℕ, ◌-◌, ◌==◌, ◌++◌, Bool, false, not, if◌then◌else◌, List, [], drop, length, map, take, Result, Ok, Err}
+use Rattle.mysql_stmt.specs.Attributes.{Attribute}
+use Rattle.mysql_stmt.specs.BindFront.{BindFront}
+use Rattle.mysql_stmt.specs.ExecuteHead as head
+use Rattle.mysql_stmt.specs.ExecuteParam.{Param, Sent, SentAhead, AsSent}
+use Rattle.mysql_stmt.specs.ExecuteRead.{ParamsBytes, ParamsLeft, TypedParam, bytes_after, execution, execution_front, left_of}
+use Rattle.mysql_stmt.specs.SentParam.{type_of_param}
+use Rattle.mysql_stmt.specs.SentTypes.{NamedType}
+use Rattle.mysql_stmt.specs.declared.execute_head.ComStmtExecuteHead.{ComStmtExecuteHead}
+use Rattle.mysql_stmt.specs.declared.execute_view.BoundParam.{BoundParam}
 use Rattle.mysql_values.specs.ParamType.{typed}
 use Rattle.mysql_values.specs.ParamValue.{ParamContent, Plain, WithOffset}
 use Rattle.mysql_values.specs.Value.{Bytes, NULL}
@@ -23,7 +23,7 @@ use Rattle.mysql_wire.specs.declared.codes.column_type.ColumnType.TheVariants as
 use Rattle.mysql_wire.specs.declared.fault.FaultOf.{FaultOf}
 use Rattle.mysql_packets_c.specs.Code.{kind_code}
 use Rattle.mysql_packets_c.specs.Input.{used_of}
-use Rattle.mysql_packets_c.specs.Value.{IsSet, date_with_offset_of, is_offset_date, is_value, param_content, value_content}
+use Rattle.mysql_packets_c.specs.Value.{IsSet, SetsFirst, date_with_offset_of, is_offset_date, is_value, param_content, value_content}
 use Rattle.mysql_packets_c.specs.declared.execution.CExecution.{CExecution}
 use Rattle.mysql_packets_c.specs.declared.execution.CExecutionHead.{CExecutionHead}
 use Rattle.mysql_packets_c.specs.declared.execution.CBoundParam.{CBoundParam}
@@ -87,6 +87,27 @@ pub record FillsParams (old new : ParamsLeft) (values_before value_places : List
   pub set : AllZip IsSet (take (old.left - new.left) values_before) (take (old.left - new.left) value_places)
   pub other_values : drop (old.left - new.left) value_places ≡ drop (old.left - new.left) values_before
   pub other_types : drop (old.left - new.left) type_places ≡ drop (old.left - new.left) types_before
+  pub value_count : length value_places ≡ length values_before
+  pub type_count : length type_places ≡ length types_before
+
+-- the parameters before the first fault: all of them without one
+abbrev pub good_after : List BoundParam → Reading BindFront → List TypedParam
+good_after params (Ok f) = (left_of (bytes_after (length params) f.0 f.1) params).params
+good_after params (Err k) = []
+
+abbrev pub good_params : CapabilityFlags → (flags : ℕ) → List BoundParam → List ℕ → List TypedParam
+good_params capabilities flags params bytes = good_after params ((execution_front capabilities flags (length params)).reads bytes)
+
+abbrev pub good_execution : CapabilityFlags → List BoundParam → Reading ComStmtExecuteHead → List TypedParam
+good_execution capabilities params (Ok h) = good_params capabilities (head.cursor_flags h.0) params h.1
+good_execution capabilities params (Err k) = []
+
+-- these parameters and their types are in the first elements, and the other elements of both arrays are unchanged
+pub record FillsGood (good : List TypedParam) (values_before value_places : List CValue) (types_before type_places : List CColumnType) : Type 0 where
+  pub contents : map param_content (take (length good) value_places) ≡ contents_of good
+  pub types : take (length good) type_places ≡ types_of good
+  pub places : SetsFirst (length good) values_before value_places
+  pub other_types : drop (length good) type_places ≡ drop (length good) types_before
 
 -- whether the bytes say that types are sent
 abbrev pub sends_types : Reading BindFront → ℕ

@@ -2,10 +2,10 @@
 use Rattle.std.specs.Prelude.{ℕ, List, Ok}
 use Rattle.mysql_wire.specs.Flags.{CapabilityFlags}
 use Rattle.mysql_wire.specs.Reading.{Reading, then_read}
-use Rattle.mysql_prepared.specs.Attributes.{Attribute}
-use Rattle.mysql_prepared.specs.ExecuteHead.{cursor_flags, execute_head}
-use Rattle.mysql_prepared.specs.ExecuteRead.{execution}
-use Rattle.mysql_prepared.specs.declared.execute_view.BoundParam.{BoundParam}
+use Rattle.mysql_stmt.specs.Attributes.{Attribute}
+use Rattle.mysql_stmt.specs.ExecuteHead.{cursor_flags, execute_head}
+use Rattle.mysql_stmt.specs.ExecuteRead.{execution}
+use Rattle.mysql_stmt.specs.declared.execute_view.BoundParam.{BoundParam}
 
 -- the attributes after the parameters
 abbrev pub attributes_after : CapabilityFlags → (flags : ℕ) → List BoundParam → List ℕ → Reading (List Attribute)

@@ -1,11 +1,11 @@
 -- The names of an execution's parameters, as C has them.
-use Rattle.std.specs.Prelude.{◌≡◌, ℕ, ◌-◌, ◌++◌, List, drop, map, take, Result, Ok, Err, false}
+use Rattle.std.specs.Prelude.{◌≡◌, ℕ, ◌-◌, ◌++◌, List, drop, length, map, take, Result, Ok, Err, false}
 use Rattle.mysql_wire.specs.Flags.{CapabilityFlags}
 use Rattle.mysql_wire.specs.Reading.{Reading, Faults, then_read}
 use Rattle.mysql_wire.specs.declared.fault.FaultOf.{FaultOf}
-use Rattle.mysql_prepared.specs.ExecuteHead.{cursor_flags, execute_head}
-use Rattle.mysql_prepared.specs.ExecuteRead.{ParamsLeft, TypedParam, execution}
-use Rattle.mysql_prepared.specs.declared.execute_view.BoundParam.{BoundParam}
+use Rattle.mysql_stmt.specs.ExecuteHead.{cursor_flags, execute_head}
+use Rattle.mysql_stmt.specs.ExecuteRead.{ParamsLeft, TypedParam, execution}
+use Rattle.mysql_stmt.specs.declared.execute_view.BoundParam.{BoundParam}
 use Rattle.mysql_packets_c.specs.Code.{kind_code}
 use Rattle.mysql_packets_c.specs.Execution.{KeepsRest}
 use Rattle.mysql_packets_c.specs.declared.text.CBytes.{CBytes}
@@ -29,6 +29,12 @@ pub record FillsNames (old new : ParamsLeft) (before places : List CBytes) : Typ
   pub names : names_of old.params ≡ held (take (old.left - new.left) places) ++ names_of new.params
   pub rest : KeepsRest old new
   pub others : drop (old.left - new.left) places ≡ drop (old.left - new.left) before
+  pub count : length places ≡ length before
+
+-- the names of these parameters are in the first elements, and the other elements are unchanged
+pub record FillsGoodNames (before places : List CBytes) (good : List TypedParam) : Type 0 where
+  pub names : held (take (length good) places) ≡ names_of good
+  pub others : drop (length good) places ≡ drop (length good) before
 
 -- the places hold the names that reading gives; or reading gives the fault
 abbrev pub NamesAre : Reading (List (List ℕ)) → Result (Unit {0}) FaultOf → List CBytes → Type 0

@@ -1,7 +1,7 @@
 -- Long data for an execution, in C.
 use Rattle.std.specs.Prelude.{◌≡◌, ℕ, List}
-use Rattle.mysql_prepared.specs.LongData as long
-use Rattle.mysql_prepared.specs.declared.long_data.ComStmtSendLongData.{ComStmtSendLongData}
+use Rattle.mysql_stmt.specs.LongData as long
+use Rattle.mysql_stmt.specs.declared.long_data.ComStmtSendLongData.{ComStmtSendLongData}
 use Rattle.mysql_packets_c.specs.declared.long_data.CLongData.{CLongData}
 
 -- the packet with these fields

@@ -1,10 +1,10 @@
 -- A parameter of an execution, or an attribute of a query or an execution, in C.
 use Rattle.std.specs.Prelude.{ℕ, Bool, ◌&&◌, ◌||◌, not, is_some, if◌then◌else◌, List, [], Option, Some, None}
 use Rattle.std.specs.List.{list_all}
-use Rattle.mysql_prepared.specs.ExecuteParam.{Param, SentAhead}
-use Rattle.mysql_prepared.specs.ExecuteRead.{TypedParam}
-use Rattle.mysql_prepared.specs.SentParam.{sent_params, type_of_param}
-use Rattle.mysql_prepared.specs.SentTypes.{NamedType}
+use Rattle.mysql_stmt.specs.ExecuteParam.{Param, SentAhead}
+use Rattle.mysql_stmt.specs.ExecuteRead.{TypedParam}
+use Rattle.mysql_stmt.specs.SentParam.{sent_params, type_of_param}
+use Rattle.mysql_stmt.specs.SentTypes.{NamedType}
 use Rattle.mysql_wire.specs.ColumnType.{column_type_of}
 use Rattle.mysql_wire.specs.FlagMasks.{CLIENT_QUERY_ATTRIBUTES}
 use Rattle.mysql_wire.specs.Flags.{has}

@@ -1,8 +1,8 @@
 -- Writing a query, in C.
 use Rattle.std.specs.Prelude.{ℕ, Bool, ◌&&◌, ◌||◌, not, is_some, List, Option}
 use Rattle.std.specs.Option.{option_map}
-use Rattle.mysql_prepared.specs.SentParam.{first_unspelled}
-use Rattle.mysql_prepared.specs.declared.com_query.ComQuery.{ComQuery}
+use Rattle.mysql_stmt.specs.SentParam.{first_unspelled}
+use Rattle.mysql_stmt.specs.declared.com_query.ComQuery.{ComQuery}
 use Rattle.mysql_packets_c.specs.Parameter.{are_agreed, are_parameters, sent}
 use Rattle.mysql_packets_c.specs.declared.parameter.CParameter.{CParameter}
 

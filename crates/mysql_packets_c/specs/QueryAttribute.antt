@@ -2,7 +2,7 @@
 use Rattle.std.specs.Prelude.{◌≡◌, ℕ, zero, suc, List, [], ◌∷◌, Option, Some, None, Result, Ok, Err, false, if◌then◌else◌}
 use Rattle.mysql_commands.specs.WithRawBytes as sent
 use Rattle.mysql_commands.specs.Query.{sent_attributes}
-use Rattle.mysql_prepared.specs.Attributes.{Attribute, AttributesLeft, IsGood, attributes_read}
+use Rattle.mysql_stmt.specs.Attributes.{Attribute, AttributesLeft, IsGood, attributes_read}
 use Rattle.mysql_commands.specs.declared.with_raw_bytes.WithRawBytes.{WithRawBytes}
 use Rattle.mysql_commands.specs.declared.query.ComQueryRef.{ComQueryRef}
 use Rattle.mysql_wire.specs.ColumnType.{column_type_code}

@@ -1,9 +1,9 @@
 -- Rows in C.
 use Rattle.std.specs.List.{AllZip, list_all}
 use Rattle.std.specs.Prelude.{◌≡◌, ◌≤◌, ◌-◌, ◌++◌, ℕ, List, [], length, take, drop, map, Option, Some, Result, Ok, Err, false, None, Bool, if◌then◌else◌, ◌==◌, ◌&&◌, nat_lt}
-use Rattle.mysql_prepared.specs.BinaryRow.{IsRowBytes, row_len, takes_row}
-use Rattle.mysql_prepared.specs.Bitmap.{Bitmap}
-use Rattle.mysql_prepared.specs.RowView.{RowLeft, ref_cell, row_front, row_left, text_row_left}
+use Rattle.mysql_stmt.specs.BinaryRow.{IsRowBytes, row_len, takes_row}
+use Rattle.mysql_stmt.specs.Bitmap.{Bitmap}
+use Rattle.mysql_stmt.specs.RowView.{RowLeft, ref_cell, row_front, row_left, text_row_left}
 use Rattle.mysql_values.specs.Value.{Content}
 use Rattle.mysql_wire.specs.Reading.{Reading, Faults}
 use Rattle.mysql_wire.specs.declared.fault.FaultOf.{FaultOf}
@@ -26,21 +26,6 @@ pub record Fills (old new : RowLeft) (before after : List CValue) : Type 0 where
   pub set : AllZip IsSet (take (old.left - new.left) before) (take (old.left - new.left) after)
   pub others : drop (old.left - new.left) after ≡ drop (old.left - new.left) before
   pub len : length after ≡ length before
-
--- All elements for the columns are set if the row is read, and after a fault some of the first ones. The others are unchanged.
-pub record FillsPlaces (columns : ℕ) (is_read : Type 0) (before after : List CValue) : Type 0 where
-  pub count : ℕ
-  pub few : count ≤ columns
-  pub all : is_read → count ≡ columns
-  pub places : SetsFirst count before after
-
--- The same number of elements of two arrays are set, and the others of both are unchanged.
-pub record FillsBoth {X : Type 0} (columns : ℕ) (is_read : Type 0) (before after : List CValue) (others_before others_after : List X) : Type 0 where
-  pub count : ℕ
-  pub few : count ≤ columns
-  pub all : is_read → count ≡ columns
-  pub places : SetsFirst count before after
-  pub other_places : drop count others_after ≡ drop count others_before
 
 -- the values of a row before its first fault: all of them without one
 abbrev pub good_text : ℕ → List ℕ → List Content

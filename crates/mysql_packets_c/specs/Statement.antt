@@ -1,9 +1,9 @@
 -- The answer to a preparation, in C.
 use Rattle.std.specs.Prelude.{◌≡◌, ℕ, List, Bool, ◌||◌, Option, Some, None, if◌then◌else◌}
 use Rattle.std.specs.Option.{unwrap_or}
-use Rattle.mysql_prepared.specs.Stmt as stmt
-use Rattle.mysql_prepared.specs.StmtWithMetadata as with_metadata
-use Rattle.mysql_prepared.specs.declared.stmt_with_metadata.StmtPacketWithMetadata.{StmtPacketWithMetadata}
+use Rattle.mysql_stmt.specs.Stmt as stmt
+use Rattle.mysql_stmt.specs.StmtWithMetadata as with_metadata
+use Rattle.mysql_stmt.specs.declared.stmt_with_metadata.StmtPacketWithMetadata.{StmtPacketWithMetadata}
 use Rattle.mysql_wire.specs.Flags.{CapabilityFlags}
 use Rattle.mysql_packets_c.specs.Given.{is_set}
 use Rattle.mysql_packets_c.specs.Input.{used_of}

@@ -1,10 +1,10 @@
 -- Writing an execution, in C.
 use Rattle.std.specs.Prelude.{◌≡◌, ℕ, ◌==◌, ◌&&◌, Bool, false, if◌then◌else◌, List, Option, is_some, not}
 use Rattle.std.specs.Option.{option_map}
-use Rattle.mysql_prepared.specs.ExecuteWithOptions.{IsAsLong, asked, counted}
-use Rattle.mysql_prepared.specs.Execution.{Execution, execution_bytes, listed}
-use Rattle.mysql_prepared.specs.SentParam.{first_unspelled}
-use Rattle.mysql_prepared.specs.declared.execute_with_options.ComStmtExecuteOptionsBuilder.{ComStmtExecuteOptionsBuilder}
+use Rattle.mysql_stmt.specs.ExecuteWithOptions.{IsAsLong, asked, counted}
+use Rattle.mysql_stmt.specs.Execution.{Execution, execution_bytes, listed}
+use Rattle.mysql_stmt.specs.SentParam.{first_unspelled}
+use Rattle.mysql_stmt.specs.declared.execute_with_options.ComStmtExecuteOptionsBuilder.{ComStmtExecuteOptionsBuilder}
 use Rattle.mysql_packets_c.specs.Output.{PutsUnlessTooLong}
 use Rattle.mysql_packets_c.specs.Parameter.{are_agreed, are_parameters, if_agreed, named_type, param_given, sent}
 use Rattle.mysql_packets_c.specs.declared.parameter.CParameter.{CParameter}

@@ -15,7 +15,7 @@ use mysql_wire::{Buffer, IntRepr, LenEnc, MySerialize, ParseBuf, Parts, RawBytes
 use std::alloc::Global;
 use std::borrow::CowSlice;
 
-/// Takes the next attribute off the front; 7 if no byte is left. After another code than 0 all places are unchanged.
+/// Takes the next attribute off the front; returns 7 if none is left. After any other code, all outputs are unchanged.
 #[unsafe(no_mangle)]
 pub extern "C" fn myp_next_connection_attribute<'a>(
     alloc: Global,
@@ -40,7 +40,7 @@ pub extern "C" fn myp_next_connection_attribute<'a>(
     OK
 }
 
-/// `myp_connection_attribute`.
+/// `myp_connection_attribute` of the C header.
 #[repr(C)]
 #[derive(Clone, Copy, Drop)]
 pub struct CAttribute<'a> {
@@ -81,14 +81,14 @@ impl Parts for WrittenPair<'_> {
     }
 }
 
-/// Whether one of the attributes has the name.
+/// Whether one of the attributes has this name.
 fn has_name(attributes: &[CAttribute<'_>], name: &[u8]) -> bool
     ensures { result ≡ given.has_name name.now attributes.now }
 {
     attributes.iter().any(|attribute| name == attribute.name)
 }
 
-/// The last value of an attribute's name among the following ones.
+/// Returns the last value of an attribute's name among this attribute and the following ones.
 #[tactic(auto, using(crate::proofs::MergedNames::last_values))]
 fn last_of<'a>(attributes: &[CAttribute<'a>], first: &CAttribute<'a>) -> &'a [u8]
     ensures { result.now ≡ given.last_of first.now.name.now first.now.value.now (given.pairs_of attributes.now) }
@@ -102,7 +102,7 @@ fn last_of<'a>(attributes: &[CAttribute<'a>], first: &CAttribute<'a>) -> &'a [u8
     value
 }
 
-/// The attribute at a place with its last value, unless its name came before.
+/// Returns the attribute at this position with its last value, unless an earlier one has the same name.
 fn first_at<'a>(attributes: &[CAttribute<'a>], place: usize) -> Option<CAttribute<'a>>
     requires { place < length attributes.now }
     ensures { given.firsts_from place attributes.now ≡ given.with_pair (option_map given.pair_of result) (given.firsts_from (place + 1) attributes.now) }
@@ -118,8 +118,8 @@ fn first_at<'a>(attributes: &[CAttribute<'a>], place: usize) -> Option<CAttribut
     })
 }
 
-/// The encoded length of the pairs, or `usize::MAX` if it is greater. If a name is repeated, the last value counts, at the
-/// place of the first.
+/// The encoded length of the pairs, or `usize::MAX` if it is greater. If a name is repeated, the last value
+/// counts, at the position of the first.
 fn pairs_len(attributes: &[CAttribute<'_>]) -> usize
     ensures { result ≡ saturated (length (pairs_bytes (given.merged_pairs attributes.now))) }
 {
@@ -147,7 +147,7 @@ fn append_pairs<O: Buffer>(attributes: &[CAttribute<'_>], out: &mut O)
     }
 }
 
-/// The attributes, as they are written: the length of all pairs, length-encoded, and the pairs.
+/// The attributes, as they are written: the length of all pairs, length-encoded, then the pairs.
 #[derive(Drop)]
 pub(crate) struct WrittenAttributes<'b, 'a>(pub(crate) &'b [CAttribute<'a>]);
 

@@ -1,4 +1,4 @@
-//! Further data of an authentication.
+//! Further authentication data.
 #![tactic(auto, using(crate::proofs::Codes::codes))]
 
 ghost use Rattle.std.specs.Prelude.{◌≡◌, ◌≢◌};
@@ -15,7 +15,7 @@ use mysql_auth::{AuthMoreData, AuthMoreDataRef};
 use std::alloc::Global;
 use std::borrow::CowSlice;
 
-/// Reads `Protocol::AuthMoreData`. After an error (1 or 2) the place is unchanged.
+/// Reads `Protocol::AuthMoreData`. After an error (1 or 2) the output is unchanged.
 #[unsafe(no_mangle)]
 pub extern "C" fn myp_read_auth_more_data<'a>(
     alloc: Global,

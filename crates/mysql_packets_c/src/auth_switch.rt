@@ -18,7 +18,7 @@ use mysql_auth::{AuthSwitchRequest, AuthSwitchRequestRef, OldAuthSwitchRequest};
 use std::alloc::Global;
 use std::borrow::CowSlice;
 
-/// `myp_auth_switch`.
+/// `myp_auth_switch` of the C header.
 #[repr(C)]
 #[derive(Drop)]
 pub struct CAuthSwitch<'a> {

@@ -1,13 +1,13 @@
-//! Writes binary rows: each value is visited once to count its bytes, and once to write it.
+//! Writes binary rows: each value is visited once to compute its length, and once to write it.
 #![tactic(auto, using(crate::proofs::BinaryRows::binary_rows))]
 
 ghost use Rattle.std.specs.Prelude.{◌≡◌, ◌≢◌, ◌+◌, ◌*◌, ◌++◌, ◌<◌, ◌≤◌, ◌^◌, ℕ, MatchOption, drop, false, length, replicate, true};
 ghost use Rattle.mysql_wire.specs.Writing.{saturated};
-ghost use Rattle.mysql_prepared.specs.BinaryRow.{IsRowBytes, bin_in, takes, values_bytes};
-ghost use Rattle.mysql_prepared.specs.BinaryRow as row;
-ghost use Rattle.mysql_prepared.specs.Bitmap.{bytes_for, cell};
-ghost use Rattle.mysql_prepared.specs.ExecuteParam.{contents, value_of};
-ghost use Rattle.mysql_prepared.specs.NullMarks.{MarksNulls, is_null};
+ghost use Rattle.mysql_stmt.specs.BinaryRow.{IsRowBytes, bin_in, takes, values_bytes};
+ghost use Rattle.mysql_stmt.specs.BinaryRow as row;
+ghost use Rattle.mysql_stmt.specs.Bitmap.{bytes_for, cell};
+ghost use Rattle.mysql_stmt.specs.ExecuteParam.{contents, value_of};
+ghost use Rattle.mysql_stmt.specs.NullMarks.{MarksNulls, is_null};
 ghost use Rattle.mysql_values.specs.Value.{Bytes, Int};
 ghost use Rattle.mysql_values.specs.ValueRef.{ref_content};
 ghost use Rattle.mysql_packets_c.specs.BinaryRow.{cell_in, takes_value};
@@ -18,11 +18,11 @@ ghost use Rattle.mysql_packets_c.specs.Value.{value_content, values_contents};
 
 use crate::rows::CColumnType;
 use crate::value::{CValue, to_ref};
-use mysql_prepared::{AsExecuteParam, NullBitmap, TypedColumn};
+use mysql_stmt::{AsExecuteParam, NullBitmap, TypedColumn};
 use mysql_values::{ServerSide, ValueRef};
 use mysql_wire::{Buffer, BytesRepr, ColumnType, LenEnc, MySerialize};
 
-/// The length of a value in a column of the type, or `usize::MAX` if it is greater. `None` if it doesn't fit.
+/// The length of a value in a column of the type, or `usize::MAX` if it is greater; `None` if it doesn't fit.
 #[inline(always)]
 fn taken_len(column_type: ColumnType, is_unsigned: bool, value: ValueRef<'_>) -> Option<usize>
     ensures { MatchOption result (takes column_type is_unsigned (ref_content value.entry) ≡ false) (λ n. (takes column_type is_unsigned (ref_content value.entry) ≡ true) × (n ≡ saturated (length (bin_in column_type (ref_content value.entry))))) }
@@ -87,7 +87,7 @@ fn cell_len(column: &CColumnType, value: &CValue<'_>) -> Option<usize>
     }
 }
 
-/// The length of all values of a row, of which there is one for each column.
+/// The total length of the values of a row, one for each column.
 fn values_len(columns: &[CColumnType], values: &[CValue<'_>]) -> Option<usize>
     requires { length columns.now ≡ length values.now }
     ensures { MatchOption result (spec.row_fits columns.now values.now ≡ false) (λ n. (spec.row_fits columns.now values.now ≡ true) × (n ≡ saturated (length (values_bytes type_of unsigned_of columns.now (values_contents values.now))))) }
@@ -99,8 +99,8 @@ fn values_len(columns: &[CColumnType], values: &[CValue<'_>]) -> Option<usize>
     Some(len)
 }
 
-/// The length of a row, or `usize::MAX` if it is greater. `None` if a value is invalid or doesn't fit its column, or there
-/// isn't one for each column.
+/// The length of a row, or `usize::MAX` if it is greater; `None` if a value is invalid or doesn't fit its
+/// column, or there isn't one for each column.
 pub(crate) fn row_len(columns: &[CColumnType], values: &[CValue<'_>]) -> Option<usize>
     requires { length values.now < 2 ^ 63 }
     ensures { MatchOption result (spec.row_fits columns.now values.now ≡ false) (λ n. (spec.row_fits columns.now values.now ≡ true) × (n ≡ saturated (row.row_len type_of unsigned_of columns.now (values_contents values.now)))) }
@@ -124,7 +124,7 @@ fn set_bit(bytes: &mut [u8], at: usize, bit: usize)
     bytes[at] |= 1u8 << bit;
 }
 
-/// Whether what the value holds is NULL.
+/// Whether the value is NULL.
 #[inline(always)]
 #[tactic(auto, unfolding(crate::specs::Value::value_content))]
 fn holds_null(value: &CValue<'_>) -> bool
@@ -136,7 +136,7 @@ fn holds_null(value: &CValue<'_>) -> bool
     }
 }
 
-/// Sets the bits of the values that are NULL in a bitmap in which none is set.
+/// Sets the bits of the NULL values in a bitmap in which none is set.
 fn mark_nulls(values: &[CValue<'_>], nulls: &mut [u8])
     requires count { length values.now < 2 ^ 63 }
     requires len { length nulls.old ≡ bytes_for 2 (length values.now) }
@@ -151,7 +151,7 @@ fn mark_nulls(values: &[CValue<'_>], nulls: &mut [u8])
     }
 }
 
-/// Writes that bitmap over as many bytes as it has.
+/// Writes the NULL bitmap over a slice of its length.
 fn put_nulls(values: &[CValue<'_>], nulls: &mut [u8])
     requires sent { contents param values.now ≡ values_contents values.now }
     requires count { length values.now < 2 ^ 63 }
@@ -175,7 +175,8 @@ fn append_any<O: Buffer>(column: &CColumnType, value: &CValue<'_>, out: &mut O)
     value.append_cell(column.value_type(), out);
 }
 
-/// Writes a value of any kind by a call, with the buffer in a variable of its own: so the caller's stays in registers.
+/// Writes a value of any kind by a call, with the buffer in a variable of its own, so that the caller's stays
+/// in registers.
 #[inline(always)]
 fn append_apart<O: Buffer>(column: &CColumnType, value: &CValue<'_>, out: &mut O)
     requires { length (O.held out.old) + length (bin_in (type_of column.now) (value_of (param value.now))) ≤ O.capacity out.old }
@@ -244,7 +245,7 @@ fn append_values<O: Buffer>(columns: &[CColumnType], values: &[CValue<'_>], out:
     *out = bytes;
 }
 
-/// The values of a row, one for each column, whose bytes were counted.
+/// The values of a row, one for each column, whose length was computed.
 #[derive(Drop)]
 struct CountedValues<'r, 'a> {
     columns: &'r [CColumnType],
@@ -255,8 +256,8 @@ struct CountedValues<'r, 'a> {
 }
 
 impl MySerialize for CountedValues<'_, '_> {
-    ghost use Rattle.mysql_prepared.specs.BinaryRow.{values_bytes};
-    ghost use Rattle.mysql_prepared.specs.ExecuteParam.{contents};
+    ghost use Rattle.mysql_stmt.specs.BinaryRow.{values_bytes};
+    ghost use Rattle.mysql_stmt.specs.ExecuteParam.{contents};
     ghost use Rattle.mysql_packets_c.specs.BinaryRow.{cell_in, takes_value};
     ghost use Rattle.mysql_packets_c.specs.ColumnType.{type_of, unsigned_of};
     ghost use Rattle.mysql_packets_c.specs.Execution.{param};
@@ -275,7 +276,7 @@ impl MySerialize for CountedValues<'_, '_> {
     }
 }
 
-/// Writes the values of a row over as many bytes as they take.
+/// Writes the values of a row over a slice of their length.
 #[inline(always)]
 fn put_values(columns: &[CColumnType], values: &[CValue<'_>], out: &mut [u8])
     requires same { length columns.now ≡ length values.now }
@@ -290,7 +291,7 @@ fn put_values(columns: &[CColumnType], values: &[CValue<'_>], out: &mut [u8])
     let _len = counted.write_to_slice(out).unwrap();
 }
 
-/// Writes a row over as many bytes as it takes.
+/// Writes a row over a slice of its length.
 pub(crate) fn put_row(columns: &[CColumnType], values: &[CValue<'_>], out: &mut [u8])
     requires sent { contents param values.now ≡ values_contents values.now }
     requires same { length columns.now ≡ length values.now }

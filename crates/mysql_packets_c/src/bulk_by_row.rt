@@ -1,39 +1,35 @@
 //! A bulk request that is written row by row.
 #![tactic(auto, using(crate::proofs::BulkByRow::bulk_by_row))]
 
-ghost use Rattle.std.specs.List.{flat_map};
 ghost use Rattle.std.specs.Prelude.{◌≡◌, ◌≢◌, ◌+◌, ◌-◌, ◌++◌, ◌≤◌, ℕ, List, MatchOption, [], drop, false, length, take, true};
+ghost use Rattle.mysql_bulk.specs.BulkValue.{Cell};
 ghost use Rattle.mysql_wire.specs.Writing.{saturated};
-ghost use Rattle.mysql_bulk.specs.Row.{row_size};
-ghost use Rattle.mysql_values.specs.Value.{Content};
-ghost use Rattle.mysql_packets_c.specs.Bulk.{cell_bytes, head_bytes, takes_row};
+ghost use Rattle.mysql_packets_c.specs.Bulk.{cells_of, head_for, row_bytes, takes_row, writer_of};
 ghost use Rattle.mysql_packets_c.specs.BulkByRow as spec;
 ghost use Rattle.mysql_packets_c.specs.Output.{Puts, PutsUnlessTooLong};
-ghost use Rattle.mysql_packets_c.specs.Value.{values_contents};
 
-use crate::bulk::{
-    AsDeclaredTypes, SEND_UNIT_RESULTS, append_cells, bulk_flags, refuses_types, row_len,
-};
+use crate::bulk::{AsDeclaredTypes, SEND_UNIT_RESULTS, are_types, bulk_flags};
+use crate::bulk_cell::{append_row, row_len};
 use crate::code::{BUFFER_TOO_SMALL, INVALID_INPUT, OK, ROW_TOO_LARGE};
 use crate::output::put_packet;
 use crate::rows::CColumnType;
 use crate::value::CValue;
 use mysql_bulk::ComStmtBulkExecuteHeader;
-use mysql_prepared::Items;
+use mysql_stmt::Items;
 use mysql_wire::{Buffer, Const, LeU16, LeU32, MySerialize, RawInt, StmtBulkExecuteFlags, parts};
 
-/// Whether a request with these flags may be begun.
+/// Whether a request with these flags and types is valid.
 fn may_begin(flags: u32, types: &[CColumnType]) -> bool
     ensures { result ≡ spec.may_begin flags types.now }
 {
     if flags != 0 && flags != SEND_UNIT_RESULTS {
         return false;
     }
-    types.len() >= 1 && !refuses_types(types)
+    types.len() >= 1 && are_types(types)
 }
 
 /// Writes the fields before the rows.
-#[tactic(auto, using(mysql_wire::proofs::Packets::packets, crate::proofs::BulkRequests::heads), unfolding(mysql_bulk::specs::Head::head))]
+#[tactic(auto, using(mysql_wire::proofs::Packets::packets, crate::proofs::BulkRows::heads), unfolding(mysql_bulk::specs::Head::head))]
 fn put_head(
     statement_id: u32,
     flags: u32,
@@ -41,7 +37,7 @@ fn put_head(
     out: &mut [u8],
     written: &mut usize,
 ) -> u32
-    ensures { PutsUnlessTooLong (head_bytes statement_id flags types.now) result out.old out.new written.new }
+    ensures { PutsUnlessTooLong (head_for statement_id flags types.now) result out.old out.new written.new }
 {
     let header = ComStmtBulkExecuteHeader::new();
     let stmt_id = RawInt::<LeU32>::new(statement_id);
@@ -54,7 +50,7 @@ fn put_head(
 }
 
 /// Writes the fields of `COM_STMT_BULK_EXECUTE` before the rows. Errors: 5 if the buffer is too small, with the length needed;
-/// 3 for another flag, no column, or a type that can't be declared.
+/// 3 for another flag, no column, or an invalid type.
 #[unsafe(no_mangle)]
 pub extern "C" fn myp_begin_bulk(
     statement_id: u32,
@@ -64,8 +60,8 @@ pub extern "C" fn myp_begin_bulk(
     written: &mut usize,
 ) -> u32
     ensures refused { spec.may_begin flags types.now ≡ false → (result ≡ 3) × (out.new ≡ out.old) × (written.new ≡ 0) }
-    ensures value { spec.may_begin flags types.now ≡ true → Puts (head_bytes statement_id flags types.now) result out.old out.new written.new }
-    ensures builder { result ≡ 0 → (max_allowed_packet : ℕ) → spec.HoldsRows statement_id flags max_allowed_packet types.now [] (take written.new out.new) }
+    ensures value { spec.may_begin flags types.now ≡ true → Puts (head_for statement_id flags types.now) result out.old out.new written.new }
+    ensures writer { result ≡ 0 → (max_allowed_packet : ℕ) → spec.HoldsRows (writer_of statement_id flags max_allowed_packet types.now) [] (take written.new out.new) }
 {
     if !may_begin(flags, types) {
         *written = 0;
@@ -74,19 +70,20 @@ pub extern "C" fn myp_begin_bulk(
     put_head(statement_id, flags, types, out, written)
 }
 
-/// The values of a row, whose bytes were counted.
+/// A row with a value for each column, whose length was computed.
 #[derive(Drop)]
 struct CountedRow<'r, 'a> {
+    types: &'r [CColumnType],
     row: &'r [CValue<'a>],
     len: usize,
-    ghost exact: { len ≡ length (flat_map cell_bytes row.now) },
+    ghost lengths: { length types.now ≡ length row.now },
+    ghost exact: { len ≡ length (row_bytes types.now row.now) },
 }
 
 impl MySerialize for CountedRow<'_, '_> {
-    ghost use Rattle.std.specs.List.{flat_map};
-    ghost use Rattle.mysql_packets_c.specs.Bulk.{cell_bytes};
+    ghost use Rattle.mysql_packets_c.specs.Bulk.{row_bytes};
 
-    ghost bytes = { λ r. flat_map cell_bytes r.row.now };
+    ghost bytes = { λ r. row_bytes r.types.now r.row.now };
 
     #[inline(always)]
     #[tactic(auto, unfolding(mysql_wire::specs::Writing::saturated))]
@@ -96,44 +93,48 @@ impl MySerialize for CountedRow<'_, '_> {
 
     #[inline(always)]
     fn append<O: Buffer>(&self, out: &mut O) {
-        append_cells(self.row, out);
+        append_row(self.types, self.row, out);
     }
 }
 
-/// Writes the values of a row, each after its indicator, over as many bytes as they take.
-fn put_cells(row: &[CValue<'_>], out: &mut [u8])
-    requires len { length out.old ≡ length (flat_map cell_bytes row.now) }
-    ensures { out.new ≡ flat_map cell_bytes row.now }
+/// Writes a row over a slice of its length.
+fn put_row(types: &[CColumnType], row: &[CValue<'_>], out: &mut [u8])
+    requires lengths { length types.now ≡ length row.now }
+    requires len { length out.old ≡ length (row_bytes types.now row.now) }
+    ensures { out.new ≡ row_bytes types.now row.now }
 {
     let counted = CountedRow {
+        types,
         row,
         len: out.len(),
     };
     let _len = counted.write_to_slice(out).unwrap();
 }
 
-/// Writes them over a given number of bytes after those that are used.
-fn put_after(row: &[CValue<'_>], used: usize, more: usize, out: &mut [u8])
-    requires more { more ≡ length (flat_map cell_bytes row.now) }
+/// Writes a row over a given number of bytes after the used ones.
+fn put_after(types: &[CColumnType], row: &[CValue<'_>], used: usize, more: usize, out: &mut [u8])
+    requires lengths { length types.now ≡ length row.now }
+    requires more { more ≡ length (row_bytes types.now row.now) }
     requires fits { used + more ≤ length out.old }
-    ensures { out.new ≡ take used out.old ++ (flat_map cell_bytes row.now ++ drop (used + more) out.old) }
+    ensures { out.new ≡ take used out.old ++ (row_bytes types.now row.now ++ drop (used + more) out.old) }
 {
     let (_used, rest) = out.split_at_mut(used);
     let (cells, _rest) = rest.split_at_mut(more);
-    put_cells(row, cells);
+    put_row(types, row, cells);
 }
 
-/// Whether a request of a given number of bytes may go on in a buffer of this length.
+/// Whether a request of this length may continue in a buffer of this size.
 fn may_add(max_allowed_packet: usize, used: usize, size: usize, types: &[CColumnType]) -> bool
     ensures { result ≡ spec.may_add max_allowed_packet used size types.now }
 {
     max_allowed_packet >= 4 && types.len() >= 1 && used >= 7 + 2 * types.len() && used <= size
 }
 
-/// The length of a row that may come next. `None` if there isn't a value for each column, or one is invalid or doesn't fit its
-/// type.
+/// The length of the next row; `None` if there isn't a value for each column, or one is invalid or doesn't fit
+/// its type.
 fn added_len(types: &[CColumnType], row: &[CValue<'_>]) -> Option<usize>
-    ensures { MatchOption result (takes_row types.now row.now ≡ false) (λ n. (takes_row types.now row.now ≡ true) × (n ≡ saturated (row_size (values_contents row.now)))) }
+    ensures { MatchOption result (takes_row types.now row.now ≡ false)
+        (λ n. (takes_row types.now row.now ≡ true) × (length types.now ≡ length row.now) × (n ≡ saturated (length (row_bytes types.now row.now)))) }
 {
     if types.len() != row.len() {
         return None;
@@ -141,7 +142,7 @@ fn added_len(types: &[CColumnType], row: &[CValue<'_>]) -> Option<usize>
     row_len(types, row)
 }
 
-/// Writes a row after the used bytes, and returns how many are used then.
+/// Writes a row after the used bytes, and returns the number of bytes that are used then.
 fn add_row(
     types: &[CColumnType],
     row: &[CValue<'_>],
@@ -153,9 +154,9 @@ fn add_row(
     ensures input { spec.may_add max_allowed_packet used (length out.old) types.now ≡ false → (result ≡ 3) × (out.new ≡ out.old) × (written.new ≡ written.old) }
     ensures row { takes_row types.now row.now ≡ false → (result ≡ 3) × (out.new ≡ out.old) × (written.new ≡ written.old) }
     ensures value { spec.may_add max_allowed_packet used (length out.old) types.now ≡ true → takes_row types.now row.now ≡ true
-        → spec.AddsRow (max_allowed_packet - 4) used row.now result out.old out.new written.old written.new }
-    ensures builder { (statement_id flags : ℕ) (rows : List (List Content)) → spec.HoldsRows statement_id flags max_allowed_packet types.now rows (take used out.old)
-        → spec.AddsAsBuilder statement_id flags max_allowed_packet types.now rows (values_contents row.now) result (take written.new out.new) }
+        → spec.AddsRow (max_allowed_packet - 4) used types.now row.now result out.old out.new written.old written.new }
+    ensures writer { (statement_id flags : ℕ) (rows : List (List Cell)) → spec.HoldsRows (writer_of statement_id flags max_allowed_packet types.now) rows (take used out.old)
+        → spec.AddsAsWriter (writer_of statement_id flags max_allowed_packet types.now) rows (cells_of row.now) result (take written.new out.new) }
 {
     if !may_add(max_allowed_packet, used, out.len(), types) {
         return INVALID_INPUT;
@@ -171,15 +172,16 @@ fn add_row(
     if out.len() < longer {
         return BUFFER_TOO_SMALL;
     }
-    put_after(row, used, more, out);
+    put_after(types, row, used, more, out);
     OK
 }
 
 /// Writes a row after the `used` bytes of a request that `myp_begin_bulk` began.
 ///
-/// 0, and both counts are what is used with the row; 5, and `needed` is how many bytes the buffer needs; 6 if a request can't be so long; or
-/// 3 if no request was begun there, there is not a value for each column, or one is invalid or can't be encoded under its type. After 3 and 6
-/// both counts are unchanged, and after each error so are the buffer and `used`.
+/// After 0, both counts are the number of bytes used with the row. Errors: 5 if the buffer is too small, and
+/// `needed` is the size that it needs; 6 if the request would be too long; 3 if no request was begun in the
+/// buffer, there is not a value for each column, or one is invalid or can't be encoded under its type. After 3
+/// and 6 both counts are unchanged, and after each error so are the buffer and `used`.
 #[unsafe(no_mangle)]
 pub extern "C" fn myp_add_bulk_row(
     types: &[CColumnType],
@@ -192,11 +194,11 @@ pub extern "C" fn myp_add_bulk_row(
     ensures input { spec.may_add max_allowed_packet used.old (length out.old) types.now ≡ false → (result ≡ 3) × (out.new ≡ out.old) × (needed.new ≡ needed.old) }
     ensures row { takes_row types.now row.now ≡ false → (result ≡ 3) × (out.new ≡ out.old) × (needed.new ≡ needed.old) }
     ensures value { spec.may_add max_allowed_packet used.old (length out.old) types.now ≡ true → takes_row types.now row.now ≡ true
-        → spec.AddsRow (max_allowed_packet - 4) used.old row.now result out.old out.new needed.old needed.new }
+        → spec.AddsRow (max_allowed_packet - 4) used.old types.now row.now result out.old out.new needed.old needed.new }
     ensures counted { result ≡ 0 → used.new ≡ needed.new }
     ensures kept { result ≢ 0 → used.new ≡ used.old }
-    ensures builder { (statement_id flags : ℕ) (rows : List (List Content)) → spec.HoldsRows statement_id flags max_allowed_packet types.now rows (take used.old out.old)
-        → spec.AddsAsBuilder statement_id flags max_allowed_packet types.now rows (values_contents row.now) result (take needed.new out.new) }
+    ensures writer { (statement_id flags : ℕ) (rows : List (List Cell)) → spec.HoldsRows (writer_of statement_id flags max_allowed_packet types.now) rows (take used.old out.old)
+        → spec.AddsAsWriter (writer_of statement_id flags max_allowed_packet types.now) rows (cells_of row.now) result (take needed.new out.new) }
 {
     let code = add_row(types, row, max_allowed_packet, out, *used, needed);
     if code == OK {

@@ -1,4 +1,4 @@
-//! Whether a cut of rows into bulk requests is a fewest one.
+//! Checks whether a cut of rows into bulk requests is a fewest one.
 
 ghost use Rattle.std.specs.Prelude.{◌≡◌, ◌≤◌, ◌↔◌};
 ghost use Rattle.mysql_cuts.specs.Fewest.{NamesFewest, weights};
@@ -7,7 +7,7 @@ ghost use Rattle.mysql_packets_c.specs.BulkCut.{rule_of};
 use crate::code::OK;
 use mysql_cuts::{BulkRule, cut_is_fewest};
 
-/// `myp_bulk_rule`.
+/// `myp_bulk_rule` of the C header.
 #[repr(C)]
 #[derive(Drop)]
 pub struct CBulkRule {
@@ -29,7 +29,8 @@ fn rule_of(rule: &CBulkRule) -> BulkRule
     }
 }
 
-/// Checks whether the ends describe a cut of the rows into requests that fit, and no cut has fewer. Always returns 0.
+/// Checks whether the ends describe a cut of the rows into requests that fit, and no cut has fewer requests.
+/// Always returns 0.
 #[unsafe(no_mangle)]
 pub extern "C" fn myp_bulk_cut_is_fewest(
     rule: &CBulkRule,

@@ -11,7 +11,7 @@ use crate::input::read;
 use mysql_commands::ComStmtBulkExecuteRef;
 use std::alloc::Global;
 
-/// `myp_bulk_head`.
+/// `myp_bulk_head` of the C header.
 #[repr(C)]
 #[derive(Drop)]
 pub struct CBulkHead<'a> {

@@ -1,7 +1,7 @@
 //! The types and the rows of a bulk execution, as a server reads them.
 #![tactic(auto, using(crate::proofs::ReadBulkRows::bulk_reads))]
 
-ghost use Rattle.std.specs.Prelude.{◌≡◌, ◌≢◌, ◌<◌, ◌≤◌, ◌*◌, ◌⊎◌, IsOk, [], drop, false, length, map, take, true};
+ghost use Rattle.std.specs.Prelude.{◌≡◌, ◌≢◌, ◌<◌, ◌≤◌, ◌⊎◌, [], false, length, map, take, true};
 ghost use Rattle.mysql_bulk.specs.HeadTypes.{types_block};
 ghost use Rattle.mysql_bulk.specs.ParamValue.{param_value};
 ghost use Rattle.mysql_bulk.specs.ReadRows.{row_of_columns};
@@ -10,14 +10,13 @@ ghost use Rattle.mysql_wire.specs.Reading.{Answers};
 ghost use Rattle.mysql_wire.specs.Seq.{counted};
 ghost use Rattle.mysql_packets_c.specs.ColumnType.{type_of, unsigned_of};
 ghost use Rattle.mysql_packets_c.specs.BulkRow as spec;
-ghost use Rattle.mysql_packets_c.specs.Rows.{FillsBoth, FillsPlaces};
 
 use crate::code::{BUFFER_TOO_SMALL, END, INVALID_DATA, OK, code_of};
 use crate::execution::type_held;
 use crate::rows::CColumnType;
 use crate::text::CBytes;
 use crate::value::{CValue, put_ref};
-use mysql_prepared::TypedColumn;
+use mysql_stmt::TypedColumn;
 use mysql_values::{ParamType, ValueRef, read_bin_ref};
 use mysql_wire::{Const, ConstValue, Fault, FaultOf, MariadbBulkIndicator, ParseBuf};
 use std::alloc::Global;
@@ -25,7 +24,7 @@ use std::alloc::Global;
 /// Reads a given number of types of two bytes each.
 fn fill_block(types: &mut [CColumnType], block: &mut ParseBuf<'_>) -> Result<(), Fault>
     ensures value { spec.ReadsTypes result types.new block.new ((counted (length types.old) (param_type.form tt)).reads block.old) }
-    ensures places { spec.FillsTypes block.old types.old types.new }
+    ensures places { spec.FillsTypes (spec.good_types (length types.old) block.old) types.old types.new }
 {
     for place in 0..types.len() {
         let param_type: ParamType = block.parse(())?;
@@ -34,10 +33,10 @@ fn fill_block(types: &mut [CColumnType], block: &mut ParseBuf<'_>) -> Result<(),
     Ok(())
 }
 
-/// Reads the types of as many columns as there are places, in a block.
+/// Reads the types of the columns, as many as there are elements, in one block.
 fn fill_types(types: &mut [CColumnType], buf: &mut ParseBuf<'_>) -> Result<(), Fault>
     ensures value { spec.ReadsTypes result types.new buf.new ((types_block true (length types.old)).reads buf.old) }
-    ensures places { spec.FillsTypes (take (2 * length types.old) buf.old) types.old types.new }
+    ensures places { spec.FillsTypes (spec.good_block (length types.old) buf.old) types.old types.new }
 {
     if buf.len() / 2 < types.len() {
         return Err(FaultOf::UnexpectedEof);
@@ -46,8 +45,8 @@ fn fill_types(types: &mut [CColumnType], buf: &mut ParseBuf<'_>) -> Result<(), F
     fill_block(types, &mut block)
 }
 
-/// Takes as many types as there are places off the front of the bytes after the head of a bulk execution. After an error (1 or
-/// 2) the bytes are unchanged.
+/// Takes as many types as the array has elements off the front of the bytes after the head of a bulk execution.
+/// After an error (1 or 2) the bytes are unchanged.
 #[unsafe(no_mangle)]
 pub extern "C" fn myp_read_bulk_types<'a>(
     alloc: Global,
@@ -55,7 +54,7 @@ pub extern "C" fn myp_read_bulk_types<'a>(
     types: &mut [CColumnType],
 ) -> u32
     ensures value { spec.TypesInto ((types_block true (length types.old)).reads rest.old.bytes.now) result rest.old rest.new types.new }
-    ensures places { spec.FillsTypes (take (2 * length types.old) rest.old.bytes.now) types.old types.new }
+    ensures places { spec.FillsTypes (spec.good_block (length types.old) rest.old.bytes.now) types.old types.new }
 {
     let mut buf = ParseBuf::new(alloc, rest.bytes);
     match fill_types(types, &mut buf) {
@@ -67,7 +66,7 @@ pub extern "C" fn myp_read_bulk_types<'a>(
     }
 }
 
-/// Reads a value after its indicator. After another indicator than that of a value none follows.
+/// Reads a value after its indicator. Only the indicator of a value is followed by one.
 fn read_param<'s, 'a>(
     column: &CColumnType,
     buf: &mut ParseBuf<'a>,
@@ -84,7 +83,7 @@ fn read_param<'s, 'a>(
     Ok((indicator.0, value))
 }
 
-/// Reads a value of each column into the first places, and how each is given.
+/// Reads a value for each column into the first elements, and how each is given.
 fn fill_row<'a>(
     types: &[CColumnType],
     buf: &mut ParseBuf<'a>,
@@ -94,9 +93,7 @@ fn fill_row<'a>(
     requires values { length types.now ≤ length values.old }
     requires indicators { length types.now ≤ length indicators.old }
     ensures value { spec.ReadsRow result (take (length types.now) values.new) (take (length types.now) indicators.new) buf.new ((spec.bulk_row types.now).reads buf.old) }
-    ensures places { FillsPlaces (length types.now) (IsOk result) values.old values.new }
-    ensures together { FillsBoth (length types.now) (IsOk result) values.old values.new indicators.old indicators.new }
-    ensures others { drop (length types.now) indicators.new ≡ drop (length types.now) indicators.old }
+    ensures places { spec.FillsRow (spec.good_row types.now buf.old) values.old values.new indicators.old indicators.new }
 {
     for place in 0..types.len() {
         let param = read_param(&types[place], buf)?;
@@ -106,12 +103,12 @@ fn fill_row<'a>(
     Ok(())
 }
 
-/// Takes the next row of a bulk execution off the front of the bytes after its types: a value of each column into the first places,
-/// and how each is given.
+/// Takes the next row of a bulk execution off the front of the bytes after its types: reads a value for each
+/// column into the first elements, and how each is given.
 ///
-/// Returns 7 if no byte is left. Errors: 2 if bytes are left and there is no column; 5 if there are fewer places than columns;
-/// 1 or 2, with the values and indicators before the faulty one set. After another code than 0 the bytes are unchanged. Places
-/// after those of the columns are unchanged.
+/// Returns 7 if no byte is left. Errors: 2 if bytes are left and there is no column; 5 if there are fewer
+/// elements than columns; 1 or 2, with the values and indicators before the faulty one set. After any code
+/// other than 0, the bytes are unchanged. Elements after those of the columns are unchanged.
 #[unsafe(no_mangle)]
 pub extern "C" fn myp_next_bulk_row<'a>(
     alloc: Global,
@@ -127,9 +124,8 @@ pub extern "C" fn myp_next_bulk_row<'a>(
         → spec.RowInto ((spec.bulk_row types.now).reads rest.old.bytes.now) result rest.old rest.new (take (length types.now) values.new) (take (length types.now) indicators.new) }
     ensures contents { rest.old.bytes.now ≢ [] → types.now ≢ [] → length types.now ≤ length values.old → length types.now ≤ length indicators.old
         → spec.ContentsInto ((row_of_columns (map spec.column_of types.now)).reads rest.old.bytes.now) result (take (length types.now) values.new) rest.new.bytes.now }
-    ensures places { length types.now ≤ length values.old → length types.now ≤ length indicators.old → FillsPlaces (length types.now) (result ≡ 0) values.old values.new }
-    ensures together { length types.now ≤ length values.old → length types.now ≤ length indicators.old → FillsBoth (length types.now) (result ≡ 0) values.old values.new indicators.old indicators.new }
-    ensures other_indicators { drop (length types.now) indicators.new ≡ drop (length types.now) indicators.old }
+    ensures places { rest.old.bytes.now ≢ [] → types.now ≢ [] → length types.now ≤ length values.old → length types.now ≤ length indicators.old
+        → spec.FillsRow (spec.good_row types.now rest.old.bytes.now) values.old values.new indicators.old indicators.new }
 {
     if rest.bytes.is_empty() {
         return END;

@@ -1,4 +1,4 @@
-//! The change of a session's user.
+//! The change of user.
 #![tactic(auto, using(crate::proofs::Codes::codes, crate::proofs::Logins::pairs))]
 
 ghost use Rattle.std.specs.Prelude.{false, ◌≡◌, true, option_map, None};
@@ -27,7 +27,7 @@ use mysql_wire::{CapabilityFlags, parts};
 use std::alloc::Global;
 use std::borrow::CowSlice;
 
-/// `myp_change_user`.
+/// `myp_change_user` of the C header.
 #[repr(C)]
 #[derive(Drop)]
 pub struct CChangeUser<'a> {
@@ -43,7 +43,7 @@ pub struct CChangeUser<'a> {
     pub has_attributes: u8,
 }
 
-/// Puts more data, or that there is none.
+/// Stores the optional fields, or that there are none.
 fn put_more_data<'a>(more: Option<&ComChangeUserMoreDataRef<'a>>, out: &mut CChangeUser<'a>)
     ensures value { spec.more_held out.new ≡ option_map (λ more. more.now) more.entry }
     ensures name { if_set out.new.has_auth_plugin_name out.new.auth_plugin_name.now ≡ spec.name_sent (option_map (λ more. more.now) more.entry) }
@@ -94,7 +94,7 @@ pub extern "C" fn myp_read_change_user<'a>(
     }
 }
 
-/// The plugin, where a session names one.
+/// The plugin, if the session's flags ask for one.
 fn plugin_of<'a>(capabilities: CapabilityFlags, change: &CChangeUser<'a>) -> Option<AuthPlugin<'a>>
     ensures { result ≡ spec.named_plugin capabilities.0 change.now }
 {
@@ -105,7 +105,7 @@ fn plugin_of<'a>(capabilities: CapabilityFlags, change: &CChangeUser<'a>) -> Opt
     }
 }
 
-/// Whether attributes are sent: a session has them, and more follows the schema.
+/// Whether attributes are sent: the flags ask for them, and optional fields follow the schema.
 fn sends_attributes(capabilities: CapabilityFlags, change: &CChangeUser<'_>) -> bool
     ensures { result ≡ spec.sends_attributes capabilities.0 change.now }
 {
@@ -123,7 +123,7 @@ fn sends_texts(
     !sends_attributes(capabilities, change) || are_texts(attributes)
 }
 
-/// The flags without that of attributes.
+/// Returns the flags without that of attributes.
 #[tactic(auto)]
 fn without_attributes(mut capabilities: CapabilityFlags) -> CapabilityFlags
     ensures plugin { has result.0 CLIENT_PLUGIN_AUTH ≡ has capabilities.0 CLIENT_PLUGIN_AUTH }
@@ -133,7 +133,7 @@ fn without_attributes(mut capabilities: CapabilityFlags) -> CapabilityFlags
     capabilities
 }
 
-/// The fields after the schema, without attributes.
+/// Returns the fields after the schema, without attributes.
 fn more_data_of<'a>(
     capabilities: CapabilityFlags,
     change: &CChangeUser<'a>,
@@ -147,7 +147,7 @@ fn more_data_of<'a>(
     Some(ComChangeUserMoreData::new(change.character_set).with_auth_plugin(plugin))
 }
 
-/// The packet of a change, without attributes.
+/// Returns the packet of a change, without attributes.
 fn packet_of<'a>(capabilities: CapabilityFlags, change: &CChangeUser<'a>) -> ComChangeUser<'a>
     ensures { result ≡ spec.change_with capabilities.0 change.now None }
 {

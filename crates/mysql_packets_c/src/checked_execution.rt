@@ -1,13 +1,13 @@
-//! An execution whose parameters were checked and counted.
+//! An execution whose parameters were checked, and whose length was computed.
 
 ghost use Rattle.std.specs.Prelude.{◌≡◌, length};
-ghost use Rattle.mysql_prepared.specs.Execution.{execution_bytes};
+ghost use Rattle.mysql_stmt.specs.Execution.{execution_bytes};
 ghost use Rattle.mysql_wire.specs.Writing.{saturated};
 ghost use Rattle.mysql_packets_c.specs.CheckedExecution.{plain_of};
 
 use crate::checked_nulls::CheckedNulls;
 use crate::checked_params::{CheckedParams, SentTypes};
-use mysql_prepared::ComStmtExecuteHead;
+use mysql_stmt::ComStmtExecuteHead;
 use mysql_wire::{Buffer, MySerialize, Parts, RawInt, Sink, parts};
 
 /// An execution without names and attributes, and without long data.
@@ -20,7 +20,7 @@ pub(crate) struct CheckedExecution<'r, 'a> {
 
 #[tactic(auto, using(mysql_wire::proofs::Packets::packets, crate::proofs::CheckedParams::plain))]
 impl Parts for CheckedExecution<'_, '_> {
-    ghost use Rattle.mysql_prepared.specs.Execution.{execution_bytes};
+    ghost use Rattle.mysql_stmt.specs.Execution.{execution_bytes};
     ghost use Rattle.mysql_packets_c.specs.CheckedExecution.{plain_of};
 
     ghost bytes = { λ e. execution_bytes (plain_of e) };
@@ -46,7 +46,7 @@ impl Parts for CheckedExecution<'_, '_> {
     }
 }
 
-/// An execution whose bytes were counted.
+/// An execution whose length was computed.
 #[derive(Drop)]
 struct CountedExecution<'c, 'r, 'a> {
     execution: &'c CheckedExecution<'r, 'a>,
@@ -55,7 +55,7 @@ struct CountedExecution<'c, 'r, 'a> {
 }
 
 impl MySerialize for CountedExecution<'_, '_, '_> {
-    ghost use Rattle.mysql_prepared.specs.Execution.{execution_bytes};
+    ghost use Rattle.mysql_stmt.specs.Execution.{execution_bytes};
     ghost use Rattle.mysql_packets_c.specs.CheckedExecution.{plain_of};
 
     ghost bytes = { λ c. execution_bytes (plain_of c.execution.now) };
@@ -72,7 +72,7 @@ impl MySerialize for CountedExecution<'_, '_, '_> {
     }
 }
 
-/// Writes an execution over as many bytes as it takes.
+/// Writes an execution over a slice of its length.
 #[inline(always)]
 pub(crate) fn put_over(execution: &CheckedExecution<'_, '_>, out: &mut [u8])
     requires { length out.old ≡ length (execution_bytes (plain_of execution.now)) }

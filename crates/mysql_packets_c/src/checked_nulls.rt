@@ -1,23 +1,23 @@
-//! The bitmap of NULLs of parameters.
-#![tactic(auto, using(mysql_prepared::proofs::SentNulls::sent_nulls))]
+//! The NULL bitmap of parameters.
+#![tactic(auto, using(mysql_stmt::proofs::SentNulls::sent_nulls))]
 
 ghost use Rattle.std.specs.Prelude.{◌≡◌, ◌<◌, ◌+◌, ◌++◌, ◌≤◌, drop, false, get_or, length, replicate};
-ghost use Rattle.mysql_prepared.specs.NullMarks.{first_eight, first_four};
+ghost use Rattle.mysql_stmt.specs.NullMarks.{first_eight, first_four};
 ghost use Rattle.mysql_packets_c.specs.CheckedParams.{bitmap_for, bits_under, has_null};
 
 use crate::parameter::CParameter;
-use mysql_prepared::{AsExecuteParam, NullBitmap};
+use mysql_stmt::{AsExecuteParam, NullBitmap};
 use mysql_values::ClientSide;
 use mysql_wire::{Buffer, MySerialize};
 
-/// The bits of the parameters that are left.
+/// The bits of the remaining parameters.
 #[derive(Drop)]
 struct NullBits<'r, V> {
     params: &'r [V],
 }
 
 impl<V: AsExecuteParam> NullBits<'_, V> {
-    /// Removes the first of them and returns its bit; past the last one it is 0.
+    /// Removes the first parameter and returns its bit; past the last one it is 0.
     #[inline(always)]
     fn next_bit(&mut self) -> u8
         ensures value { result ≡ get_or (bits_under V.param self.old.params.now) 0 0 }
@@ -31,7 +31,7 @@ impl<V: AsExecuteParam> NullBits<'_, V> {
         0
     }
 
-    /// Removes the first four of them and returns their bits, the first one the lowest.
+    /// Removes the first four parameters and returns their bits, the first one the lowest.
     #[inline(always)]
     fn next_four(&mut self) -> u8
         ensures value { result ≡ first_four (bits_under V.param self.old.params.now) }
@@ -45,7 +45,7 @@ impl<V: AsExecuteParam> NullBits<'_, V> {
         first + 2 * second + 4 * third + 8 * fourth
     }
 
-    /// Removes the first eight of them and returns their byte.
+    /// Removes the first eight parameters and returns their byte.
     #[inline(always)]
     fn next_byte(&mut self) -> u8
         ensures value { result ≡ first_eight (bits_under V.param self.old.params.now) }
@@ -61,7 +61,7 @@ impl<V: AsExecuteParam> NullBits<'_, V> {
 #[derive(Drop)]
 pub(crate) struct CheckedNulls<'r, 'a> {
     pub(crate) params: &'r [CParameter<'a>],
-    /// Whether a bit may be set.
+    /// Whether any bit may be set.
     pub(crate) may_have_null: bool,
     ghost none: { may_have_null ≡ false → has_null params.now ≡ false },
 }

@@ -1,7 +1,8 @@
-//! Parameters of an execution, whose values were checked and counted.
+//! Parameters of an execution, whose values were checked, and whose lengths were computed.
 //!
-//! Each is visited once to check and count it, once for its type, and once for its value. The kinds that most values have are found by one
-//! comparison each, and the others are written by calls, so that the loops stay small and keep the buffer in registers.
+//! Each is visited once to check it and compute its length, once for its type, and once for its value. The most
+//! frequent kinds are found by one comparison each, and the others are written by calls, so that the loops stay
+//! small and keep the buffer in registers.
 
 ghost use Rattle.std.specs.List.{flat_map};
 ghost use Rattle.std.specs.Prelude.{◌≡◌, ◌+◌, ◌++◌, ◌≤◌, MatchOption, drop, false, length, true};
@@ -12,11 +13,11 @@ ghost use Rattle.mysql_packets_c.specs.CheckedParams as spec;
 
 use crate::parameter::{CParameter, is_parameter};
 use crate::value::{CValue, is_param};
-use mysql_prepared::{AsExecuteParam, ItemForm, Items};
+use mysql_stmt::{AsExecuteParam, ItemForm, Items};
 use mysql_values::{ParamType, ValueRef};
 use mysql_wire::{Buffer, MySerialize};
 
-/// The length of a value that is sent as the type of its kind. `None` if no parameter may have it.
+/// The length of a value that is sent as the type of its kind; `None` if no parameter may have it.
 // (by a call, so that what counts numbers and strings stays small enough to be in line)
 #[inline(never)]
 fn any_len(value: &CValue<'_>) -> Option<usize>
@@ -28,7 +29,8 @@ fn any_len(value: &CValue<'_>) -> Option<usize>
     Some(value.sent_len(false))
 }
 
-/// The same length, by the kind. `None` if no parameter may have the value.
+/// The length of a value that is sent as the type of its kind, with the most frequent kinds first; `None` if no
+/// parameter may have it.
 #[inline(always)]
 fn own_len(value: &CValue<'_>) -> Option<usize>
     ensures { spec.IsOwnLen value.now result }
@@ -39,7 +41,8 @@ fn own_len(value: &CValue<'_>) -> Option<usize>
     }
 }
 
-/// The length of a parameter that has a type of the caller's, or was sent ahead. `None` if it is invalid, or its type can't encode the value.
+/// The length of a parameter that has a type of the caller, or was sent ahead; `None` if it is invalid, or its
+/// type can't encode the value.
 #[inline(never)]
 fn typed_len(parameter: &CParameter<'_>) -> Option<usize>
     ensures { spec.IsCheckedLen parameter.now result }
@@ -50,7 +53,7 @@ fn typed_len(parameter: &CParameter<'_>) -> Option<usize>
     Some(parameter.sent_len(false))
 }
 
-/// The length of a parameter. `None` if it is invalid, or its type can't encode the value.
+/// The length of a parameter; `None` if it is invalid, or its type can't encode the value.
 #[inline(always)]
 fn checked_len(parameter: &CParameter<'_>) -> Option<usize>
     ensures { spec.IsCheckedLen parameter.now result }
@@ -61,18 +64,19 @@ fn checked_len(parameter: &CParameter<'_>) -> Option<usize>
     typed_len(parameter)
 }
 
-/// Parameters that may be sent, with the length of their values.
+/// Valid parameters, with the length of their values.
 #[derive(Drop)]
 pub(crate) struct CheckedParams<'r, 'a> {
     pub(crate) items: &'r [CParameter<'a>],
     pub(crate) len: usize,
-    /// Whether one of them takes no bytes, as NULL does.
+    /// Whether one of them takes no bytes, such as NULL.
     pub(crate) has_empty: bool,
     ghost exact: { len ≡ saturated (length (flat_map spec.sent_bytes items.now)) },
     ghost nulls: { has_empty ≡ false → spec.has_null items.now ≡ false },
 }
 
-/// Checks and counts parameters. `None` if one of them is invalid, or its type can't encode its value.
+/// Checks parameters and computes the length of their values; `None` if one of them is invalid, or its type
+/// can't encode its value.
 #[tactic(auto, using(crate::proofs::CheckedParams::checked), unfolding(mysql_wire::specs::Writing::saturated))]
 pub(crate) fn checked<'r, 'a>(items: &'r [CParameter<'a>]) -> Option<CheckedParams<'r, 'a>>
     ensures { MatchOption result (spec.may_send items.now ≡ false) (λ found. (spec.may_send items.now ≡ true) × (found.items.now ≡ items.now)) }
@@ -111,7 +115,7 @@ impl ItemForm<CParameter<'_>> for AsSentValues {
     }
 }
 
-/// They are written as their values.
+/// Written as the values of the parameters.
 impl MySerialize for CheckedParams<'_, '_> {
     ghost use Rattle.std.specs.List.{flat_map};
     ghost use Rattle.mysql_packets_c.specs.CheckedParams.{sent_bytes};
@@ -133,7 +137,7 @@ impl MySerialize for CheckedParams<'_, '_> {
     }
 }
 
-/// The type that any parameter is sent as.
+/// Returns the type that a parameter of any kind is sent as.
 // (by a call too)
 #[inline(never)]
 fn any_type(parameter: &CParameter<'_>) -> ParamType

@@ -1,8 +1,8 @@
-//! The end of a prepared statement.
+//! The command that closes a prepared statement.
 #![tactic(auto, using(crate::proofs::Codes::codes))]
 
 ghost use Rattle.std.specs.Prelude.{◌≡◌, ◌≢◌};
-ghost use Rattle.mysql_prepared.specs.Close.{close};
+ghost use Rattle.mysql_stmt.specs.Close.{close};
 ghost use Rattle.mysql_packets_c.specs.Close.{IsClosed};
 ghost use Rattle.mysql_packets_c.specs.Code.{ReadsInto};
 ghost use Rattle.mysql_packets_c.specs.Output.{Puts};
@@ -28,7 +28,7 @@ pub extern "C" fn myp_read_close(alloc: Global, packet: &[u8], statement_id: &mu
 }
 
 /// Writes `COM_STMT_CLOSE`. If the buffer is too small (5), `written` is the length needed.
-#[tactic(auto, using(crate::proofs::Codes::codes), unfolding(mysql_prepared::specs::Close::close, mysql_wire::specs::Writing::le_bytes))]
+#[tactic(auto, using(crate::proofs::Codes::codes), unfolding(mysql_stmt::specs::Close::close, mysql_wire::specs::Writing::le_bytes))]
 #[unsafe(no_mangle)]
 pub extern "C" fn myp_write_close(statement_id: u32, out: &mut [u8], written: &mut usize) -> u32
     ensures { Puts (close.bytes (record { stmt_id = statement_id })) result out.old out.new written.new }

@@ -26,8 +26,10 @@ pub(crate) const END: u32 = 7;
 pub(crate) const OUT_OF_RANGE: u32 = 8;
 /// Both sides agreed on compression.
 pub(crate) const COMPRESSED: u32 = 9;
+/// A command would have to wait while eight others do.
+pub(crate) const TOO_MANY_COMMANDS: u32 = 10;
 
-/// The code of a fault.
+/// Returns the code of a fault.
 #[inline]
 pub(crate) fn code_of(fault: &FaultOf<'_>) -> u32
     ensures code { result ≡ fault_code fault.now }
@@ -42,7 +44,7 @@ pub(crate) fn code_of(fault: &FaultOf<'_>) -> u32
     }
 }
 
-/// The version of this library, as `MYP_VERSION` of its header: major, minor and patch, a byte each.
+/// The version of this library, in the form of the header's `MYP_VERSION`: major, minor and patch, a byte each.
 #[unsafe(no_mangle)]
 pub extern "C" fn myp_version() -> u32
     ensures value { result ≡ 0x000100 }
@@ -65,11 +67,12 @@ fn code_text(code: u32) -> Option<&'static [u8]>
         END => Some(b"end of the list"),
         OUT_OF_RANGE => Some(b"the number is out of range"),
         COMPRESSED => Some(b"both sides agreed on compression"),
+        TOO_MANY_COMMANDS => Some(b"too many pipelined commands"),
         _ => None,
     }
 }
 
-/// The text of a code. For an unknown code (3) the place is unchanged.
+/// Returns the text of a code. For an unknown code (3) the output is unchanged.
 #[unsafe(no_mangle)]
 pub extern "C" fn myp_code_text(code: u32, text: &mut CBytes<'_>) -> u32
     ensures value { TextInto (code_text code) result text.old text.new }

@@ -26,7 +26,7 @@ use std::alloc::Global;
 use std::borrow::CowSlice;
 use std::marker::Model;
 
-/// `myp_column`.
+/// `myp_column` of the C header.
 #[repr(C)]
 #[derive(Drop)]
 pub struct CColumn<'a> {
@@ -45,7 +45,7 @@ pub struct CColumn<'a> {
     pub used: usize,
 }
 
-/// The bytes, and whether there are any.
+/// Returns the bytes, and whether there are any.
 #[inline(always)]
 pub(crate) fn places_of<'a>(bytes: Option<&'a [u8]>) -> (&'a [u8], u8)
     ensures value { if_set result.1 result.0.now ≡ option_map (λ m. m.now) bytes.entry }
@@ -80,7 +80,8 @@ pub(crate) fn put_column<'a>(found: &ExtendedColumnRef<'a>, used: usize, out: &m
     out.used = used;
 }
 
-/// Reads `Protocol::ColumnDefinition41`, by MariaDB's capabilities agreed on: 0; or 1 or 2, and the struct is unchanged.
+/// Reads `Protocol::ColumnDefinition41`, under the agreed MariaDB capabilities. After an error (1 or 2) the
+/// struct is unchanged.
 #[unsafe(no_mangle)]
 pub extern "C" fn myp_read_column<'a>(
     alloc: Global,
@@ -100,7 +101,7 @@ pub extern "C" fn myp_read_column<'a>(
     }
 }
 
-/// The names of a column, which are the caller's, so that none is copied. In a clause they are those names.
+/// The caller's names of a column, borrowed. In a clause they are those names.
 #[derive(Drop)]
 pub(crate) struct SentNames<'a> {
     schema: RawBytes<'a, LenEnc>,
@@ -135,7 +136,7 @@ impl Parts for SentNames<'_> {
     }
 }
 
-/// The other fields of a column. In a clause they are those fields.
+/// The fixed fields of a column. In a clause they are those fields.
 #[derive(Drop)]
 pub(crate) struct SentFields {
     character_set: RawInt<LeU16>,
@@ -174,7 +175,7 @@ impl Parts for SentFields {
     }
 }
 
-/// A column whose names and metadata are the caller's. In a clause it is that column.
+/// A column with the caller's names and metadata, borrowed. In a clause it is that column.
 #[derive(Drop)]
 pub(crate) struct SentColumn<'a> {
     names: SentNames<'a>,
@@ -203,7 +204,7 @@ impl Parts for SentColumn<'_> {
     }
 }
 
-/// The caller's metadata, if there are any.
+/// The caller's metadata, if any.
 fn metadata_of<'a>(column: &CColumn<'a>) -> Option<RawBytes<'a, LenEnc>>
     ensures value { result ≡ spec.metadata_given column.now }
 {
@@ -214,7 +215,7 @@ fn metadata_of<'a>(column: &CColumn<'a>) -> Option<RawBytes<'a, LenEnc>>
     }
 }
 
-/// The column of this type, and of the caller's other fields.
+/// Returns the column of this type, and of the caller's other fields.
 pub(crate) fn sent_column<'a>(column_type: ColumnType, fields: &CColumn<'a>) -> SentColumn<'a>
     ensures value { result ≡ spec.column_given column_type fields.now }
 {
@@ -237,8 +238,8 @@ pub(crate) fn sent_column<'a>(column_type: ColumnType, fields: &CColumn<'a>) -> 
     }
 }
 
-/// Writes `Protocol::ColumnDefinition41`, with extended metadata if there are any. Errors: 5 if the buffer is too small, with
-/// the length needed; 4 if the length overflows; 3 for an unknown type.
+/// Writes `Protocol::ColumnDefinition41`, with extended metadata, if any. Errors: 5 if the buffer is too small,
+/// with the length needed; 4 if the length overflows; 3 for an unknown type.
 #[unsafe(no_mangle)]
 pub extern "C" fn myp_write_column(column: &CColumn<'_>, out: &mut [u8], written: &mut usize) -> u32
     ensures unknown { column_type_of column.now.column_type ≡ None → (result ≡ 3) × (out.new ≡ out.old) × (written.new ≡ 0) }

@@ -16,7 +16,7 @@ use mysql_wire::{Fault, ParseBuf};
 use std::alloc::Global;
 use std::borrow::CowSlice;
 
-/// `myp_column_attribute`.
+/// `myp_column_attribute` of the C header.
 #[repr(C)]
 #[derive(Drop)]
 pub struct CColumnAttribute<'a> {
@@ -24,7 +24,7 @@ pub struct CColumnAttribute<'a> {
     pub kind: u8,
 }
 
-/// The attribute that the bytes begin with, and the bytes after it.
+/// Returns the attribute at the front of the bytes, and the bytes after it.
 #[inline(always)]
 fn next_attribute<'a>(
     alloc: Global,
@@ -38,7 +38,7 @@ fn next_attribute<'a>(
     Ok((attribute, buf.eat_all()))
 }
 
-/// Takes the next attribute off the front; 7 if nothing is left. After another code than 0 both places are unchanged.
+/// Takes the next attribute off the front; returns 7 if none is left. After any other code, both outputs are unchanged.
 #[unsafe(no_mangle)]
 pub extern "C" fn myp_next_column_attribute<'a>(
     alloc: Global,

@@ -1,4 +1,4 @@
-//! The count of columns that a result begins with.
+//! The column count that a result begins with.
 #![tactic(auto, using(crate::proofs::Codes::codes))]
 
 ghost use Rattle.std.specs.Prelude.{◌≡◌, ◌≢◌, ◌<◌, false, true};
@@ -16,7 +16,7 @@ use mysql_replies::{ColumnCount, SessionCapabilities};
 use mysql_wire::{CapabilityFlags, MariadbCapabilities};
 use std::alloc::Global;
 
-/// `myp_column_count`.
+/// `myp_column_count` of the C header.
 #[repr(C)]
 #[derive(Drop)]
 pub struct CColumnCount {
@@ -25,7 +25,7 @@ pub struct CColumnCount {
     pub used: usize,
 }
 
-/// The capabilities agreed on: MySQL's flags, and MariaDB's own.
+/// The agreed capabilities: MySQL's flags, and MariaDB's extended ones.
 fn session_of(capabilities: u32, mariadb_capabilities: u32) -> SessionCapabilities
     ensures value { result ≡ session_of capabilities mariadb_capabilities }
 {
@@ -61,7 +61,7 @@ pub extern "C" fn myp_read_column_count(
     }
 }
 
-/// Whether a byte says that definitions follow.
+/// Whether the metadata byte is sent.
 fn says_follow(capabilities: SessionCapabilities) -> bool
     ensures value { result ≡ says_follow capabilities }
 {
@@ -73,8 +73,8 @@ fn says_follow(capabilities: SessionCapabilities) -> bool
             .contains(MariadbCapabilities::MARIADB_CLIENT_CACHE_METADATA)
 }
 
-/// Writes the number of a result's columns, under the agreed capabilities. Errors: 5 if the buffer is too small, with the
-/// length needed; 3 if no definitions follow and no byte says so.
+/// Writes the number of a result's columns, under the agreed capabilities. Errors: 5 if the buffer is too
+/// small, with the length needed; 3 if no definitions follow and the flags have no byte to say so.
 #[unsafe(no_mangle)]
 pub extern "C" fn myp_write_column_count(
     columns: &CColumnCount,

@@ -20,7 +20,7 @@ use mysql_stmt::ComStmtClose;
 use mysql_wire::command_code as com;
 use std::alloc::Global;
 
-/// `myp_command`.
+/// `myp_command` of the C header.
 #[repr(C)]
 #[derive(Drop)]
 pub struct CCommand<'a> {
@@ -32,7 +32,7 @@ pub struct CCommand<'a> {
     pub code: u8,
 }
 
-/// Puts a command that is its code alone, or that another call reads.
+/// Stores a command without fields, or one that another call reads.
 fn put_alone(code: u8, out: &mut CCommand<'_>)
     ensures value { Holds (alone code) out.new }
 {
@@ -43,7 +43,7 @@ fn put_alone(code: u8, out: &mut CCommand<'_>)
     out.rows = 0;
 }
 
-/// Puts a command with a text.
+/// Stores a command with a text.
 fn put_text<'a>(code: u8, text: &'a [u8], out: &mut CCommand<'a>)
     ensures value { Holds (with_text code text.now) out.new }
 {
@@ -51,7 +51,7 @@ fn put_text<'a>(code: u8, text: &'a [u8], out: &mut CCommand<'a>)
     out.text = text;
 }
 
-/// Puts a command with a number.
+/// Stores a command with a number.
 fn put_number(code: u8, number: u32, out: &mut CCommand<'_>)
     ensures value { Holds (with_number code number) out.new }
 {
@@ -59,7 +59,7 @@ fn put_number(code: u8, number: u32, out: &mut CCommand<'_>)
     out.number = number;
 }
 
-/// Puts what a command says.
+/// Stores the fields of a command.
 fn put_command<'a>(command: Command<'a>, out: &mut CCommand<'a>)
     ensures value { Holds (fields_of command.entry) out.new }
 {
@@ -126,7 +126,7 @@ pub extern "C" fn myp_read_command<'a>(
     }
 }
 
-/// The command of this code that says nothing more.
+/// Returns the command of this code, if it has no fields.
 fn alone_of(code: u8) -> Option<Command<'static>>
     ensures value { result ≡ spec.alone_given code }
 {
@@ -141,7 +141,7 @@ fn alone_of(code: u8) -> Option<Command<'static>>
     }
 }
 
-/// The command of this code with a text.
+/// Returns the command of this code with a text.
 fn text_of<'a>(code: u8, text: &'a [u8], wildcard: &'a [u8]) -> Option<Command<'a>>
     ensures value { result ≡ spec.text_given code text.now wildcard.now }
 {
@@ -156,7 +156,7 @@ fn text_of<'a>(code: u8, text: &'a [u8], wildcard: &'a [u8]) -> Option<Command<'
     }
 }
 
-/// The command of this code with a number, which its bytes can tell.
+/// Returns the command of this code with a number, if its bytes can hold the number.
 fn number_of(code: u8, number: u32, rows: u32) -> Option<Command<'static>>
     ensures value { result ≡ spec.number_given code number rows }
 {
@@ -174,7 +174,7 @@ fn number_of(code: u8, number: u32, rows: u32) -> Option<Command<'static>>
     }
 }
 
-/// The command of the caller's fields, where they are of one.
+/// Returns the command of the caller's fields, if they are valid.
 fn command_of<'a>(fields: &CCommand<'a>) -> Option<Command<'a>>
     ensures value { result ≡ spec.command_given fields.now }
 {

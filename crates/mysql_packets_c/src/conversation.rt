@@ -1,42 +1,45 @@
 //! Conversations: which packet comes next.
 #![tactic(auto)]
 
-ghost use Rattle.std.specs.Prelude.{◌≡◌, ◌≢◌, ◌↔◌, ◌<◌, ◌≤◌, ◌⊎◌, List, [], ◌∷◌, ◌++◌, IfSome, IfNone, IsSome, Some};
-ghost use Rattle.mysql_conversation.specs.Conversation.{Packet};
+ghost use Rattle.std.specs.Prelude.{◌≡◌, ◌≢◌, ◌↔◌, ◌<◌, ◌≤◌, ◌⊎◌, List, [], ◌∷◌, ◌++◌, IfSome, IsSome, Some};
+ghost use Rattle.mysql_conversation.specs.Piped.{place};
 ghost use Rattle.mysql_conversation.specs.Pipelined.{Numbered};
-ghost use Rattle.mysql_conversation.specs.Session.{IsSession};
-ghost use Rattle.mysql_conversation.specs.Taken.{packet};
 ghost use Rattle.mysql_conversation.specs.declared.packet_kind.Side.TheVariants.{Server};
-ghost use Rattle.mysql_conversation.specs.History as history;
 ghost use Rattle.mysql_packets_c.specs.Conversation as spec;
 
-use crate::code::{INVALID_DATA, INVALID_INPUT, OK};
+use crate::code::{INVALID_DATA, INVALID_INPUT, OK, TOO_MANY_COMMANDS};
 use crate::flags::{capabilities_of, mariadb_of};
 use crate::session::{LOGIN, login_is_idle, next_of_login};
 use bitflags::Flags;
-use mysql_conversation::{Conversation, ConversationState, InitialPhase, PacketKind, Side};
+use mysql_conversation::{
+    ConversationState, InitialPhase, PacketKind, PipelineState, SessionError, Side,
+};
 use mysql_replies::SessionCapabilities;
 use std::alloc::Global;
 
-/// `myp_conversation`.
+/// `myp_conversation` of the C header.
 #[repr(C)]
 #[derive(Drop)]
 pub struct CConversation {
     pub definitions: u64,
     pub columns: u64,
+    pub exchange: u64,
+    pub commands: u64,
     pub capabilities: u32,
     pub mariadb_capabilities: u32,
     pub opening: u8,
     pub place: u8,
     pub request: u8,
     pub after: u8,
+    pub waiting: [u8; 8],
 }
 
-/// `myp_packet`.
+/// `myp_packet` of the C header.
 #[repr(C)]
 #[derive(Drop)]
 pub struct CPacket {
     pub columns: u64,
+    pub exchange: u64,
     pub params: u16,
     pub kind: u8,
     pub command: u8,
@@ -83,54 +86,50 @@ fn side_of(side: u32) -> Option<Side>
     }
 }
 
+/// The state of these numbers.
 #[inline(always)]
-fn state_of(numbers: &CConversation, opening: InitialPhase) -> ConversationState
+fn state_of(numbers: &CConversation, opening: InitialPhase) -> PipelineState
     ensures { result ≡ spec.state_of numbers.now opening }
 {
-    ConversationState {
-        opening,
-        place: numbers.place,
-        request: numbers.request,
-        after: numbers.after,
-        definitions: numbers.definitions,
-        columns: numbers.columns,
+    PipelineState {
+        current: ConversationState {
+            opening,
+            place: numbers.place,
+            request: numbers.request,
+            after: numbers.after,
+            definitions: numbers.definitions,
+            columns: numbers.columns,
+        },
+        number: numbers.exchange,
+        last: numbers.commands,
+        waiting: numbers.waiting,
     }
 }
 
-/// The conversation of these numbers, where they are of one.
-fn conversation_of(alloc: Global, numbers: &CConversation) -> Option<Conversation>
-    ensures taken { IfSome result (λ c. spec.IsOf numbers.now c) }
-    ensures none { IfNone result (spec.IsNone numbers.now) }
-    ensures state { IsSome result ↔ spec.IsState numbers.now }
+/// Stores the numbers of a state.
+pub(crate) fn keep(state: &PipelineState, numbers: &mut CConversation)
+    ensures opening { spec.opening_of numbers.new.opening ≡ Some state.now.current.opening }
+    ensures state { spec.state_of numbers.new state.now.current.opening ≡ state.now }
+    ensures agreed { spec.agreed_of numbers.new ≡ spec.agreed_of numbers.old }
 {
-    let Some(opening) = opening_of(numbers.opening) else {
-        return None;
-    };
-    Conversation::from_state(alloc, agreed_of(numbers), &state_of(numbers, opening))
+    numbers.opening = number_of(state.current.opening);
+    numbers.place = state.current.place;
+    numbers.request = state.current.request;
+    numbers.after = state.current.after;
+    numbers.definitions = state.current.definitions;
+    numbers.columns = state.current.columns;
+    numbers.exchange = state.number;
+    numbers.commands = state.last;
+    numbers.waiting = state.waiting;
 }
 
-/// Stores the numbers of a conversation's state.
-pub(crate) fn keep(conversation: &Conversation, numbers: &mut CConversation)
-    requires { history.agreed conversation.now ≡ spec.agreed_of numbers.old }
-    ensures taken { (items : List Packet) → history.Taken conversation.now items → spec.Taken numbers.new items }
-    ensures under { spec.IsUnder (history.agreed conversation.now) (Some (history.opening conversation.now)) numbers.new }
-    ensures state { spec.IsState numbers.new }
-{
-    let state = conversation.state();
-    numbers.opening = number_of(state.opening);
-    numbers.place = state.place;
-    numbers.request = state.request;
-    numbers.after = state.after;
-    numbers.definitions = state.definitions;
-    numbers.columns = state.columns;
-}
-
-/// The properties of a packet, by its kind.
+/// The properties of a packet, by its kind, and the number of its exchange.
 #[inline(always)]
-pub(crate) fn put_kind(kind: PacketKind, out: &mut CPacket)
-    ensures { out.new ≡ spec.packet_of kind }
+pub(crate) fn put_packet(kind: PacketKind, exchange: u64, out: &mut CPacket)
+    ensures { out.new ≡ spec.packet_of kind exchange }
 {
     out.kind = kind.name().index();
+    out.exchange = exchange;
     let (columns, params, command, follows) = match kind {
         PacketKind::Command(code) => (0, 0, code, false),
         PacketKind::ColumnCount(count, follow) => (count, 0, 0, follow),
@@ -143,11 +142,10 @@ pub(crate) fn put_kind(kind: PacketKind, out: &mut CPacket)
     out.metadata_follows = u8::from(follows);
 }
 
-/// A conversation of which no packet came, under what both sides agreed on, from after the login (1) or between two commands (2): 0; or 3
-/// for another number, and it is unchanged.
+/// Begins a conversation under the agreed capabilities, after the greeting and the client's response (1) or
+/// between two commands (2). For any other number (3) it is unchanged.
 #[unsafe(no_mangle)]
 pub extern "C" fn myp_begin_conversation(
-    alloc: Global,
     capabilities: u32,
     mariadb_capabilities: u32,
     opening: u8,
@@ -160,27 +158,23 @@ pub extern "C" fn myp_begin_conversation(
     let Some(begins) = opening_of(opening) else {
         return INVALID_INPUT;
     };
-    let agreed = SessionCapabilities {
-        mysql: capabilities_of(capabilities),
-        mariadb: mariadb_of(mariadb_capabilities),
-    };
     out.capabilities = capabilities;
     out.mariadb_capabilities = mariadb_capabilities;
-    keep(&Conversation::new(alloc, agreed, begins), out);
+    keep(&PipelineState::new(begins), out);
     OK
 }
 
-/// The kind of the server's next packet, where it is a row: nothing is changed by it.
+/// Returns the kind of the server's next packet and the number of its exchange, if it is a row; nothing changes.
 #[inline(always)]
-fn row_of(conversation: &CConversation, payload: &[u8]) -> Option<PacketKind>
-    ensures taken { IfSome result (λ kind. (items : List Packet) → spec.Taken conversation.now items → spec.Taken conversation.now (items ++ packet Server payload.now kind ∷ [])) }
+fn row_of(conversation: &CConversation, payload: &[u8]) -> Option<(PacketKind, u64)>
+    ensures taken { IfSome result (λ x. (items : List Numbered) → spec.Taken conversation.now items → spec.Taken conversation.now (items ++ place Server payload.now x.0 x.1 ∷ [])) }
     ensures state { IfSome result (λ _. spec.IsState conversation.now) }
 {
     let opening = opening_of(conversation.opening)?;
     state_of(conversation, opening).row(agreed_of(conversation), payload)
 }
 
-/// Which packet of a conversation comes next.
+/// Classifies the next packet of a conversation.
 #[inline(never)]
 fn next_of_conversation(
     alloc: Global,
@@ -189,30 +183,47 @@ fn next_of_conversation(
     payload: &[u8],
     out: &mut CPacket,
 ) -> u32
+    requires conversation { spec.IsLogin conversation.old → ⊥ }
     ensures taken { result ≡ 0 → spec.Leads conversation.old from payload.now conversation.new out.new }
+    ensures under { result ≡ 0 → spec.IsUnder (spec.agreed_of conversation.old) (spec.opening_of conversation.old.opening) conversation.new }
     ensures stands { result ≡ 0 → spec.IsState conversation.new }
     ensures refused { result ≡ 2 → spec.IsNotNext conversation.old from payload.now }
-    ensures invalid { result ≡ 3 → spec.IsNone conversation.old }
+    ensures full { (result ≡ 10) ↔ spec.IsFull conversation.old from payload.now }
+    ensures comes { result ≡ 10 → spec.IsNext conversation.old from payload.now }
     ensures state { (result ≡ 3) ↔ (spec.IsState conversation.old → ⊥) }
     ensures stays { result ≢ 0 → (conversation.new ≡ conversation.old) × (out.new ≡ out.old) }
-    ensures code { (result ≡ 0) ⊎ ((result ≡ 2) ⊎ (result ≡ 3)) }
+    ensures code { (result ≡ 0) ⊎ ((result ≡ 2) ⊎ ((result ≡ 3) ⊎ (result ≡ 10))) }
 {
-    let Some(mut stands) = conversation_of(alloc, conversation) else {
+    let Some(opening) = opening_of(conversation.opening) else {
         return INVALID_INPUT;
     };
-    match stands.next(from, payload) {
-        Ok(kind) => {
-            keep(&stands, conversation);
-            put_kind(kind, out);
+    let mut state = state_of(conversation, opening);
+    match state.next(alloc, agreed_of(conversation), from, payload) {
+        Ok((kind, exchange)) => {
+            keep(&state, conversation);
+            put_packet(kind, exchange, out);
             OK
         }
-        Err(_) => INVALID_DATA,
+        Err(SessionError::UnexpectedPacket) => {
+            if state.is_valid() {
+                INVALID_DATA
+            } else {
+                INVALID_INPUT
+            }
+        }
+        Err(SessionError::Full) => TOO_MANY_COMMANDS,
+        // (of memory, or of a session)
+        Err(SessionError::Memory | SessionError::Encrypted | SessionError::Compressed) => {
+            INVALID_DATA
+        }
     }
 }
 
-/// Which packet comes next, from the client (0) or the server (1): 0, and what it is; 2 where no packet of this payload goes on with what
-/// was taken; 3 of another side, or numbers that are of nothing begun; or 9 of a login by which both sides agree on compression. After 2, 3
-/// and 9 both are as they were.
+/// Classifies the next packet, from the client (0) or the server (1).
+///
+/// Errors: 2 if no packet with this payload may come next; 3 for another side, or numbers of a state that was
+/// not begun; 9 for a login by which both sides agree on compression; 10 for a command that would have to wait
+/// while eight others do. After an error both structs are unchanged.
 #[unsafe(no_mangle)]
 pub extern "C" fn myp_next_packet(
     alloc: Global,
@@ -221,20 +232,20 @@ pub extern "C" fn myp_next_packet(
     payload: &[u8],
     out: &mut CPacket,
 ) -> u32
-    ensures taken { result ≡ 0 → (spec.IsLogin conversation.old → ⊥) → spec.Goes conversation.old from payload.now conversation.new out.new }
-    ensures login { result ≡ 0 → spec.IsLogin conversation.old → spec.LoginGoes conversation.old from payload.now conversation.new out.new }
+    ensures taken { result ≡ 0 → spec.Goes conversation.old from payload.now conversation.new out.new }
+    ensures under { result ≡ 0 → (spec.IsLogin conversation.old → ⊥) → spec.IsUnder (spec.agreed_of conversation.old) (spec.opening_of conversation.old.opening) conversation.new }
     ensures begun { result ≡ 0 → spec.IsBegun conversation.new }
-    ensures refused { result ≡ 2 → (spec.IsLogin conversation.old → ⊥) → spec.ComesNot conversation.old from payload.now }
-    ensures login_refused { result ≡ 2 → spec.IsLogin conversation.old → spec.LoginComesNot conversation.old from payload.now }
+    ensures refused { result ≡ 2 → spec.ComesNot conversation.old from payload.now }
     ensures compressed { result ≡ 9 → spec.Compresses conversation.old from payload.now }
-    ensures invalid { result ≡ 3 → (2 ≤ from) ⊎ spec.IsNone conversation.old }
+    ensures full { (result ≡ 10) ↔ spec.Fills conversation.old from payload.now }
+    ensures comes { result ≡ 10 → spec.Comes conversation.old from payload.now }
     ensures state { (result ≡ 3) ↔ ((2 ≤ from) ⊎ (spec.IsBegun conversation.old → ⊥)) }
     ensures stays { result ≢ 0 → (conversation.new ≡ conversation.old) × (out.new ≡ out.old) }
-    ensures code { (result ≡ 0) ⊎ ((result ≡ 2) ⊎ ((result ≡ 3) ⊎ (result ≡ 9))) }
+    ensures code { (result ≡ 0) ⊎ ((result ≡ 2) ⊎ ((result ≡ 3) ⊎ ((result ≡ 9) ⊎ (result ≡ 10)))) }
 {
     if from == 1 {
-        if let Some(kind) = row_of(conversation, payload) {
-            put_kind(kind, out);
+        if let Some((kind, exchange)) = row_of(conversation, payload) {
+            put_packet(kind, exchange, out);
             return OK;
         }
     }
@@ -248,31 +259,35 @@ pub extern "C" fn myp_next_packet(
     }
 }
 
-/// Whether the last exchange of a conversation is over, as `myp_is_idle` has it.
-fn conversation_is_idle(alloc: Global, conversation: &CConversation, is_idle: &mut u8) -> u32
-    ensures rests { result ≡ 0 → (items : List Packet) → spec.Taken conversation.now items → (is_idle.new ≡ 1) ↔ spec.IsWhole conversation.now items }
+/// Stores whether every command of a conversation is answered, for `myp_is_idle`.
+fn conversation_is_idle(conversation: &CConversation, is_idle: &mut u8) -> u32
+    requires conversation { spec.IsLogin conversation.now → ⊥ }
+    ensures rests { result ≡ 0 → (items : List Numbered) → spec.Taken conversation.now items → (is_idle.new ≡ 1) ↔ spec.IsWhole conversation.now items }
     ensures is_flag { result ≡ 0 → is_idle.new < 2 }
-    ensures invalid { result ≢ 0 → (result ≡ 3) × spec.IsNone conversation.now × (is_idle.new ≡ is_idle.old) }
+    ensures invalid { result ≢ 0 → (result ≡ 3) × (is_idle.new ≡ is_idle.old) }
     ensures state { (result ≡ 3) ↔ (spec.IsState conversation.now → ⊥) }
 {
-    let Some(stands) = conversation_of(alloc, conversation) else {
+    let Some(opening) = opening_of(conversation.opening) else {
         return INVALID_INPUT;
     };
-    *is_idle = u8::from(stands.is_idle());
+    let state = state_of(conversation, opening);
+    if !state.is_valid() {
+        return INVALID_INPUT;
+    }
+    *is_idle = u8::from(state.is_idle());
     OK
 }
 
-/// Stores whether the last exchange is over: 1 or 0. For numbers of no state (3) the place is unchanged.
+/// Stores whether every command is answered: 1 or 0. For invalid numbers (3) the output is unchanged.
 #[unsafe(no_mangle)]
 pub extern "C" fn myp_is_idle(alloc: Global, conversation: &CConversation, is_idle: &mut u8) -> u32
-    ensures rests { result ≡ 0 → (items : List Packet) → spec.Taken conversation.now items → (is_idle.new ≡ 1) ↔ spec.IsWhole conversation.now items }
-    ensures login { result ≡ 0 → (items : List Numbered) → spec.LoginTaken conversation.now items → (is_idle.new ≡ 1) ↔ IsSession items }
+    ensures rests { result ≡ 0 → (items : List Numbered) → spec.Taken conversation.now items → (is_idle.new ≡ 1) ↔ spec.IsWhole conversation.now items }
     ensures is_flag { result ≡ 0 → is_idle.new < 2 }
-    ensures invalid { result ≢ 0 → (result ≡ 3) × spec.IsNone conversation.now × (is_idle.new ≡ is_idle.old) }
+    ensures invalid { result ≢ 0 → (result ≡ 3) × (is_idle.new ≡ is_idle.old) }
     ensures state { (result ≡ 3) ↔ (spec.IsBegun conversation.now → ⊥) }
 {
     if conversation.opening == LOGIN {
         return login_is_idle(alloc, conversation, is_idle);
     }
-    conversation_is_idle(alloc, conversation, is_idle)
+    conversation_is_idle(conversation, is_idle)
 }

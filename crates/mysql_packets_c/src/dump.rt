@@ -15,7 +15,7 @@ use mysql_wire::Flags;
 use std::alloc::Global;
 use std::borrow::CowSlice;
 
-/// `myp_dump`.
+/// `myp_dump` of the C header.
 #[repr(C)]
 #[derive(Drop)]
 pub struct CDump<'a> {

@@ -20,7 +20,7 @@ use mysql_wire::CapabilityFlags;
 use std::alloc::Global;
 use std::borrow::CowSlice;
 
-/// `myp_error`.
+/// `myp_error` of the C header.
 #[repr(C)]
 #[derive(Drop)]
 pub struct CError<'a> {
@@ -96,11 +96,11 @@ pub extern "C" fn myp_read_error<'a>(
     }
 }
 
-/// The most that three bytes tell.
+/// The maximum progress, in three bytes.
 const MAX_PROGRESS: u32 = 0xff_ffff;
 
-/// Writes `ERR_Packet`. Errors: 5 if the buffer is too small, with the length needed; 3 for an SQL state that has neither five
-/// bytes nor none.
+/// Writes `ERR_Packet`. Errors: 5 if the buffer is too small, with the length needed; 3 for an SQL state whose
+/// length is neither 5 nor 0.
 #[tactic(auto, using(crate::proofs::Codes::codes), unfolding(mysql_replies::specs::ErrPacket::err_packet, mysql_replies::specs::ServerError::server_error, mysql_replies::specs::SqlState::sql_state, mysql_wire::specs::Writing::le_bytes))]
 #[unsafe(no_mangle)]
 pub extern "C" fn myp_write_error(error: &CError<'_>, out: &mut [u8], written: &mut usize) -> u32
@@ -120,7 +120,8 @@ pub extern "C" fn myp_write_error(error: &CError<'_>, out: &mut [u8], written: &
     put_packet(&ErrPacket::Error(error), out, written)
 }
 
-/// Writes a progress report. Errors: 5 if the buffer is too small, with the length needed; 3 for a progress past 16,777,215.
+/// Writes a progress report. Errors: 5 if the buffer is too small, with the length needed; 3 for a progress
+/// above 16,777,215.
 #[unsafe(no_mangle)]
 pub extern "C" fn myp_write_progress(
     report: &CError<'_>,

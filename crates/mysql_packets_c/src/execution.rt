@@ -1,14 +1,13 @@
 //! The execution of a prepared statement.
 #![tactic(auto, using(crate::proofs::Codes::codes, crate::proofs::Executions::executions))]
 
-ghost use Rattle.std.specs.Prelude.{◌≡◌, ◌≢◌, ◌<◌, ◌≤◌, ◌⊎◌, Ok, Err, IfErr, IfOk, IsOk, OnOk, drop, length, take, false, true};
-ghost use Rattle.mysql_prepared.specs.ExecuteParam.{param_of};
-ghost use Rattle.mysql_prepared.specs.Attributes.{attributes_left};
-ghost use Rattle.mysql_prepared.specs.ExecuteHead.{cursor_flags, execute_head};
-ghost use Rattle.mysql_prepared.specs.ExecuteRead.{HasNoParam, RefusesParam};
+ghost use Rattle.std.specs.Prelude.{◌≡◌, ◌≢◌, ◌<◌, ◌≤◌, ◌⊎◌, Ok, Err, IfErr, IfOk, OnOk, length, take, false, true};
+ghost use Rattle.mysql_stmt.specs.ExecuteParam.{param_of};
+ghost use Rattle.mysql_stmt.specs.Attributes.{attributes_left};
+ghost use Rattle.mysql_stmt.specs.ExecuteHead.{cursor_flags, execute_head};
+ghost use Rattle.mysql_stmt.specs.ExecuteRead.{HasNoParam, RefusesParam};
 ghost use Rattle.mysql_packets_c.specs.Code.{ReadsInto};
 ghost use Rattle.mysql_packets_c.specs.Execution as spec;
-ghost use Rattle.mysql_packets_c.specs.Rows.{FillsBoth, FillsPlaces};
 ghost use Rattle.mysql_packets_c.specs.Value.{SetsParam, param_content};
 
 use crate::code::{BUFFER_TOO_SMALL, OK, code_of};
@@ -16,15 +15,16 @@ use crate::flags::capabilities_of;
 use crate::input::read;
 use crate::rows::CColumnType;
 use crate::value::{CValue, put_date_with_offset, put_ref};
-use mysql_prepared::QueryAttributesView;
-use mysql_stmt::{BoundParam, ComStmtExecuteHead, ExecuteParam, ExecuteParamsBytes};
+use mysql_stmt::{
+    BoundParam, ComStmtExecuteHead, ExecuteParam, ExecuteParamsBytes, QueryAttributesView,
+};
 use mysql_values::{ParamType, ValueRef};
 use mysql_wire::{
     CapabilityFlags, ColumnType, ConstValue, Fault, Flags, ParseBuf, StmtExecuteParamFlags,
 };
 use std::alloc::Global;
 
-/// `myp_execution_head`.
+/// `myp_execution_head` of the C header.
 #[repr(C)]
 #[derive(Drop)]
 pub struct CExecutionHead {
@@ -34,7 +34,7 @@ pub struct CExecutionHead {
     pub flags: u8,
 }
 
-/// `myp_bound_param`.
+/// `myp_bound_param` of the C header.
 #[repr(C)]
 #[derive(Clone, Copy, Drop)]
 pub struct CBoundParam {
@@ -43,7 +43,7 @@ pub struct CBoundParam {
     pub is_sent_ahead: u8,
 }
 
-/// `myp_execution`.
+/// `myp_execution` of the C header.
 #[repr(C)]
 #[derive(Drop)]
 pub struct CExecution {
@@ -75,7 +75,7 @@ pub extern "C" fn myp_read_execution_head(
     }
 }
 
-/// The parameter, as the library has it.
+/// Converts a parameter.
 pub(crate) fn bound_of(param: &CBoundParam) -> BoundParam
     ensures value { result ≡ spec.bound_of param.now }
 {
@@ -94,7 +94,7 @@ pub(crate) fn bound_of(param: &CBoundParam) -> BoundParam
     }
 }
 
-/// Stores a parameter in the caller's value. One that was sent ahead is NULL.
+/// Stores a parameter in the caller's value. One that was sent ahead is stored as NULL.
 #[inline(always)]
 pub(crate) fn put_param<'a>(place: &mut CValue<'a>, param: ExecuteParam<'a>)
     ensures content { param_content place.new ≡ spec.content_of (param_of param.entry) }
@@ -118,7 +118,7 @@ pub(crate) fn type_held(param_type: ParamType) -> CColumnType
     }
 }
 
-/// Reads all the parameters into the first places.
+/// Reads all the parameters into the first elements.
 #[tactic(auto, using(crate::proofs::Executions::fills))]
 fn fill_params<'a>(
     sent: &mut ExecuteParamsBytes<'a>,
@@ -143,7 +143,7 @@ fn fill_params<'a>(
     Ok(())
 }
 
-/// The attributes, which follow the parameters: none of these is left.
+/// Returns the attributes, which follow the parameters, none of which is left.
 pub(crate) fn attributes_of<'a>(sent: &ExecuteParamsBytes<'a>) -> QueryAttributesView<'a>
     requires { sent.now.left ≡ 0 }
     ensures { result ≡ attributes_left sent.now.nulls sent.now.place sent.now.types sent.now.values }
@@ -151,8 +151,8 @@ pub(crate) fn attributes_of<'a>(sent: &ExecuteParamsBytes<'a>) -> QueryAttribute
     sent.attributes().unwrap()
 }
 
-/// Reads parameters into the first places, and returns whether types are sent, the number of attributes, and the bytes after
-/// the parameters.
+/// Reads parameters into the first elements, and returns whether types are sent, the number of attributes, and
+/// the bytes after the parameters.
 fn params_into<'a>(
     capabilities: CapabilityFlags,
     head: &ComStmtExecuteHead,
@@ -164,9 +164,7 @@ fn params_into<'a>(
     requires values { length params.now ≤ length values.old }
     requires types { length params.now ≤ length types.old }
     ensures value { spec.TakesParams capabilities (cursor_flags head.now) (spec.bound_list params.now) result (take (length params.now) values.new) (take (length params.now) types.new) buf.entry }
-    ensures places { FillsPlaces (length params.now) (IsOk result) values.old values.new }
-    ensures together { FillsBoth (length params.now) (IsOk result) values.old values.new types.old types.new }
-    ensures other_types { drop (length params.now) types.new ≡ drop (length params.now) types.old }
+    ensures places { spec.FillsGood (spec.good_params capabilities (cursor_flags head.now) (spec.bound_list params.now) buf.entry) values.old values.new types.old types.new }
 {
     let mut sent = ExecuteParamsBytes::new(capabilities, head, params.len(), buf)?;
     let sends_types = sent.sends_types();
@@ -176,7 +174,7 @@ fn params_into<'a>(
     Ok((sends_types, attributes.left(), rest))
 }
 
-/// Reads an execution of these parameters into the first places.
+/// Reads an execution of these parameters into the first elements.
 fn execution_into<'a>(
     buf: &mut ParseBuf<'a>,
     capabilities: CapabilityFlags,
@@ -189,9 +187,7 @@ fn execution_into<'a>(
     requires types { length params.now ≤ length types.old }
     ensures code { result ≢ 4 }
     ensures value { spec.ExecutionInto capabilities buf.old (spec.bound_list params.now) ((execute_head.form tt).reads buf.old) (take (length params.now) values.new) (take (length params.now) types.new) result out.old out.new }
-    ensures places { FillsPlaces (length params.now) (result ≡ 0) values.old values.new }
-    ensures together { FillsBoth (length params.now) (result ≡ 0) values.old values.new types.old types.new }
-    ensures other_types { drop (length params.now) types.new ≡ drop (length params.now) types.old }
+    ensures places { spec.FillsGood (spec.good_execution capabilities (spec.bound_list params.now) ((execute_head.form tt).reads buf.old)) values.old values.new types.old types.new }
 {
     let len = buf.len();
     let head: ComStmtExecuteHead = match buf.parse(()) {
@@ -211,10 +207,10 @@ fn execution_into<'a>(
     }
 }
 
-/// Reads `COM_STMT_EXECUTE` by what both sides can do, into values and types, one of each parameter.
+/// Reads `COM_STMT_EXECUTE`, under the capabilities of both sides, into values and types, one for each parameter.
 ///
-/// Errors: 5 if there are fewer places than parameters; 1 or 2, with the values and types before the faulty one set. Places
-/// after those of the parameters are unchanged.
+/// Errors: 5 if there are fewer elements than parameters; 1 or 2, with the values and types before the faulty
+/// one set. Elements after those of the parameters are unchanged.
 #[unsafe(no_mangle)]
 pub extern "C" fn myp_read_execution<'a>(
     alloc: Global,
@@ -228,9 +224,7 @@ pub extern "C" fn myp_read_execution<'a>(
     ensures no_memory { result ≢ 4 }
     ensures small { (length values.old < length params.now) ⊎ (length types.old < length params.now) → (result ≡ 5) × (values.new ≡ values.old) × (types.new ≡ types.old) × (out.new ≡ out.old) }
     ensures value { length params.now ≤ length values.old → length params.now ≤ length types.old → spec.ExecutionInto (record { 0 = capabilities; 1 = record {} }) packet.now (spec.bound_list params.now) ((execute_head.form tt).reads packet.now) (take (length params.now) values.new) (take (length params.now) types.new) result out.old out.new }
-    ensures places { length params.now ≤ length values.old → length params.now ≤ length types.old → FillsPlaces (length params.now) (result ≡ 0) values.old values.new }
-    ensures together { length params.now ≤ length values.old → length params.now ≤ length types.old → FillsBoth (length params.now) (result ≡ 0) values.old values.new types.old types.new }
-    ensures other_types { length params.now ≤ length values.old → length params.now ≤ length types.old → drop (length params.now) types.new ≡ drop (length params.now) types.old }
+    ensures places { length params.now ≤ length values.old → length params.now ≤ length types.old → spec.FillsGood (spec.good_execution (record { 0 = capabilities; 1 = record {} }) (spec.bound_list params.now) ((execute_head.form tt).reads packet.now)) values.old values.new types.old types.new }
 {
     if values.len() < params.len() || types.len() < params.len() {
         return BUFFER_TOO_SMALL;

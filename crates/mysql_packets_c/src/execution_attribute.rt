@@ -2,8 +2,8 @@
 #![tactic(auto, using(crate::proofs::QueryAttributes::attributes, crate::proofs::Executions::executions))]
 
 ghost use Rattle.std.specs.Prelude.{◌≡◌, IfErr, OnOk, length};
-ghost use Rattle.mysql_prepared.specs.ExecuteHead.{cursor_flags};
-ghost use Rattle.mysql_prepared.specs.ExecuteRead.{RefusesParam};
+ghost use Rattle.mysql_stmt.specs.ExecuteHead.{cursor_flags};
+ghost use Rattle.mysql_stmt.specs.ExecuteRead.{RefusesParam};
 ghost use Rattle.mysql_packets_c.specs.Execution.{KeepsRest, bound_list, last_left};
 ghost use Rattle.mysql_packets_c.specs.ExecutionAttribute as spec;
 ghost use Rattle.mysql_packets_c.specs.QueryAttribute.{AttributeInto, AttributesAre};
@@ -13,12 +13,11 @@ use crate::execution::{CBoundParam, attributes_of, bound_of};
 use crate::flags::capabilities_of;
 use crate::parameter::CParameter;
 use crate::query_attribute::{attribute_at, put_attribute};
-use mysql_prepared::QueryAttributesView;
-use mysql_stmt::{ComStmtExecuteHead, ExecuteParamsBytes};
+use mysql_stmt::{ComStmtExecuteHead, ExecuteParamsBytes, QueryAttributesView};
 use mysql_wire::{CapabilityFlags, Fault, ParseBuf};
 use std::alloc::Global;
 
-/// Reads past all the parameters.
+/// Skips all the parameters.
 fn pass_params(sent: &mut ExecuteParamsBytes<'_>, params: &[CBoundParam]) -> Result<(), Fault>
     requires all { sent.old.left ≡ length params.now }
     ensures rest { KeepsRest (last_left sent.old params.now) (last_left sent.new params.now) }
@@ -31,7 +30,7 @@ fn pass_params(sent: &mut ExecuteParamsBytes<'_>, params: &[CBoundParam]) -> Res
     Ok(())
 }
 
-/// The attributes of an execution of these parameters, which all are good.
+/// Returns the attributes of an execution after these parameters, which must be valid.
 fn attributes_after<'a>(
     capabilities: CapabilityFlags,
     head: &ComStmtExecuteHead,
@@ -47,7 +46,7 @@ fn attributes_after<'a>(
     Ok(attributes)
 }
 
-/// The attributes of an execution that begins here.
+/// Returns the attributes of an execution that begins with these bytes.
 fn execution_attributes<'a>(
     buf: &mut ParseBuf<'a>,
     capabilities: CapabilityFlags,
@@ -59,8 +58,8 @@ fn execution_attributes<'a>(
     attributes_after(capabilities, &head, params, buf.rest())
 }
 
-/// Reads one attribute of `COM_STMT_EXECUTE`, the first being 0; 7 if there are fewer. After another code than 0 the struct is
-/// unchanged.
+/// Reads one attribute of `COM_STMT_EXECUTE`, by its index from 0; returns 7 if there are fewer. The struct is
+/// unchanged unless the code is 0.
 #[unsafe(no_mangle)]
 pub extern "C" fn myp_read_execution_attribute<'a>(
     alloc: Global,

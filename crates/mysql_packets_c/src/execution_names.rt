@@ -1,10 +1,10 @@
 //! The names of an execution's parameters.
-#![tactic(auto, using(crate::proofs::Codes::codes, crate::proofs::Executions::executions))]
+#![tactic(auto, using(crate::proofs::Codes::codes, crate::proofs::Executions::executions, crate::proofs::ExecutionNames::execution_names))]
 
-ghost use Rattle.std.specs.Prelude.{◌≡◌, ◌<◌, ◌≤◌, IfErr, OnOk, drop, length, take};
-ghost use Rattle.mysql_prepared.specs.ExecuteHead.{cursor_flags};
-ghost use Rattle.mysql_prepared.specs.ExecuteRead.{RefusesParam};
-ghost use Rattle.mysql_packets_c.specs.Execution.{bound_list, last_left};
+ghost use Rattle.std.specs.Prelude.{◌≡◌, ◌<◌, ◌≤◌, IfErr, OnOk, length, take};
+ghost use Rattle.mysql_stmt.specs.ExecuteHead.{cursor_flags, execute_head};
+ghost use Rattle.mysql_stmt.specs.ExecuteRead.{RefusesParam};
+ghost use Rattle.mysql_packets_c.specs.Execution.{bound_list, good_execution, good_params, last_left};
 ghost use Rattle.mysql_packets_c.specs.ExecutionNames as spec;
 
 use crate::code::{BUFFER_TOO_SMALL, OK, code_of};
@@ -15,7 +15,7 @@ use mysql_stmt::{ComStmtExecuteHead, ExecuteParamsBytes};
 use mysql_wire::{CapabilityFlags, Fault, ParseBuf};
 use std::alloc::Global;
 
-/// Reads all the parameters, and puts their names into the first places.
+/// Reads all the parameters, and stores their names in the first elements.
 fn fill_names<'a>(
     sent: &mut ExecuteParamsBytes<'a>,
     params: &[CBoundParam],
@@ -36,7 +36,7 @@ fn fill_names<'a>(
     Ok(())
 }
 
-/// Puts the names of the parameters after the head into the first places.
+/// Stores the names of the parameters after the head in the first elements.
 fn names_after<'a>(
     capabilities: CapabilityFlags,
     head: &ComStmtExecuteHead,
@@ -46,7 +46,7 @@ fn names_after<'a>(
 ) -> Result<(), Fault>
     requires { length params.now ≤ length names.old }
     ensures value { spec.NamesAre (spec.names_after capabilities (cursor_flags head.now) (bound_list params.now) buf.entry) result (take (length params.now) names.new) }
-    ensures others { drop (length params.now) names.new ≡ drop (length params.now) names.old }
+    ensures places { spec.FillsGoodNames names.old names.new (good_params capabilities (cursor_flags head.now) (bound_list params.now) buf.entry) }
 {
     let mut sent = ExecuteParamsBytes::new(capabilities, head, params.len(), buf)?;
     fill_names(&mut sent, params, names)?;
@@ -55,7 +55,7 @@ fn names_after<'a>(
     Ok(())
 }
 
-/// Puts the names of the parameters of an execution that begins here into the first places.
+/// Stores the names of the parameters of an execution that begins with these bytes in the first elements.
 fn execution_names<'a>(
     buf: &mut ParseBuf<'a>,
     capabilities: CapabilityFlags,
@@ -64,16 +64,16 @@ fn execution_names<'a>(
 ) -> Result<(), Fault>
     requires { length params.now ≤ length names.old }
     ensures value { spec.NamesAre (spec.names_in capabilities (bound_list params.now) buf.old) result (take (length params.now) names.new) }
-    ensures others { drop (length params.now) names.new ≡ drop (length params.now) names.old }
+    ensures places { spec.FillsGoodNames names.old names.new (good_execution capabilities (bound_list params.now) ((execute_head.form tt).reads buf.old)) }
 {
     let head: ComStmtExecuteHead = buf.parse(())?;
     names_after(capabilities, &head, params, buf.rest(), names)
 }
 
-/// Reads the names of an execution's parameters into the first places: empty where the execution sends none.
+/// Reads the names of an execution's parameters into the first elements; they are empty if the execution sends none.
 ///
-/// Errors: 5 if there are fewer places than parameters, and nothing is changed; 1 or 2, with the names before the faulty
-/// parameter set. Places after those of the parameters are unchanged.
+/// Errors: 5 if there are fewer elements than parameters, and nothing changes; 1 or 2, with the names before
+/// the faulty parameter set. Elements after those of the parameters are unchanged.
 #[unsafe(no_mangle)]
 pub extern "C" fn myp_read_execution_names<'a>(
     alloc: Global,
@@ -84,7 +84,7 @@ pub extern "C" fn myp_read_execution_names<'a>(
 ) -> u32
     ensures small { length names.old < length params.now → (result ≡ 5) × (names.new ≡ names.old) }
     ensures value { length params.now ≤ length names.old → spec.NamesInto (spec.names_in (record { 0 = capabilities; 1 = record {} }) (bound_list params.now) packet.now) result (take (length params.now) names.new) }
-    ensures others { length params.now ≤ length names.old → drop (length params.now) names.new ≡ drop (length params.now) names.old }
+    ensures places { length params.now ≤ length names.old → spec.FillsGoodNames names.old names.new (good_execution (record { 0 = capabilities; 1 = record {} }) (bound_list params.now) ((execute_head.form tt).reads packet.now)) }
 {
     if names.len() < params.len() {
         return BUFFER_TOO_SMALL;

@@ -21,7 +21,7 @@ use std::alloc::Global;
 use std::borrow::CowSlice;
 use std::marker::Model;
 
-/// `myp_field_list_column`.
+/// `myp_field_list_column` of the C header.
 #[repr(C)]
 #[derive(Drop)]
 pub struct CFieldListColumn<'a> {
@@ -53,7 +53,7 @@ pub extern "C" fn myp_read_field_list_column<'a>(
     }
 }
 
-/// A definition whose texts are the caller's. In a clause it is that definition.
+/// A definition with the caller's texts, borrowed. In a clause it is that definition.
 #[derive(Drop)]
 struct SentDefinition<'a> {
     column: SentColumn<'a>,

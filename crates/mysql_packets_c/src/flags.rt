@@ -1,4 +1,4 @@
-//! Flag words of their bits.
+//! Flag words from their bits.
 
 ghost use Rattle.std.specs.Prelude.{◌≡◌};
 
@@ -21,7 +21,7 @@ pub(crate) fn mariadb_of(bits: u32) -> MariadbCapabilities
     MariadbCapabilities::from_bits_retain(bits)
 }
 
-/// The state of a server.
+/// The status flags of a server.
 #[inline(always)]
 pub(crate) fn status_of(bits: u16) -> StatusFlags
     ensures value { result ≡ record { 0 = bits; 1 = record {} } }

@@ -8,7 +8,7 @@ use crate::code::{END, OK};
 use crate::text::CBytes;
 use mysql_frames::next_frame;
 
-/// `myp_frame`.
+/// `myp_frame` of the C header.
 #[repr(C)]
 #[derive(Drop)]
 pub struct CFrame<'a> {
@@ -17,7 +17,7 @@ pub struct CFrame<'a> {
     pub is_last: u8,
 }
 
-/// Takes the next frame off the front. If it is incomplete (7), both places are unchanged.
+/// Takes the next frame off the front. If it is incomplete (7), both outputs are unchanged.
 #[unsafe(no_mangle)]
 pub extern "C" fn myp_next_frame<'a>(rest: &mut CBytes<'a>, out: &mut CFrame<'a>) -> u32
     ensures frame { result ≡ 0 → IsFrame out.new.sequence_id out.new.content.now rest.old.bytes.now rest.new.bytes.now }

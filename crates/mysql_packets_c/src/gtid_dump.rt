@@ -25,7 +25,7 @@ use std::alloc::Global;
 use std::borrow::{CowSlice, CowStr};
 use std::str;
 
-/// `myp_gtid_dump`.
+/// `myp_gtid_dump` of the C header.
 #[repr(C)]
 #[derive(Drop)]
 pub struct CGtidDump<'a> {
@@ -39,7 +39,7 @@ pub struct CGtidDump<'a> {
     pub is_tagged: u8,
 }
 
-/// 1 if the sids are in the form with tags, otherwise 0.
+/// Returns 1 if the sids are in the form with tags, otherwise 0.
 fn as_number(tagged: bool) -> u8
     ensures value { is_set result ≡ tagged }
     ensures flag { result < 2 }
@@ -47,7 +47,7 @@ fn as_number(tagged: bool) -> u8
     if tagged { 1 } else { 0 }
 }
 
-/// Puts the sids of a request into places of the caller's.
+/// Stores the sids of a request in the caller's struct.
 fn put_sids<'a>(found: SidsRef<'a>, out: &mut CGtidDump<'a>)
     ensures value { SidsStand found.entry out.new }
     ensures flag { out.new.is_tagged < 2 }
@@ -82,7 +82,7 @@ pub extern "C" fn myp_read_gtid_dump<'a>(
     }
 }
 
-/// The tag of some bytes; no tag, if there are no bytes; or nothing.
+/// Returns the tag of some bytes, no tag if there are no bytes, or nothing if they are no tag.
 pub(crate) fn tag_in(bytes: &[u8]) -> Option<Option<Tag<'_>>>
     ensures value { result ≡ tag_of bytes.now }
 {
@@ -98,7 +98,7 @@ pub(crate) fn tag_in(bytes: &[u8]) -> Option<Option<Tag<'_>>>
     }
 }
 
-/// The tag of a sid; nothing of bytes that are no tag.
+/// Returns the tag of a sid, or nothing if its bytes are no tag.
 #[tactic(auto, unfolding(crate::specs::Sid::tag_held))]
 pub(crate) fn tag_held<'b>(sid: &'b CSid<'_>) -> Option<Option<Tag<'b>>>
     ensures value { result ≡ spec.tag_held sid.now }
@@ -110,14 +110,14 @@ pub(crate) fn tag_held<'b>(sid: &'b CSid<'_>) -> Option<Option<Tag<'b>>>
     tag_in(&sid.tag[..n])
 }
 
-/// Whether each tag is one, or none.
+/// Whether the tag of each sid is valid or absent.
 pub(crate) fn are_tagged(sids: &[CSid<'_>]) -> bool
     ensures { result ≡ list_all (λ s. is_some (spec.tag_held s)) sids.now }
 {
     sids.iter().all(|sid| tag_held(sid).is_some())
 }
 
-/// The flags, with BINLOG_THROUGH_GTID exactly if there is a sid.
+/// Returns the flags, with BINLOG_THROUGH_GTID set exactly if there is a sid.
 pub(crate) fn through_gtid(bits: u16, some: bool) -> BinlogDumpFlags
     ensures { result.0 ≡ switched 16 some BINLOG_THROUGH_GTID (dump.through_gtid [] bits) }
 {
@@ -135,7 +135,7 @@ fn flags_of(bits: u16, sids: &[CSid<'_>]) -> BinlogDumpFlags
     through_gtid(bits, !sids.is_empty())
 }
 
-/// The request of these fields.
+/// A request with these fields.
 #[derive(Drop)]
 struct WrittenDump<'b, 'a> {
     dump: &'b CGtidDump<'b>,
@@ -163,8 +163,8 @@ impl Parts for WrittenDump<'_, '_> {
     }
 }
 
-/// Writes `COM_BINLOG_DUMP_GTID`. Errors: 5 if the buffer is too small, with the length needed; 4 if the length overflows; 3
-/// for a tag that is none.
+/// Writes `COM_BINLOG_DUMP_GTID`. Errors: 5 if the buffer is too small, with the length needed; 4 if the length
+/// overflows; 3 for an invalid tag.
 #[tactic(auto, using(crate::proofs::Codes::codes, crate::proofs::WrittenSids::held_sids))]
 #[unsafe(no_mangle)]
 pub extern "C" fn myp_write_gtid_dump(

@@ -24,8 +24,8 @@ use mysql_repl::ComBinlogDumpGtidRef;
 use std::alloc::Global;
 use std::str;
 
-/// Writes the text of sids. Errors: 5 if the buffer is too small, with the length needed; 4 if the length overflows; 3 for a
-/// tag that is none.
+/// Writes the text of sids. Errors: 5 if the buffer is too small, with the length needed; 4 if the length
+/// overflows; 3 for an invalid tag.
 #[tactic(auto, using(crate::proofs::WrittenSids::held_sids, crate::proofs::GtidTexts::texts))]
 #[unsafe(no_mangle)]
 pub extern "C" fn myp_sids_to_text(sids: &[CSid<'_>], out: &mut [u8], written: &mut usize) -> u32

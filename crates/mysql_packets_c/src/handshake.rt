@@ -19,7 +19,7 @@ use mysql_wire::{BytesRepr, CapabilityFlags, NullBytes};
 use std::alloc::Global;
 use std::borrow::CowSlice;
 
-/// `myp_handshake`.
+/// `myp_handshake` of the C header.
 #[repr(C)]
 #[derive(Drop)]
 pub struct CHandshake<'a> {
@@ -46,7 +46,7 @@ fn is_greeting(packet: &[u8]) -> bool
     }
 }
 
-/// Reads `Protocol::HandshakeV10`: 0; or 1 or 2, and the struct is unchanged.
+/// Reads `Protocol::HandshakeV10`. After an error (1 or 2) the struct is unchanged.
 #[unsafe(no_mangle)]
 pub extern "C" fn myp_read_handshake<'a>(
     alloc: Global,
@@ -105,7 +105,7 @@ fn sends_name(fields: &CHandshake<'_>) -> bool
     capabilities_of(fields.capabilities).contains(CapabilityFlags::CLIENT_PLUGIN_AUTH)
 }
 
-/// Whether a second scramble of `len` bytes is one.
+/// Whether `len` is a valid length of a second scramble.
 fn scramble_fits(sent: bool, named: bool, len: usize) -> bool
     ensures value { result ≡ spec.scramble_fits sent named len }
 {
@@ -116,7 +116,7 @@ fn scramble_fits(sent: bool, named: bool, len: usize) -> bool
     }
 }
 
-/// Whether a plugin's name is one.
+/// Whether a plugin's name is valid.
 fn name_fits(sent: bool, name: &[u8]) -> bool
     ensures value { result ≡ spec.name_fits sent name.now }
 {
@@ -138,7 +138,7 @@ fn handshake_fits(fields: &CHandshake<'_>) -> bool
         && name_fits(named, fields.auth_plugin_name)
 }
 
-/// The bytes, where they are sent.
+/// Returns the bytes, if they are sent.
 fn if_sent<'a>(sent: bool, bytes: &'a [u8]) -> Option<CowSlice<'a, u8>>
     ensures value { option_map cow_slice_items result ≡ spec.if_sent sent bytes.now }
 {
@@ -149,7 +149,7 @@ fn if_sent<'a>(sent: bool, bytes: &'a [u8]) -> Option<CowSlice<'a, u8>>
     }
 }
 
-/// The handshake of the caller's fields.
+/// Returns the handshake of the caller's fields.
 fn handshake_of<'a>(fields: &CHandshake<'a>) -> HandshakePacket<'a>
     requires { length fields.now.scramble_1.now ≡ 8 }
     ensures value { spec.IsSent fields.now result }

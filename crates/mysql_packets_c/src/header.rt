@@ -13,7 +13,7 @@ use crate::output::put_packet;
 use mysql_wire::{FaultOf, Fixed, LeU24, MyDeserialize, ParseBuf, Parts, RawInt, Sink, parts};
 use std::alloc::Global;
 
-/// The maximum length of a payload; a longer one continues in the next packet.
+/// The maximum length of a payload in one frame; a longer one continues in the next frame.
 const MAX_PAYLOAD_LEN: u32 = 0xff_ffff;
 
 /// The header of a payload: its length, and the sequence number.
@@ -51,7 +51,7 @@ impl Parts for PacketHeader {
     }
 }
 
-/// `myp_header`.
+/// `myp_header` of the C header.
 #[repr(C)]
 #[derive(Drop)]
 pub struct CHeader {

@@ -1,4 +1,4 @@
-//! Packets that are read.
+//! Reading packets.
 
 ghost use Rattle.std.specs.Prelude.{◌≡◌, ◌-◌, length, List, ℕ, Ok, Err, OnErr};
 ghost use Rattle.mysql_packets_c.specs.Input.{ReadsWhole};
@@ -6,7 +6,7 @@ ghost use Rattle.mysql_packets_c.specs.Input.{ReadsWhole};
 use mysql_wire::{FaultOf, MyDeserialize, ParseBuf};
 use std::alloc::Global;
 
-/// Reads a packet, and returns it with the number of its bytes; the rest belongs to no packet.
+/// Reads a packet, and returns it with the number of its bytes; the remaining bytes belong to no packet.
 #[inline(always)]
 pub(crate) fn read<'s, 'a, T: MyDeserialize<'a> + Drop>(
     alloc: Global,

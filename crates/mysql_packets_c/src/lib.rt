@@ -12,6 +12,7 @@ mod auth_switch;
 mod binary_row;
 mod bulk;
 mod bulk_by_row;
+mod bulk_cell;
 mod bulk_cut;
 mod bulk_head;
 mod bulk_row;

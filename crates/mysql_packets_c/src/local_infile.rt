@@ -1,4 +1,4 @@
-//! The request for a file of the client's.
+//! The server's request for a file of the client.
 #![tactic(auto, using(crate::proofs::Codes::codes))]
 
 ghost use Rattle.std.specs.Prelude.{◌≡◌, ◌≢◌};
@@ -15,7 +15,7 @@ use mysql_replies::{LocalInfilePacket, LocalInfilePacketRef};
 use std::alloc::Global;
 use std::borrow::CowSlice;
 
-/// Reads the file's name from a `LOCAL INFILE` request. After an error (1 or 2) the place is unchanged.
+/// Reads the file's name from a `LOCAL INFILE` request. After an error (1 or 2) the output is unchanged.
 #[unsafe(no_mangle)]
 pub extern "C" fn myp_read_local_infile<'a>(
     alloc: Global,

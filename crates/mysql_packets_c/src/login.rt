@@ -26,7 +26,7 @@ use mysql_wire::{CapabilityFlags, MariadbCapabilities, RawInt, parts};
 use std::alloc::Global;
 use std::borrow::CowSlice;
 
-/// `myp_login`.
+/// `myp_login` of the C header.
 #[repr(C)]
 #[derive(Drop)]
 pub struct CLogin<'a> {
@@ -47,7 +47,7 @@ pub struct CLogin<'a> {
     pub zstd_level: u8,
 }
 
-/// Whether it was sent, and its bytes.
+/// Whether a field was sent, and its bytes.
 pub(crate) fn sent<'a>(bytes: Option<&'a [u8]>) -> (u8, &'a [u8])
     ensures value { if_set result.0 result.1.now ≡ option_map (λ s. s.now) bytes.entry }
     ensures says { SaysSent result.0 result.1.now }
@@ -71,7 +71,7 @@ pub(crate) fn sent_attributes<'a>(attributes: Option<ConnectAttributesRef<'a>>) 
     }
 }
 
-/// Whether a level of compression was sent, and the level.
+/// Whether a compression level was sent, and the level.
 fn sent_level(level: Option<u8>) -> (u8, u8)
     ensures { if_set result.0 result.1 ≡ level }
 {
@@ -81,7 +81,7 @@ fn sent_level(level: Option<u8>) -> (u8, u8)
     }
 }
 
-/// The level of compression, where one is there.
+/// The compression level, if there is one.
 fn level_of(login: &CLogin<'_>) -> Option<u8>
     ensures { result ≡ if_set login.now.has_zstd_level login.now.zstd_level }
 {
@@ -135,7 +135,7 @@ pub extern "C" fn myp_read_login<'a>(alloc: Global, packet: &'a [u8], out: &mut 
     }
 }
 
-/// The database, where one is there.
+/// The database, if there is one.
 fn database_of<'a>(login: &CLogin<'a>) -> Option<CowSlice<'a, u8>>
     ensures { option_map cow_slice_items result ≡ if_set login.now.has_database login.now.database.now }
 {
@@ -146,7 +146,7 @@ fn database_of<'a>(login: &CLogin<'a>) -> Option<CowSlice<'a, u8>>
     }
 }
 
-/// The plugin of a name, where one is there.
+/// The plugin of this name, if there is one.
 pub(crate) fn plugin_named<'a>(is_there: u8, name: &'a [u8]) -> Option<AuthPlugin<'a>>
     ensures { result ≡ if_set is_there (plugin_of name.now) }
 {
@@ -157,7 +157,7 @@ pub(crate) fn plugin_named<'a>(is_there: u8, name: &'a [u8]) -> Option<AuthPlugi
     }
 }
 
-/// No attribute, where attributes are sent.
+/// An empty list of attributes, if attributes are sent.
 fn empty_attributes(alloc: Global, is_there: u8) -> Option<IndexMap<String, String>>
     ensures value { option_map (λ texts. map text_pair texts.entries) result ≡ if_set is_there [] }
     ensures none { option_map_or (λ texts. texts.entries) result [] ≡ [] }
@@ -169,7 +169,7 @@ fn empty_attributes(alloc: Global, is_there: u8) -> Option<IndexMap<String, Stri
     }
 }
 
-/// The packet of a login, whose attributes are empty where some are sent.
+/// Returns the packet of a login, with an empty list of attributes if some are sent.
 #[tactic(auto, using(crate::proofs::Codes::codes, crate::proofs::Logins::logins))]
 fn response_of<'a>(alloc: Global, login: &CLogin<'a>) -> HandshakeResponse<'a>
     ensures value { (given : List CAttribute) → IsLogin login.now given (with_attributes login.now given result) }

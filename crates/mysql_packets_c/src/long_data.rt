@@ -2,7 +2,7 @@
 #![tactic(auto, using(crate::proofs::Codes::codes))]
 
 ghost use Rattle.std.specs.Prelude.{◌≡◌, ◌≢◌};
-ghost use Rattle.mysql_prepared.specs.LongData.{long_data};
+ghost use Rattle.mysql_stmt.specs.LongData.{long_data};
 ghost use Rattle.mysql_packets_c.specs.Code.{ReadsInto};
 ghost use Rattle.mysql_packets_c.specs.LongData.{IsLongData, packet_of};
 ghost use Rattle.mysql_packets_c.specs.Output.{Puts};
@@ -14,7 +14,7 @@ use mysql_stmt::{ComStmtSendLongData, ComStmtSendLongDataRef};
 use std::alloc::Global;
 use std::borrow::CowSlice;
 
-/// `myp_long_data`.
+/// `myp_long_data` of the C header.
 #[repr(C)]
 #[derive(Drop)]
 pub struct CLongData<'a> {
@@ -44,7 +44,7 @@ pub extern "C" fn myp_read_long_data<'a>(
 }
 
 /// Writes `COM_STMT_SEND_LONG_DATA`. If the buffer is too small (5), `written` is the length needed.
-#[tactic(auto, using(crate::proofs::Codes::codes), unfolding(mysql_prepared::specs::LongData::long_data, mysql_wire::specs::Writing::le_bytes))]
+#[tactic(auto, using(crate::proofs::Codes::codes), unfolding(mysql_stmt::specs::LongData::long_data, mysql_wire::specs::Writing::le_bytes))]
 #[unsafe(no_mangle)]
 pub extern "C" fn myp_write_long_data(
     part: &CLongData<'_>,

@@ -20,7 +20,7 @@ use mysql_wire::{CapabilityFlags, StatusFlags};
 use std::alloc::Global;
 use std::borrow::CowSlice;
 
-/// `myp_ok`.
+/// `myp_ok` of the C header.
 #[repr(C)]
 #[derive(Drop)]
 pub struct COk<'a> {
@@ -33,7 +33,7 @@ pub struct COk<'a> {
     pub warnings: u16,
 }
 
-/// Puts the fields of a packet into the caller's struct.
+/// Stores the fields of a packet in the caller's struct.
 #[inline(always)]
 fn put_ok<'a>(packet: &OkPacketRef<'a>, used: usize, out: &mut COk<'a>)
     ensures value { HoldsOk packet.now used out.new }
@@ -56,7 +56,7 @@ fn put_ok<'a>(packet: &OkPacketRef<'a>, used: usize, out: &mut COk<'a>)
     out.used = used;
 }
 
-/// The packet that a statement is done with.
+/// Reads the OK packet that doesn't end a result.
 fn read_common<'a>(
     alloc: Global,
     packet: &'a [u8],
@@ -75,7 +75,7 @@ fn read_common<'a>(
     }
 }
 
-/// The packet in place of the old end of a result.
+/// Reads the OK packet that ends a result instead of an EOF packet.
 fn read_terminator<'a>(
     alloc: Global,
     packet: &'a [u8],
@@ -94,7 +94,7 @@ fn read_terminator<'a>(
     }
 }
 
-/// The old end of a result.
+/// Reads the EOF packet that ends a result.
 fn read_old_eof<'a>(
     alloc: Global,
     packet: &'a [u8],
@@ -113,7 +113,7 @@ fn read_old_eof<'a>(
     }
 }
 
-/// The end of a replication stream.
+/// Reads the EOF packet that ends a replication stream.
 fn read_stream_end<'a>(
     alloc: Global,
     packet: &'a [u8],
@@ -136,10 +136,11 @@ fn read_stream_end<'a>(
     }
 }
 
-/// Reads `OK_Packet` or `EOF_Packet` of a kind. After an error, 1 or 2, or 3 for an unknown kind, the struct is unchanged.
+/// Reads `OK_Packet` or `EOF_Packet` of a kind. After an error (1 or 2, or 3 for an unknown kind) the struct is
+/// unchanged.
 ///
-/// The kinds are 0 the end of a statement, 1 the OK packet in place of the old end of a result, 2 that old end, and 3 the end
-/// of a replication stream.
+/// The kinds are 0, the end of a statement; 1, the OK packet that ends a result instead of an EOF packet; 2,
+/// that EOF packet; and 3, the end of a replication stream.
 #[unsafe(no_mangle)]
 pub extern "C" fn myp_read_ok<'a>(
     alloc: Global,
@@ -164,7 +165,7 @@ pub extern "C" fn myp_read_ok<'a>(
     }
 }
 
-/// The packet of the caller's fields.
+/// Returns the packet of the caller's fields.
 fn packet_of<'a>(fields: &COk<'a>) -> OkPacket<'a>
     ensures value { result ≡ ok_of fields.now }
 {
@@ -193,7 +194,7 @@ fn write_kind<T: OkPacketLayout>(
     put_packet(&sent, out, written)
 }
 
-/// Whether the session's changes are given, are written, and the status doesn't have their flag.
+/// Whether session changes are given and would be written, but the status doesn't have their flag.
 fn loses_state(packet: &COk<'_>, kind: u32, capabilities: CapabilityFlags) -> bool
     ensures { result ≡ loses_state kind capabilities.0 packet.now }
 {
@@ -203,8 +204,8 @@ fn loses_state(packet: &COk<'_>, kind: u32, capabilities: CapabilityFlags) -> bo
         && 0 < packet.session_state.len()
 }
 
-/// Writes `OK_Packet` or `EOF_Packet` of a kind. Errors: 5 if the buffer is too small, with the length needed; 4 if the length
-/// overflows; 3 for an unknown kind, or changes of the session without the flag of the status.
+/// Writes `OK_Packet` or `EOF_Packet` of a kind. Errors: 5 if the buffer is too small, with the length needed;
+/// 4 if the length overflows; 3 for an unknown kind, or session changes without their status flag.
 ///
 /// Fields that the kind or the flags don't have aren't written. An empty info and an empty state are absent.
 #[unsafe(no_mangle)]

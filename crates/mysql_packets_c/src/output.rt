@@ -21,7 +21,7 @@ pub(crate) fn put(bytes: &[u8], out: &mut [u8], written: &mut usize) -> u32
 
 /// Writes a packet to the front of a buffer, without memory of its own.
 ///
-/// The code for a length: one that no `usize` holds is 4, since the caller's strings overflow it together.
+/// The code is 4 if the length exceeds `usize`, since the total length of the caller's strings overflows.
 #[inline(always)]
 #[tactic(auto, unfolding(mysql_wire::specs::Writing::saturated))]
 pub(crate) fn put_packet<P: MySerialize>(packet: &P, out: &mut [u8], written: &mut usize) -> u32
@@ -40,8 +40,8 @@ pub(crate) fn put_packet<P: MySerialize>(packet: &P, out: &mut [u8], written: &m
     }
 }
 
-/// Stores the length of a packet, which is written if the buffer has at least this length. `usize::MAX` stands for any greater
-/// length.
+/// Stores the length of a packet, which is written if the buffer is at least that long. `usize::MAX` stands for
+/// any greater length.
 #[inline(always)]
 pub(crate) fn answer_count(count: usize, capacity: usize, written: &mut usize) -> u32
     ensures fits { count < 2 ^ 64 - 1 → count ≤ capacity → result ≡ 0 }

@@ -1,10 +1,10 @@
 //! Parameters of an execution, and attributes of a query or an execution.
-#![tactic(auto, using(mysql_prepared::proofs::SentBytes::plain))]
+#![tactic(auto, using(mysql_stmt::proofs::SentBytes::plain))]
 
 ghost use Rattle.std.specs.List.{list_all};
 ghost use Rattle.std.specs.Prelude.{◌≡◌, ◌≤◌, ◌+◌, ◌++◌, drop, length};
-ghost use Rattle.mysql_prepared.specs.ExecuteParam.{param_of};
-ghost use Rattle.mysql_prepared.specs.SentParam.{bytes_under};
+ghost use Rattle.mysql_stmt.specs.ExecuteParam.{param_of};
+ghost use Rattle.mysql_stmt.specs.SentParam.{bytes_under};
 ghost use Rattle.mysql_packets_c.specs.Parameter as spec;
 
 use crate::bulk::declared_type;
@@ -12,11 +12,11 @@ use crate::flags::capabilities_of;
 use crate::rows::CColumnType;
 use crate::value::{CValue, is_param};
 use bitflags::Flags;
-use mysql_prepared::{AsExecuteParam, ExecuteParam, TypedExecuteParam};
+use mysql_stmt::{AsExecuteParam, ExecuteParam, TypedExecuteParam};
 use mysql_values::{ParamType, ValueRef};
 use mysql_wire::{Buffer, CapabilityFlags, ColumnType, ConstValue};
 
-/// `myp_parameter`: a value with a name, and with a type of the caller's or that of its kind.
+/// `myp_parameter` of the C header: a value with a name, and with a type of the caller's or that of its kind.
 #[repr(C)]
 #[derive(Clone, Copy, Drop)]
 pub struct CParameter<'a> {
@@ -28,7 +28,7 @@ pub struct CParameter<'a> {
     pub is_sent_ahead: u8,
 }
 
-/// The parameter with its type.
+/// Returns the parameter with its type.
 #[inline(always)]
 fn typed<'r>(parameter: &'r CParameter<'_>) -> TypedExecuteParam<'r>
     ensures param { param_of result.param ≡ spec.param_given parameter.now }
@@ -54,7 +54,8 @@ fn append_typed<O: Buffer>(parameter: &CParameter<'_>, as_long_data: bool, out: 
     typed(parameter).append_sent(as_long_data, out);
 }
 
-/// Writes a parameter under its type by a call, with the buffer in a variable of its own: so the caller's stays in registers.
+/// Writes a parameter under its type by a call, with the buffer in a variable of its own, so that the caller's
+/// stays in registers.
 #[inline(always)]
 fn append_apart<O: Buffer>(parameter: &CParameter<'_>, as_long_data: bool, out: &mut O)
     requires { length (O.held out.old) + length (bytes_under as_long_data (spec.named_type parameter.now).param_type (spec.param_given parameter.now)) ≤ O.capacity out.old }
@@ -131,21 +132,21 @@ impl AsExecuteParam for CParameter<'_> {
     }
 }
 
-/// Whether its type is one, if it has a type of the caller's.
+/// Whether the parameter's type is valid, if it has one of the caller's.
 fn has_valid_type(parameter: &CParameter<'_>) -> bool
     ensures { result ≡ spec.has_valid_type parameter.now }
 {
     parameter.has_type == 0 || ColumnType::from_code(parameter.column_type).is_some()
 }
 
-/// Whether it was sent ahead, or its value is one of a parameter; and its type is one.
+/// Whether the parameter was sent ahead or its value is valid, and its type is valid.
 pub(crate) fn is_parameter(parameter: &CParameter<'_>) -> bool
     ensures { result ≡ spec.is_parameter parameter.now }
 {
     (parameter.is_sent_ahead != 0 || is_param(&parameter.value)) && has_valid_type(parameter)
 }
 
-/// Whether each of them is a parameter.
+/// Whether each of them is a valid parameter.
 pub(crate) fn are_parameters(parameters: &[CParameter<'_>]) -> bool
     ensures { result ≡ list_all spec.is_parameter parameters.now }
 {

@@ -17,7 +17,7 @@ use mysql_auth::{PublicKeyRequest, PublicKeyResponse, PublicKeyResponseRef};
 use std::alloc::Global;
 use std::borrow::CowSlice;
 
-/// Reads the server's public key. After an error (1 or 2) the place is unchanged.
+/// Reads the server's public key. After an error (1 or 2) the output is unchanged.
 #[unsafe(no_mangle)]
 pub extern "C" fn myp_read_public_key<'a>(
     alloc: Global,

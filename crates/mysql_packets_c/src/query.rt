@@ -2,7 +2,7 @@
 #![tactic(auto, using(crate::proofs::WrittenExecutions::queries))]
 
 ghost use Rattle.std.specs.Prelude.{◌≡◌, Some, false, true};
-ghost use Rattle.mysql_prepared.specs.ComQuery.{query_bytes};
+ghost use Rattle.mysql_stmt.specs.ComQuery.{query_bytes};
 ghost use Rattle.mysql_packets_c.specs.Output.{PutsUnlessTooLong};
 ghost use Rattle.mysql_packets_c.specs.Parameter.{if_agreed, named_type, param_given};
 ghost use Rattle.mysql_packets_c.specs.Query as spec;
@@ -10,9 +10,9 @@ ghost use Rattle.mysql_packets_c.specs.Query as spec;
 use crate::code::INVALID_INPUT;
 use crate::output::put_packet;
 use crate::parameter::{CParameter, are_agreed, are_parameters};
-use mysql_prepared::ComQuery;
+use mysql_stmt::ComQuery;
 
-/// Writes the query with these attributes, or nothing if the type of one can't encode its value.
+/// Writes the query with these attributes, or nothing if a type can't encode its value.
 fn put_with_attributes(
     text: &[u8],
     attributes: &[CParameter<'_>],

@@ -3,8 +3,8 @@
 
 ghost use Rattle.std.specs.Prelude.{◌≡◌, option_map};
 ghost use Rattle.mysql_commands.specs.Query.{query};
-ghost use Rattle.mysql_prepared.specs.Attributes as prepared;
-ghost use Rattle.mysql_prepared.specs.Attributes.{IsGood, attributes_read};
+ghost use Rattle.mysql_stmt.specs.Attributes as prepared;
+ghost use Rattle.mysql_stmt.specs.Attributes.{IsGood, attributes_read};
 ghost use Rattle.mysql_packets_c.specs.QueryAttribute as spec;
 ghost use Rattle.mysql_packets_c.specs.QueryAttribute.{AttributeInto, IsQueryAttribute};
 
@@ -15,14 +15,14 @@ use crate::input::read;
 use crate::parameter::CParameter;
 use bitflags::Flags;
 use mysql_commands::ComQueryRef;
-use mysql_prepared::{ExecuteParam, QueryAttribute, QueryAttributesView};
+use mysql_stmt::{ExecuteParam, QueryAttribute, QueryAttributesView};
 use mysql_wire::{ConstValue, StmtExecuteParamFlags};
 use std::alloc::Global;
 
 /// The flag under which attributes are sent.
 const CLIENT_QUERY_ATTRIBUTES: u32 = 1 << 27;
 
-/// The next attribute of a query that was read, whose attributes are good.
+/// Returns the next attribute of a query, all of whose attributes are valid.
 fn next_of<'a>(view: &mut QueryAttributesView<'a>) -> Option<QueryAttribute<'a>>
     requires { IsGood view.old }
     ensures value { spec.TakesFirst view.old (option_map prepared.attribute_of result) view.new }
@@ -38,7 +38,7 @@ fn next_of<'a>(view: &mut QueryAttributesView<'a>) -> Option<QueryAttribute<'a>>
     }
 }
 
-/// The attribute at that place, the first being 0.
+/// Returns the attribute at this index, from 0.
 pub(crate) fn attribute_at<'a>(
     mut view: QueryAttributesView<'a>,
     place: usize,
@@ -56,7 +56,7 @@ pub(crate) fn attribute_at<'a>(
     next_of(&mut view)
 }
 
-/// Puts an attribute into a struct of the caller's.
+/// Stores an attribute in a struct of the caller.
 pub(crate) fn put_attribute<'a>(found: &QueryAttribute<'a>, out: &mut CParameter<'a>)
     ensures value { IsQueryAttribute (prepared.attribute_of found.now) out.old out.new }
 {
@@ -69,7 +69,7 @@ pub(crate) fn put_attribute<'a>(found: &QueryAttribute<'a>, out: &mut CParameter
     put_param(&mut out.value, ExecuteParam::sent(found.value));
 }
 
-/// The attribute of a query at that place.
+/// Returns the attribute of a query at this index.
 fn attribute_of<'a>(query: &ComQueryRef<'a>, place: usize) -> Option<QueryAttribute<'a>>
     ensures value { option_map prepared.attribute_of result ≡ spec.at (spec.attributes_of query.now) place }
 {
@@ -79,8 +79,8 @@ fn attribute_of<'a>(query: &ComQueryRef<'a>, place: usize) -> Option<QueryAttrib
     }
 }
 
-/// Reads one attribute of a `COM_QUERY`, the first being 0; 7 if there are fewer. After another code than 0 the struct is
-/// unchanged.
+/// Reads one attribute of a `COM_QUERY`, by its index from 0; returns 7 if there are fewer. The struct is
+/// unchanged unless the code is 0.
 #[unsafe(no_mangle)]
 pub extern "C" fn myp_read_query_attribute<'a>(
     alloc: Global,

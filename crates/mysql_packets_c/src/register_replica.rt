@@ -14,7 +14,7 @@ use mysql_repl::{ComRegisterSlave, ComRegisterSlaveRef};
 use std::alloc::Global;
 use std::borrow::CowSlice;
 
-/// `myp_register_replica`.
+/// `myp_register_replica` of the C header.
 #[repr(C)]
 #[derive(Drop)]
 pub struct CReplica<'a> {
@@ -53,8 +53,8 @@ pub extern "C" fn myp_read_register_replica<'a>(
     }
 }
 
-/// Writes `COM_REGISTER_SLAVE`. If the buffer is too small (5), `written` is the length needed. Of a longer string the first
-/// 255 bytes are written.
+/// Writes `COM_REGISTER_SLAVE`. If the buffer is too small (5), `written` is the length needed. At most the
+/// first 255 bytes of a string are written.
 #[unsafe(no_mangle)]
 pub extern "C" fn myp_write_register_replica(
     replica: &CReplica<'_>,

@@ -3,8 +3,8 @@
 
 ghost use Rattle.std.specs.List.{list_all};
 ghost use Rattle.std.specs.Prelude.{◌≡◌, ◌<◌, ◌≤◌, OnOk, IfErr, take, length, IsFalse, IsTrue};
-ghost use Rattle.mysql_prepared.specs.RowView.{IsDone, RefusesNext, bin_row_of, text_row_of};
-ghost use Rattle.mysql_prepared.specs.TextRow.{text_row_bytes};
+ghost use Rattle.mysql_stmt.specs.RowView.{IsDone, RefusesNext, bin_row_of, text_row_of};
+ghost use Rattle.mysql_stmt.specs.TextRow.{text_row_bytes};
 ghost use Rattle.mysql_packets_c.specs.ColumnType.{type_of, unsigned_of};
 ghost use Rattle.mysql_packets_c.specs.Output.{PutsUnlessTooLong};
 ghost use Rattle.mysql_packets_c.specs.Rows as spec;
@@ -14,12 +14,12 @@ use crate::binary_row::{put_row, row_len};
 use crate::code::{BUFFER_TOO_SMALL, INVALID_INPUT, OK, code_of};
 use crate::output::{answer_count, put_packet};
 use crate::value::{CValue, put_ref};
-use mysql_prepared::{BinaryRowView, ItemForm, Items, TextRowView, TypedColumn};
+use mysql_stmt::{BinaryRowView, ItemForm, Items, TextRowView, TypedColumn};
 use mysql_values::ServerSide;
 use mysql_wire::{Buffer, BytesRepr, ColumnType, ConstValue, Fault, LenEnc, ParseBuf};
 use std::alloc::Global;
 
-/// The column properties that a reader of binary rows needs: `myp_column_type`.
+/// `myp_column_type` of the C header: the properties of a column that a reader of binary rows needs.
 #[repr(C)]
 #[derive(Clone, Copy, Drop)]
 pub struct CColumnType {
@@ -27,7 +27,7 @@ pub struct CColumnType {
     pub is_unsigned: u8,
 }
 
-/// An unknown code is a type without values.
+/// An unknown code is treated as a type without values.
 impl TypedColumn for CColumnType {
     ghost type_of = { type_of };
 
@@ -47,7 +47,7 @@ impl TypedColumn for CColumnType {
     }
 }
 
-/// Reads the values that are left of a row into the first places.
+/// Reads the remaining values of a row into the first elements.
 macro_rules! fill {
     ($row:expr, $values:expr) => {{
         let mut place = 0;
@@ -59,7 +59,7 @@ macro_rules! fill {
     }};
 }
 
-/// Reads the values that are left of a binary row into the first places.
+/// Reads the remaining values of a binary row into the first elements.
 #[inline(always)]
 fn fill_binary<'a>(
     row: &mut BinaryRowView<'a, '_, ServerSide, CColumnType>,
@@ -93,10 +93,10 @@ fn read_binary<'a>(
     Ok(packet.len().saturating_sub(row.rest().len()))
 }
 
-/// Reads `ProtocolBinary::ResultsetRow` into values, one of each column.
+/// Reads `ProtocolBinary::ResultsetRow` into values, one for each column.
 ///
-/// Errors: 5 if there are fewer places than columns, and nothing is changed; 1 or 2, with the values before the faulty one set.
-/// The other places are unchanged.
+/// Errors: 5 if there are fewer elements than columns, and nothing changes; 1 or 2, with the values before the
+/// faulty one set. The other elements are unchanged.
 #[unsafe(no_mangle)]
 pub extern "C" fn myp_read_binary_row<'a>(
     alloc: Global,
@@ -121,7 +121,7 @@ pub extern "C" fn myp_read_binary_row<'a>(
     }
 }
 
-/// Reads the values that are left of a text row into the first places.
+/// Reads the remaining values of a text row into the first elements.
 #[inline(always)]
 fn fill_text<'a>(row: &mut TextRowView<'a>, values: &mut [CValue<'a>]) -> Result<(), Fault>
     requires { row.old.left ≤ length values.old }
@@ -143,8 +143,8 @@ fn read_text<'a>(alloc: Global, packet: &'a [u8], values: &mut [CValue<'a>]) -> 
     Ok(packet.len() - row.rest().len())
 }
 
-/// Reads `ProtocolText::ResultsetRow` into values, one of each column: 0; or 1 or 2, and the values before the faulty one are
-/// set.
+/// Reads `ProtocolText::ResultsetRow` into values, one for each column. After an error (1 or 2) the values
+/// before the faulty one are set.
 #[unsafe(no_mangle)]
 pub extern "C" fn myp_read_text_row<'a>(
     alloc: Global,
@@ -164,7 +164,7 @@ pub extern "C" fn myp_read_text_row<'a>(
     }
 }
 
-/// The first byte of a cell without a value.
+/// The first byte of a NULL cell.
 const NULL_CELL: u8 = 0xfb;
 
 /// Values are written as the cells of a text row.
@@ -172,7 +172,7 @@ const NULL_CELL: u8 = 0xfb;
 struct AsTextCells;
 
 impl ItemForm<CValue<'_>> for AsTextCells {
-    ghost use Rattle.mysql_prepared.specs.TextRow.{text_cell_bytes};
+    ghost use Rattle.mysql_stmt.specs.TextRow.{text_cell_bytes};
     ghost use Rattle.mysql_packets_c.specs.Rows.{cell_of};
 
     ghost item_bytes = { λ _ value. text_cell_bytes (cell_of value) };

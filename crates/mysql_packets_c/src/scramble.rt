@@ -11,7 +11,7 @@ use crate::output::put;
 use sha1::Sha1;
 use sha2::{Digest, Sha256};
 
-/// Mixes bytes with as many others, each pair as one.
+/// XORs bytes with an equal number of others.
 fn mix(first: &[u8], second: &[u8], out: &mut [u8])
     requires len { length second.now ≡ length first.now }
     requires first { out.old ≡ first.now }
@@ -22,7 +22,7 @@ fn mix(first: &[u8], second: &[u8], out: &mut [u8])
     }
 }
 
-/// The digest of the nonce and of what a server keeps of the password.
+/// Returns the digest of the nonce and of the hash that a server keeps of the password.
 fn challenged(nonce: &[u8], once: &[u8; 20]) -> [u8; 20]
     ensures { result ≡ sha1 (nonce.now ++ sha1 once.now) }
 {
@@ -52,7 +52,7 @@ pub extern "C" fn myp_scramble_native(
     put(&answer, out, written)
 }
 
-/// The digest of what a server keeps of the password, and of the nonce.
+/// Returns the digest of the hash that a server keeps of the password, and of the nonce.
 fn challenged_sha2(nonce: &[u8], once: &[u8; 32]) -> [u8; 32]
     ensures { result ≡ sha256 (sha256 once.now ++ nonce.now) }
 {

@@ -16,7 +16,7 @@ use std::alloc::Global;
 use std::borrow::CowSlice;
 use std::marker::Model;
 
-/// `myp_semi_sync_ack`.
+/// `myp_semi_sync_ack` of the C header.
 #[repr(C)]
 #[derive(Drop)]
 pub struct CSemiSyncAck<'a> {
@@ -24,7 +24,7 @@ pub struct CSemiSyncAck<'a> {
     pub position: u64,
 }
 
-/// An acknowledgement whose file's name stays in the packet. In a clause it is that acknowledgement.
+/// An acknowledgement with a borrowed file name. In a clause it is that acknowledgement.
 #[derive(Drop)]
 struct SemiSyncAckRef<'a> {
     position: u64,

@@ -1,21 +1,22 @@
-//! Values of the caller's as parameters that are sent.
+//! The caller's values as parameters that are sent.
 //!
-//! The kind of a value says most of it, so that a value of the library is made once, where its bytes are written. Kinds that most values
-//! have are found by one comparison before the others: a table of all kinds takes seven instructions for each value.
+//! The kind of a value determines most of it, so a value of the library is created only once, where its bytes
+//! are written. The most frequent kinds are found by one comparison before the others: a table of all kinds
+//! takes seven instructions for each value.
 
 ghost use Rattle.std.specs.Prelude.{◌≡◌, ◌≤◌, ◌⊎◌, ◌+◌, ◌++◌, drop, length};
-ghost use Rattle.mysql_prepared.specs.BinaryRow.{bin_in};
-ghost use Rattle.mysql_prepared.specs.ExecuteParam.{param_bytes, value_of};
+ghost use Rattle.mysql_stmt.specs.BinaryRow.{bin_in};
+ghost use Rattle.mysql_stmt.specs.ExecuteParam.{param_bytes, value_of};
 ghost use Rattle.mysql_values.specs.ValueRef.{ref_content};
 ghost use Rattle.mysql_packets_c.specs.Execution as spec;
 ghost use Rattle.mysql_packets_c.specs.Value.{value_content};
 
 use crate::value::{CValue, is_offset_date, is_param, is_value, to_date_with_offset, to_ref};
-use mysql_prepared::{AsExecuteParam, ExecuteParam};
+use mysql_stmt::{AsExecuteParam, ExecuteParam};
 use mysql_values::{ParamType, ValueRef};
 use mysql_wire::{Buffer, ColumnType};
 
-/// The number of eight bytes that a value of one of these kinds is.
+/// Converts a value of one of these kinds to a number of eight bytes.
 #[inline(always)]
 #[tactic(auto, unfolding(crate::specs::Value::value_content))]
 fn number<'a>(value: &CValue<'a>) -> ValueRef<'a>
@@ -29,7 +30,7 @@ fn number<'a>(value: &CValue<'a>) -> ValueRef<'a>
     }
 }
 
-/// The value in a column of a binary row.
+/// Writes a number in a column of a binary row.
 #[inline(always)]
 fn append_number_cell<O: Buffer>(number: ValueRef<'_>, column_type: ColumnType, out: &mut O)
     requires { length (O.held out.old) + length (bin_in column_type (ref_content number)) ≤ O.capacity out.old }
@@ -46,7 +47,7 @@ fn append_number_cell<O: Buffer>(number: ValueRef<'_>, column_type: ColumnType, 
 /// Writes a value of any kind, for which there is capacity.
 // (by a call, so that what writes numbers and strings stays small enough to be in line)
 #[inline(never)]
-#[tactic(auto, using(mysql_prepared::proofs::SentBytes::plain), unfolding(crate::specs::Value::value_content))]
+#[tactic(auto, using(mysql_stmt::proofs::SentBytes::plain), unfolding(crate::specs::Value::value_content))]
 fn append_any<O: Buffer>(value: &CValue<'_>, as_long_data: bool, out: &mut O)
     requires { length (O.held out.old) + length (param_bytes as_long_data (spec.param value.now)) ≤ O.capacity out.old }
     ensures items { O.held out.new ≡ O.held out.old ++ param_bytes as_long_data (spec.param value.now) }
@@ -57,9 +58,10 @@ fn append_any<O: Buffer>(value: &CValue<'_>, as_long_data: bool, out: &mut O)
     value.as_execute_param().append_sent(as_long_data, out);
 }
 
-/// Writes a value of any kind by a call, with the buffer in a variable of its own.
+/// Writes a value of any kind by a call, with the buffer in a variable of its own, so that the caller's stays
+/// in registers.
 #[inline(always)]
-#[tactic(auto, using(mysql_prepared::proofs::SentBytes::plain), unfolding(crate::specs::Value::value_content))]
+#[tactic(auto, using(mysql_stmt::proofs::SentBytes::plain), unfolding(crate::specs::Value::value_content))]
 fn append_apart<O: Buffer>(value: &CValue<'_>, as_long_data: bool, out: &mut O)
     requires { length (O.held out.old) + length (param_bytes as_long_data (spec.param value.now)) ≤ O.capacity out.old }
     ensures items { O.held out.new ≡ O.held out.old ++ param_bytes as_long_data (spec.param value.now) }
@@ -72,7 +74,7 @@ fn append_apart<O: Buffer>(value: &CValue<'_>, as_long_data: bool, out: &mut O)
     *out = taken;
 }
 
-/// The length of a value in a column of a binary row.
+/// Writes a value of any kind in a column of a binary row.
 #[inline(never)]
 #[tactic(auto, unfolding(crate::specs::Value::value_content))]
 fn append_any_cell<O: Buffer>(value: &CValue<'_>, column_type: ColumnType, out: &mut O)
@@ -85,7 +87,7 @@ fn append_any_cell<O: Buffer>(value: &CValue<'_>, column_type: ColumnType, out: 
     value.as_execute_param().append_cell(column_type, out);
 }
 
-#[tactic(auto, using(mysql_prepared::proofs::SentBytes::plain), unfolding(crate::specs::Value::value_content))]
+#[tactic(auto, using(mysql_stmt::proofs::SentBytes::plain), unfolding(crate::specs::Value::value_content))]
 impl AsExecuteParam for CValue<'_> {
     ghost use Rattle.mysql_packets_c.specs.Execution.{own_type, param};
 

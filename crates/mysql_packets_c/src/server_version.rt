@@ -11,7 +11,7 @@ use crate::flags::{capabilities_of, status_of};
 use mysql_auth::HandshakePacket;
 use std::borrow::CowSlice;
 
-/// `myp_server_version`.
+/// `myp_server_version` of the C header.
 #[repr(C)]
 #[derive(Drop)]
 pub struct CServerVersion {
@@ -38,7 +38,7 @@ fn handshake_with<'a>(text: &'a [u8]) -> HandshakePacket<'a>
     )
 }
 
-/// Puts a version into a struct of the caller's.
+/// Stores a version in a struct of the caller.
 fn put_version(found: (u16, u16, u16), out: &mut CServerVersion)
     ensures value { numbers out.new ≡ found }
 {

@@ -1,4 +1,4 @@
-//! The changes of a session, one after another.
+//! The session state changes in an OK packet, one after another.
 #![tactic(auto, using(crate::proofs::Codes::codes, crate::proofs::Changes::changes))]
 
 ghost use Rattle.std.specs.Prelude.{◌≡◌, ◌≢◌, [], IfErr, IfOk, Ok, false, None, Some};
@@ -20,7 +20,7 @@ use mysql_wire::{ConstValue, Fault, ParseBuf, SessionStateType};
 use std::alloc::Global;
 use std::borrow::CowSlice;
 
-/// `myp_change`.
+/// `myp_change` of the C header.
 #[repr(C)]
 #[derive(Drop)]
 pub struct CChange<'a> {
@@ -32,7 +32,7 @@ pub struct CChange<'a> {
     pub is_tracked: u8,
 }
 
-/// The text that a change says, and whether changes are tracked.
+/// Returns the text of a change, and whether changes are tracked.
 #[inline(always)]
 fn text_and_tracked<'a>(change: SessionStateChangeRef<'a>) -> (&'a [u8], u8)
     ensures text { result.0.now ≡ change_text change.entry }
@@ -48,7 +48,7 @@ fn text_and_tracked<'a>(change: SessionStateChangeRef<'a>) -> (&'a [u8], u8)
     }
 }
 
-/// The data, where it is a list of variables.
+/// Returns the data, if it is a list of variables.
 #[inline(always)]
 fn variables_in<'a>(data_type: SessionStateType, content: &'a [u8]) -> &'a [u8]
     ensures value { result.now ≡ variables_of data_type content.now }
@@ -59,7 +59,7 @@ fn variables_in<'a>(data_type: SessionStateType, content: &'a [u8]) -> &'a [u8]
     }
 }
 
-/// The entry that the bytes begin with, its change, and the bytes after it.
+/// Returns the entry at the front of the bytes, its change, and the bytes after it.
 #[inline(always)]
 fn next_entry<'a>(
     alloc: Global,
@@ -74,7 +74,7 @@ fn next_entry<'a>(
     Ok((info, change, buf.eat_all()))
 }
 
-/// Takes the next change off the front; 7 if nothing is left. After another code than 0 both places are unchanged.
+/// Takes the next change off the front; returns 7 if none is left. After any other code, both outputs are unchanged.
 #[unsafe(no_mangle)]
 pub extern "C" fn myp_next_change<'a>(
     alloc: Global,
@@ -102,7 +102,7 @@ pub extern "C" fn myp_next_change<'a>(
     }
 }
 
-/// The variable that the bytes begin with, and the bytes after it.
+/// Returns the variable at the front of the bytes, and the bytes after it.
 #[inline(always)]
 fn next_pair<'a>(alloc: Global, bytes: &'a [u8]) -> Result<(SystemVariableRef<'a>, &'a [u8]), Fault>
     ensures good { IfOk result (λ x. (system_variable.form tt).reads bytes.now ≡ Ok (x.0, x.1.now)) }
@@ -113,7 +113,7 @@ fn next_pair<'a>(alloc: Global, bytes: &'a [u8]) -> Result<(SystemVariableRef<'a
     Ok((variable, buf.eat_all()))
 }
 
-/// Takes the next variable off the front; 7 if nothing is left. After another code than 0 the places are unchanged.
+/// Takes the next variable off the front; returns 7 if none is left. After any other code, the outputs are unchanged.
 #[unsafe(no_mangle)]
 pub extern "C" fn myp_next_variable<'a>(
     alloc: Global,

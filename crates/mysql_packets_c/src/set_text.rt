@@ -1,4 +1,4 @@
-//! The text of a GTID set, as it is written from the caller's structs.
+//! The text of a GTID set, written from the caller's structs.
 #![tactic(auto, using(mysql_wire::proofs::Packets::packets, crate::proofs::SetTexts::parts))]
 
 ghost use Rattle.std.specs.Prelude.{◌≡◌};
@@ -7,7 +7,7 @@ ghost use Rattle.mysql_packets_c.specs.Sid as spec;
 
 use crate::sid::{CInterval, CSid};
 use crate::sid_block::{has_tag, tag_place};
-use mysql_prepared::{ItemForm, Items};
+use mysql_stmt::{ItemForm, Items};
 use mysql_wire::{Buffer, EofBytes, MySerialize, Parts, RawBytes, Sink, parts};
 use std::borrow::CowSlice;
 use uuid::Uuid;

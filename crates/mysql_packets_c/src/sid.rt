@@ -20,7 +20,7 @@ use mysql_wire::ParseBuf;
 use std::alloc::Global;
 use std::str;
 
-/// `myp_sid_places`.
+/// `myp_sid_places` of the C header.
 #[repr(C)]
 #[derive(Drop)]
 pub struct CSidPlaces<'a> {
@@ -30,7 +30,7 @@ pub struct CSidPlaces<'a> {
     pub uuid: [u8; 16],
 }
 
-/// Takes the next interval off the front; 7 if no byte is left. After another code than 0 all places are unchanged.
+/// Takes the next interval off the front; returns 7 if none is left. After any other code, all outputs are unchanged.
 #[unsafe(no_mangle)]
 pub extern "C" fn myp_next_interval<'a>(
     alloc: Global,
@@ -54,7 +54,7 @@ pub extern "C" fn myp_next_interval<'a>(
     OK
 }
 
-/// The bytes of a tag, or none.
+/// The bytes of a tag; empty if there is none.
 #[tactic(auto, using(crate::proofs::SidHeld::tag_places))]
 fn tag_place<'a>(tag: Option<&TagRef<'a>>) -> &'a [u8]
     ensures value { spec.tag_in result.now ≡ option_map (λ t. t.now) tag.entry }
@@ -65,7 +65,7 @@ fn tag_place<'a>(tag: Option<&TagRef<'a>>) -> &'a [u8]
     }
 }
 
-/// Puts a sid into places of the caller's.
+/// Stores a sid in a struct of the caller.
 fn put_places<'a>(found: SidRef<'a>, out: &mut CSidPlaces<'a>)
     ensures value { spec.HoldsPlaces found.entry out.new }
 {
@@ -76,7 +76,7 @@ fn put_places<'a>(found: SidRef<'a>, out: &mut CSidPlaces<'a>)
     out.intervals = intervals.as_bytes();
 }
 
-/// Takes the next sid off the front; 7 if no byte is left. After another code than 0 all places are unchanged.
+/// Takes the next sid off the front; returns 7 if none is left. After any other code, all outputs are unchanged.
 #[unsafe(no_mangle)]
 pub extern "C" fn myp_next_sid<'a>(
     alloc: Global,
@@ -101,7 +101,7 @@ pub extern "C" fn myp_next_sid<'a>(
     }
 }
 
-/// `myp_interval`.
+/// `myp_interval` of the C header.
 #[repr(C)]
 #[derive(Clone, Copy, Drop)]
 pub struct CInterval {
@@ -109,18 +109,18 @@ pub struct CInterval {
     pub end: u64,
 }
 
-/// `myp_sid`.
+/// `myp_sid` of the C header.
 #[repr(C)]
 #[derive(Drop)]
 pub struct CSid<'a> {
     pub intervals: &'a [CInterval],
     pub uuid: [u8; 16],
-    /// The tag is copied into its first `tag_length` bytes, so the struct doesn't depend on the text.
+    /// The tag, copied into the first `tag_length` bytes, so that the struct doesn't depend on the text.
     pub tag: [u8; 32],
     pub tag_length: u8,
 }
 
-/// Puts a tag, or none, into a struct of the caller's.
+/// Stores a tag, or none, in a struct of the caller.
 fn put_tag(tag: &[u8], out: &mut CSid<'_>)
     requires { length tag.now ≤ 32 }
     ensures len { out.new.tag_length ≡ length tag.now }
@@ -134,7 +134,7 @@ fn put_tag(tag: &[u8], out: &mut CSid<'_>)
     out.tag_length = n as u8;
 }
 
-/// Puts the tag of a sid, or none.
+/// Stores the tag of a sid, or none.
 #[tactic(auto, using(crate::proofs::SidHeld::tags_put))]
 fn put_optional_tag(tag: Option<&TagRef<'_>>, out: &mut CSid<'_>)
     ensures value { tag_held out.new ≡ Some (option_map (λ t. t.now) tag.entry) }
@@ -147,7 +147,7 @@ fn put_optional_tag(tag: Option<&TagRef<'_>>, out: &mut CSid<'_>)
     }
 }
 
-/// Puts a sid into a struct of the caller's, except for its intervals, which are put into the first places of the caller's.
+/// Stores a sid in a struct of the caller, and its intervals in the first elements of an array.
 #[tactic(auto, using(crate::proofs::SidsRead::sids_found))]
 fn put_sid(
     found: &SidText<'_>,
@@ -173,8 +173,8 @@ fn put_sid(
     OK
 }
 
-/// Parses the text of a sid, and stores its intervals in the first places. Errors: 2 for an invalid text; 5 if there are too
-/// few places, with their number.
+/// Parses the text of a sid, and stores its intervals in the first elements. Errors: 2 for an invalid text; 5
+/// if there are too few elements, with their number.
 #[tactic(auto, using(crate::proofs::SidsRead::sids_found))]
 #[unsafe(no_mangle)]
 pub extern "C" fn myp_sid_from_text<'a>(

@@ -1,4 +1,4 @@
-//! The sids of a dump, as they are written from the caller's structs.
+//! The sids of a dump, written from the caller's structs.
 #![tactic(auto, using(mysql_wire::proofs::Packets::packets, crate::proofs::WrittenSids::written_sids))]
 
 ghost use Rattle.std.specs.List.{list_any};
@@ -9,8 +9,8 @@ ghost use Rattle.mysql_packets_c.specs.Sid as spec;
 
 use crate::gtid_dump::tag_held;
 use crate::sid::{CInterval, CSid};
-use mysql_prepared::{ItemForm, Items};
 use mysql_repl::GnoInterval;
+use mysql_stmt::{ItemForm, Items};
 use mysql_wire::{
     Buffer, EofBytes, LeU32, LeU64, MySerialize, Parts, RawBytes, RawInt, Sink, VarLen, parts,
 };
@@ -58,7 +58,7 @@ pub(crate) fn has_tag(sid: &CSid<'_>) -> bool
     }
 }
 
-/// A sid that is written in the form with tags or in the other.
+/// A sid that is written in the form with or without tags.
 #[derive(Drop)]
 struct WrittenSid<'b, 'a> {
     tagged: bool,
@@ -90,7 +90,7 @@ impl Parts for WrittenSid<'_, '_> {
     }
 }
 
-/// Sids are written in the form with tags or in the other.
+/// Sids are written in the form with or without tags.
 #[derive(Drop)]
 struct AsSids {
     tagged: bool,
@@ -115,7 +115,7 @@ impl ItemForm<CSid<'_>> for AsSids {
     }
 }
 
-/// The length that is written of `len` bytes: 2^32 - 1 where that is less.
+/// Returns the length that is written for `len` bytes: at most 2^32 - 1.
 pub(crate) fn length_field(len: usize) -> u32
     ensures { result ≡ min len 4294967295 }
 {
@@ -138,12 +138,12 @@ pub(crate) fn head_of(tagged: bool, count: u64) -> RawInt<LeU64>
     }
 }
 
-/// The sids of a dump, as they are written: with tags throughout where some sid has one.
+/// The sids of a dump, as they are written: all in the form with tags if any sid has one.
 #[derive(Drop)]
 pub(crate) struct WrittenSids<'b, 'a>(pub(crate) &'b [CSid<'a>]);
 
 impl WrittenSids<'_, '_> {
-    /// Whether some sid has a tag.
+    /// Whether any sid has a tag.
     fn any_tag(&self) -> bool
         ensures { result ≡ list_any (λ s. is_some (spec.tag_or s)) self.now.0.now }
     {

@@ -1,4 +1,4 @@
-//! The text of a sid, whose intervals are read into the caller's places.
+//! The text of a sid, whose intervals are stored in the caller's array.
 
 ghost use Rattle.std.specs.Prelude.{◌≡◌, ◌≤◌, IfOk, length, option_map, take};
 ghost use Rattle.std.specs.Result.{result_ok};
@@ -16,7 +16,8 @@ pub(crate) struct SidText<'a> {
     pub(crate) count: usize,
 }
 
-/// Stores intervals in the first places, as many as there are, and returns their number, or `None` if one is invalid.
+/// Stores as many intervals as fit in the first elements, and returns the number of all intervals, or `None` if
+/// one is invalid.
 #[tactic(auto, using(crate::proofs::SidsRead::sids_read))]
 pub(crate) fn put_intervals(texts: IntervalTextsRef<'_>, places: &mut [CInterval]) -> Option<usize>
     ensures len { length places.new ≡ length places.old }

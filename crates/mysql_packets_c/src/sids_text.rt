@@ -1,4 +1,4 @@
-//! The text of a GTID set, as it is written from the sids of a packet.
+//! The text of a GTID set, written from the sids of a packet.
 #![tactic(auto, using(mysql_wire::proofs::Packets::packets, crate::proofs::SidsTexts::parts))]
 
 ghost use Rattle.std.specs.Prelude.{◌≡◌};

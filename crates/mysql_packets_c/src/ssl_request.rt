@@ -16,7 +16,7 @@ use mysql_auth::SslRequest;
 use mysql_wire::{CapabilityFlags, MariadbCapabilities};
 use std::alloc::Global;
 
-/// `myp_ssl_request`.
+/// `myp_ssl_request` of the C header.
 #[repr(C)]
 #[derive(Drop)]
 pub struct CSslRequest {

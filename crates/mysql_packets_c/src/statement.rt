@@ -2,9 +2,9 @@
 #![tactic(auto, using(crate::proofs::Codes::codes))]
 
 ghost use Rattle.std.specs.Prelude.{◌≡◌, ◌≢◌, false, true};
-ghost use Rattle.mysql_prepared.specs.StmtWithMetadata.{sends_metadata, stmt_with_metadata};
+ghost use Rattle.mysql_stmt.specs.StmtWithMetadata.{sends_metadata, stmt_with_metadata};
 ghost use Rattle.mysql_packets_c.specs.Code.{ReadsInto};
-ghost use Rattle.mysql_prepared.specs.declared.stmt_with_metadata.StmtPacketWithMetadata.{StmtPacketWithMetadata};
+ghost use Rattle.mysql_stmt.specs.declared.stmt_with_metadata.StmtPacketWithMetadata.{StmtPacketWithMetadata};
 ghost use Rattle.mysql_packets_c.specs.Output.{PutsUnlessTooLong};
 ghost use Rattle.mysql_packets_c.specs.Statement as spec;
 ghost use Rattle.mysql_packets_c.specs.Statement.{IsGivenStatement, IsStatement};
@@ -14,11 +14,11 @@ use crate::flags::capabilities_of;
 use crate::input::read;
 use crate::output::put_packet;
 use bitflags::Flags;
-use mysql_prepared::{StmtPacket, StmtPacketWithMetadata};
+use mysql_stmt::{StmtPacket, StmtPacketWithMetadata};
 use mysql_wire::CapabilityFlags;
 use std::alloc::Global;
 
-/// `myp_statement`.
+/// `myp_statement` of the C header.
 #[repr(C)]
 #[derive(Drop)]
 pub struct CStatement {
@@ -30,7 +30,7 @@ pub struct CStatement {
     pub used: usize,
 }
 
-/// Reads `COM_STMT_PREPARE_OK`, by the capabilities agreed on: 0; or 1 or 2, and the struct is unchanged.
+/// Reads `COM_STMT_PREPARE_OK`, under the agreed capabilities. After an error (1 or 2) the struct is unchanged.
 #[unsafe(no_mangle)]
 pub extern "C" fn myp_read_statement(
     alloc: Global,
@@ -56,21 +56,21 @@ pub extern "C" fn myp_read_statement(
     }
 }
 
-/// Whether a byte says if definitions follow.
+/// Whether the metadata byte is sent.
 fn sends_metadata(capabilities: CapabilityFlags) -> bool
     ensures value { result ≡ sends_metadata capabilities }
 {
     capabilities.contains(CapabilityFlags::CLIENT_OPTIONAL_RESULTSET_METADATA)
 }
 
-/// Whether definitions follow, or a byte can say that none do.
+/// Whether definitions follow, or the metadata byte can say that none do.
 fn is_sayable(capabilities: CapabilityFlags, statement: &CStatement) -> bool
     ensures value { result ≡ spec.is_sayable capabilities statement.now }
 {
     sends_metadata(capabilities) || statement.metadata_follows != 0
 }
 
-/// The byte that says whether definitions follow, if there is one.
+/// The metadata byte, if it is sent.
 fn byte_of(capabilities: CapabilityFlags, follows: u8) -> Option<u8>
     ensures value { result ≡ spec.byte_of capabilities follows }
 {
@@ -81,9 +81,9 @@ fn byte_of(capabilities: CapabilityFlags, follows: u8) -> Option<u8>
     }
 }
 
-/// Writes `COM_STMT_PREPARE_OK`, under the agreed capabilities. Errors: 5 if the buffer is too small, with the length needed; 3
-/// if no definitions follow and no byte says so.
-#[tactic(auto, using(crate::proofs::Codes::codes), unfolding(mysql_prepared::specs::Stmt::stmt, mysql_prepared::specs::StmtWithMetadata::stmt_with_metadata, mysql_wire::specs::Writing::le_bytes))]
+/// Writes `COM_STMT_PREPARE_OK`, under the agreed capabilities. Errors: 5 if the buffer is too small, with the
+/// length needed; 3 if no definitions follow and the flags have no byte to say so.
+#[tactic(auto, using(crate::proofs::Codes::codes), unfolding(mysql_stmt::specs::Stmt::stmt, mysql_stmt::specs::StmtWithMetadata::stmt_with_metadata, mysql_wire::specs::Writing::le_bytes))]
 #[unsafe(no_mangle)]
 pub extern "C" fn myp_write_statement(
     statement: &CStatement,

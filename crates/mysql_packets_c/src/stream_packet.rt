@@ -28,12 +28,12 @@ use std::marker::Model;
 
 /// An event of the log.
 const EVENT: u8 = 0;
-/// The stream is at its end.
+/// The end of the stream.
 const END: u8 = 1;
-/// The stream breaks off.
+/// The stream is aborted.
 const ERROR: u8 = 2;
 
-/// `myp_stream_packet`.
+/// `myp_stream_packet` of the C header.
 #[repr(C)]
 #[derive(Drop)]
 pub struct CStreamPacket<'a> {
@@ -77,7 +77,7 @@ impl<'de> MyDeserialize<'de> for SemiSyncFlags {
     ghost size_is = { λ _. unfold semi_sync_header in size-block 2 (semi_sync_header_fields.form tt) };
 }
 
-/// The header of semi-synchronous replication, where it is agreed on.
+/// Reads the header of semi-synchronous replication, if that is agreed on.
 #[tactic(auto, using(mysql_wire::proofs::Packets::packets), unfolding(mysql_repl::specs::BinlogStreamEvent::agreed_header))]
 fn read_semi_sync<'s>(
     agreed: bool,
@@ -91,10 +91,10 @@ fn read_semi_sync<'s>(
     Ok(Some(buf.parse(())?))
 }
 
-/// The position of a packet's bytes.
+/// The bytes of a packet, borrowed.
 #[derive(Drop)]
 enum StreamPlaces<'a> {
-    /// An event, after the header of semi-synchronous replication, where that is agreed on.
+    /// An event, after the header of semi-synchronous replication if that is agreed on.
     Event(Option<SemiSyncFlags>, &'a [u8]),
     /// The payload of an end.
     End(&'a [u8]),
@@ -102,7 +102,7 @@ enum StreamPlaces<'a> {
     Error(&'a [u8]),
 }
 
-/// A packet of a stream whose bytes stay where they are. In a clause it is that packet.
+/// A borrowed packet of a stream. In a clause it is that packet.
 #[derive(Drop)]
 struct StreamPacketRef<'a> {
     places: StreamPlaces<'a>,
@@ -147,7 +147,7 @@ impl<'de> MyDeserialize<'de> for StreamPacketRef<'de> {
     ghost size_is = { stream.size-stream_packet };
 }
 
-/// 1 if the lowest bit of the flags asks for an acknowledgement, otherwise 0.
+/// Returns 1 if the lowest bit of the flags requests an acknowledgement, otherwise 0.
 fn wanted(header: Option<SemiSyncFlags>) -> u8
     ensures value { result ≡ spec.wanted header }
 {
@@ -157,7 +157,7 @@ fn wanted(header: Option<SemiSyncFlags>) -> u8
     }
 }
 
-/// Puts a packet of a stream into a struct of the caller's.
+/// Stores a packet of a stream in a struct of the caller.
 fn put_places<'a>(found: StreamPacketRef<'a>, out: &mut CStreamPacket<'a>)
     ensures value { IsStreamPacket found.entry [] out.new }
 {
@@ -190,7 +190,7 @@ pub extern "C" fn myp_read_stream_packet<'a>(
     }
 }
 
-/// The event of the caller's fields.
+/// Returns the event of the caller's fields.
 fn event_of<'a>(is_semi_sync: bool, fields: &CStreamPacket<'a>) -> BinlogStreamPacket<'a>
     ensures value { result ≡ spec.event_given is_semi_sync fields.now }
 {
@@ -202,7 +202,7 @@ fn event_of<'a>(is_semi_sync: bool, fields: &CStreamPacket<'a>) -> BinlogStreamP
     }
 }
 
-/// The packet of the caller's fields, where they are of one.
+/// Returns the packet of the caller's fields, if they are valid.
 fn packet_of<'a>(is_semi_sync: bool, fields: &CStreamPacket<'a>) -> Option<BinlogStreamPacket<'a>>
     ensures value { result ≡ spec.packet_given is_semi_sync fields.now }
 {

@@ -16,7 +16,7 @@ use std::alloc::Global;
 use std::borrow::CowSlice;
 use std::marker::Model;
 
-/// `myp_table_dump`.
+/// `myp_table_dump` of the C header.
 #[repr(C)]
 #[derive(Drop)]
 pub struct CTableDump<'a> {
@@ -25,7 +25,7 @@ pub struct CTableDump<'a> {
     pub used: usize,
 }
 
-/// A request whose names stay in the packet. In a clause it is that request.
+/// A request with borrowed names. In a clause it is that request.
 #[derive(Drop)]
 struct TableDumpRef<'a> {
     database: &'a [u8],
@@ -83,8 +83,8 @@ pub extern "C" fn myp_read_table_dump<'a>(
     }
 }
 
-/// Writes `COM_TABLE_DUMP`. Errors: 5 if the buffer is too small, with the length needed; 4 if the length overflows. Of a
-/// longer name the first 255 bytes are written.
+/// Writes `COM_TABLE_DUMP`. Errors: 5 if the buffer is too small, with the length needed; 4 if the length
+/// overflows. At most the first 255 bytes of a name are written.
 #[unsafe(no_mangle)]
 pub extern "C" fn myp_write_table_dump(
     dump: &CTableDump<'_>,

@@ -1,6 +1,6 @@
-//! A byte string, as C has it.
+//! Byte strings in C.
 
-/// `myp_bytes`.
+/// `myp_bytes` of the C header.
 #[repr(C)]
 #[derive(Drop)]
 pub struct CBytes<'a> {

@@ -11,30 +11,30 @@ ghost use Rattle.mysql_packets_c.specs.TextDump.{Adds, IsLayout};
 use crate::gtid_dump::{CGtidDump, through_gtid};
 use crate::set_text::words;
 use crate::sid_block::{head_of, length_field};
-use mysql_prepared::{ItemForm, Items};
 use mysql_repl::{
     BinlogDumpFlags, ComBinlogDumpGtidHeader, GtidSetEntries, GtidSetEntry, GtidSetSid, InvalidSid,
     TagText,
 };
+use mysql_stmt::{ItemForm, Items};
 use mysql_wire::{
     Buffer, Const, EofBytes, LeU16, LeU32, LeU64, MySerialize, Parts, RawBytes, RawInt, Sink,
     U32Bytes, VarLen, parts,
 };
 use std::borrow::CowSlice;
 
-/// How the sids of a text are written.
+/// The layout of a text's sids in a packet.
 #[derive(Clone, Copy, Drop)]
 pub(crate) struct Layout {
-    /// Whether there is a sid.
+    /// Whether there is any sid.
     some: bool,
-    /// Whether some sid has a tag.
+    /// Whether any sid has a tag.
     tagged: bool,
     /// The number of sids, modulo 2^64: a head has fewer bits for it.
     count: u64,
 }
 
 impl Layout {
-    /// The same with what comes next.
+    /// Returns the layout with one more entry.
     #[tactic(auto, using(crate::proofs::TextLayouts::adds))]
     fn with(self, entry: &GtidSetEntry<'_>) -> Layout
         ensures value { Adds self entry.now result }
@@ -207,7 +207,7 @@ impl MySerialize for TextSids<'_> {
     }
 }
 
-/// The sids of a text, as a dump has them.
+/// The block of a text's sids in a dump.
 #[derive(Drop)]
 struct TextBlock<'a> {
     layout: Layout,

@@ -28,7 +28,7 @@ fn are_digits(text: &[u8]) -> bool
     text.iter().all(|byte| byte.is_ascii_digit())
 }
 
-/// Whether it is one digit or more.
+/// Whether the text is one or more digits.
 fn is_numeral(text: &[u8]) -> bool
     ensures { result ≡ spec.is_numeral text.now }
 {
@@ -38,7 +38,7 @@ fn is_numeral(text: &[u8]) -> bool
     }
 }
 
-/// Whether it is digits, after a sign or none.
+/// Whether the text is digits, after an optional sign.
 fn is_integer(text: &[u8]) -> bool
     ensures { result ≡ spec.is_integer text.now }
 {
@@ -51,7 +51,7 @@ fn has_digit(text: &[u8]) -> bool
     text.iter().any(|byte| byte.is_ascii_digit())
 }
 
-/// The code of a text that is no number of a type.
+/// Returns the code for a text that is not a number of a type.
 fn code_of_integer(text: &[u8]) -> u32
     ensures { result ≡ spec.integer_code text.now }
 {
@@ -62,7 +62,8 @@ fn code_of_integer(text: &[u8]) -> u32
     }
 }
 
-/// The integer that a text is, of 64 bits: 0; 8 of another integer; or 2, and the place is unchanged after both.
+/// Parses a text as a signed integer of 64 bits. Errors: 8 for an integer out of range; 2 for another text.
+/// After an error the output is unchanged.
 #[unsafe(no_mangle)]
 pub extern "C" fn myp_text_to_int(text: &[u8], out: &mut i64) -> u32
     ensures value { spec.Converts (IsNumeral 10 (without_leading_sign text.now) × FitsSigned w64 (signed_digits_value 10 text.now)) (signed_digits_value 10 text.now) (spec.integer_code text.now) result out.old out.new }
@@ -76,7 +77,8 @@ pub extern "C" fn myp_text_to_int(text: &[u8], out: &mut i64) -> u32
     }
 }
 
-/// The same without a minus.
+/// Parses a text as an unsigned integer of 64 bits, with an optional plus. Errors: 8 for an integer out of
+/// range; 2 for another text. After an error the output is unchanged.
 #[unsafe(no_mangle)]
 pub extern "C" fn myp_text_to_uint(text: &[u8], out: &mut u64) -> u32
     ensures value { spec.Converts (IsNumeral 10 (without_leading_plus text.now) × (digits_value 10 (without_leading_plus text.now) < 2 ^ 64)) (digits_value 10 (without_leading_plus text.now)) (spec.integer_code text.now) result out.old out.new }
@@ -90,8 +92,8 @@ pub extern "C" fn myp_text_to_uint(text: &[u8], out: &mut u64) -> u32
     }
 }
 
-/// The float that is nearest to the number that a text is: 0; 8 of a number beyond all floats; or 2, and the place is unchanged after
-/// both.
+/// Parses a text as a number, and stores the nearest float. Errors: 8 for a number beyond the range of floats;
+/// 2 for another text. After an error the output is unchanged.
 #[unsafe(no_mangle)]
 pub extern "C" fn myp_text_to_double(text: &[u8], out: &mut f64) -> u32
     ensures value { spec.ConvertsFloat (parse_float binary64 text.now) (spec.has_digit text.now) result out.old out.new }

@@ -1,4 +1,4 @@
-//! Values as C has them.
+//! Values in C.
 #![tactic(auto, unfolding(crate::specs::Value::value_content, crate::specs::Value::param_content))]
 
 ghost use Rattle.std.specs.Int.{w64, cast_signed};
@@ -10,12 +10,13 @@ ghost use Rattle.mysql_packets_c.specs.Value.{KeepsDate, Sets, SetsParam, date_w
 
 use mysql_values::{DateTimeWithOffset, ValueRef};
 
-/// A value of a row or of a parameter: `myp_value` in C.
+/// A value of a row or of a parameter: `myp_value` of the C header.
 #[repr(C)]
 #[derive(Clone, Copy, Drop)]
 pub struct CValue<'a> {
-    /// 0 NULL, 1 bytes, 2 a signed and 3 an unsigned number, 4 and 5 the bits of floats of 4 and 8 bytes, 6 a date, 7 a
-    /// span of time, 8 a date with an offset from UTC, which parameters and attributes alone have.
+    /// The kind: 0 NULL, 1 bytes, 2 a signed and 3 an unsigned number, 4 and 5 the bits of floats of 4 and 8
+    /// bytes, 6 a date, 7 a time span, 8 a date with an offset from UTC, which only parameters and attributes
+    /// have.
     pub kind: u8,
     pub is_negative: u8,
     pub month: u8,
@@ -25,7 +26,7 @@ pub struct CValue<'a> {
     pub second: u8,
     pub reserved: u8,
     pub micros: u32,
-    /// The year of a date, or the days of a span of time.
+    /// The year of a date, or the days of a time span.
     pub days: u32,
     pub number: u64,
     pub bytes: &'a [u8],
@@ -44,7 +45,7 @@ fn put_number(place: &mut CValue<'_>, kind: u8, number: u64)
     place.bytes = &[];
 }
 
-/// Puts a value into one of the caller's. The fields of dates are set for dates and spans of time alone.
+/// Stores a value in one of the caller. The fields of dates are only set for dates and time spans.
 #[inline(always)]
 pub(crate) fn put_ref<'a>(place: &mut CValue<'a>, value: ValueRef<'a>)
     ensures content { value_content place.new ≡ ref_content value.entry }
@@ -86,7 +87,7 @@ pub(crate) fn put_ref<'a>(place: &mut CValue<'a>, value: ValueRef<'a>)
     }
 }
 
-/// Puts a date with its offset from UTC into a value of the caller's: the offset is the number, in minutes.
+/// Stores a date with an offset from UTC in a value of the caller: the offset is the number, in minutes.
 pub(crate) fn put_date_with_offset(place: &mut CValue<'_>, date: DateTimeWithOffset)
     ensures content { param_content place.new ≡ WithOffset date }
     ensures set { SetsParam (WithOffset date) place.old place.new }
@@ -107,7 +108,7 @@ pub(crate) fn put_date_with_offset(place: &mut CValue<'_>, date: DateTimeWithOff
     place.number = i64::from(date.offset_minutes).cast_unsigned();
 }
 
-/// Converts the caller's value. `None` if it is invalid: its kind is unknown, or its number doesn't fit its kind.
+/// Converts the caller's value; `None` if it is invalid: its kind is unknown, or its number doesn't fit its kind.
 #[inline(always)]
 pub(crate) fn to_ref<'a>(value: &CValue<'a>) -> Option<ValueRef<'a>>
     ensures value { IfSome result (λ v. ref_content v ≡ value_content value.now) }
@@ -141,7 +142,7 @@ pub(crate) fn to_ref<'a>(value: &CValue<'a>) -> Option<ValueRef<'a>>
     }
 }
 
-/// Whether it is a value: its kind is one, and its number fits the kind.
+/// Whether the value is valid: its kind is known, and its number fits the kind.
 pub(crate) fn is_value(value: &CValue<'_>) -> bool
     ensures { result ≡ is_value value.now }
 {
@@ -156,14 +157,14 @@ pub(crate) fn is_value(value: &CValue<'_>) -> bool
     }
 }
 
-/// Whether the number is an offset: 16 bits hold it, in two's complement.
+/// Whether the number is an offset: it fits 16 bits, in two's complement.
 fn is_offset(number: u64) -> bool
     ensures { result ≡ is_offset number }
 {
     number < 1 << 15 || number >= u64::MAX - 0x7fff
 }
 
-/// The offset that the number is, where it is one.
+/// Returns the offset in the number, if it is one.
 #[tactic(auto, using(crate::proofs::Offsets::offsets))]
 fn offset_of(number: u64) -> Option<i16>
     ensures value { IfSome result (λ offset. offset ≡ cast_signed w64 number) }
@@ -172,15 +173,15 @@ fn offset_of(number: u64) -> Option<i16>
     i16::try_from(number.cast_signed()).ok()
 }
 
-/// Whether it is a date with an offset, whose year and offset fit 16 bits.
+/// Whether the value is a date with an offset, whose year and offset fit 16 bits.
 pub(crate) fn is_offset_date(value: &CValue<'_>) -> bool
     ensures { result ≡ is_offset_date value.now }
 {
     value.kind == 8 && value.days < 1 << 16 && is_offset(value.number)
 }
 
-/// Converts the caller's date with an offset. `None` if it is invalid: its kind is another one, or its year or its offset
-/// doesn't fit in 16 bits.
+/// Converts the caller's date with an offset; `None` if it is invalid: its kind is another one, or its year or
+/// its offset doesn't fit in 16 bits.
 pub(crate) fn to_date_with_offset(value: &CValue<'_>) -> Option<DateTimeWithOffset>
     ensures value { IfSome result (λ date. date ≡ date_with_offset_of value.now) }
     ensures is_there { is_some result ≡ is_offset_date value.now }
@@ -200,7 +201,7 @@ pub(crate) fn to_date_with_offset(value: &CValue<'_>) -> Option<DateTimeWithOffs
     })
 }
 
-/// Whether a parameter or an attribute may have it: it is a value, or a date with an offset.
+/// Whether the value is valid for a parameter or an attribute: a value, or a date with an offset.
 #[inline(always)]
 pub(crate) fn is_param(value: &CValue<'_>) -> bool
     ensures { result ≡ is_param value.now }
@@ -208,7 +209,7 @@ pub(crate) fn is_param(value: &CValue<'_>) -> bool
     is_value(value) || is_offset_date(value)
 }
 
-/// Whether parameters may have each of them.
+/// Whether all values are valid for parameters.
 #[inline(always)]
 pub(crate) fn are_params(values: &[CValue<'_>]) -> bool
     ensures { result ≡ list_all is_param values.now }
@@ -216,7 +217,7 @@ pub(crate) fn are_params(values: &[CValue<'_>]) -> bool
     values.iter().all(|value| is_param(value))
 }
 
-/// Whether each of them is a value.
+/// Whether all values are valid.
 #[inline(always)]
 pub(crate) fn are_values(values: &[CValue<'_>]) -> bool
     ensures { result ≡ list_all is_value values.now }

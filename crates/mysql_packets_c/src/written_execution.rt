@@ -1,14 +1,14 @@
-//! Executions that are written.
+//! Writing executions.
 #![tactic(auto, using(crate::proofs::WrittenExecutions::written_executions))]
 
 ghost use Rattle.std.specs.Option.{option_copied};
 ghost use Rattle.std.specs.Prelude.{◌≡◌, ◌≤◌, ◌-◌, ◌^◌, ◌&&◌, None, false, length, true};
-ghost use Rattle.mysql_prepared.specs.Execution.{execution_bytes};
+ghost use Rattle.mysql_stmt.specs.Execution.{execution_bytes};
 ghost use Rattle.mysql_wire.specs.Writing.{saturated};
 ghost use Rattle.mysql_packets_c.specs.CheckedParams.{may_send};
 ghost use Rattle.mysql_packets_c.specs.CheckedExecution.{plain_of};
 ghost use Rattle.mysql_packets_c.specs.Output.{PutsUnlessTooLong};
-ghost use Rattle.mysql_prepared.specs.ExecuteWithOptions as library;
+ghost use Rattle.mysql_stmt.specs.ExecuteWithOptions as library;
 ghost use Rattle.mysql_packets_c.specs.Parameter.{are_parameters, if_agreed, named_type, param_given, sent};
 ghost use Rattle.mysql_packets_c.specs.WrittenExecution as spec;
 ghost use Rattle.mysql_packets_c.specs.WrittenExecution.{IsRefused, PutsExecution};
@@ -19,10 +19,10 @@ use crate::code::{BUFFER_TOO_SMALL, INVALID_INPUT, OK};
 use crate::output::answer_count;
 use crate::parameter::{CParameter, are_agreed, are_parameters};
 use bitflags::Flags;
-use mysql_prepared::{ComStmtExecuteHead, ComStmtExecuteOptionsBuilder};
+use mysql_stmt::{ComStmtExecuteHead, ComStmtExecuteOptionsBuilder};
 use mysql_wire::{CursorType, MySerialize};
 
-/// `myp_execution_options`: all zero without a cursor, and with types.
+/// `myp_execution_options` of the C header: all zero means no cursor, and types are sent.
 #[repr(C)]
 #[derive(Drop)]
 pub struct CExecutionOptions {
@@ -31,7 +31,7 @@ pub struct CExecutionOptions {
     pub omits_types: u8,
 }
 
-/// The flags that are sent: a count of parameters follows under CLIENT_QUERY_ATTRIBUTES.
+/// Returns the flags that are sent: under CLIENT_QUERY_ATTRIBUTES they say that a parameter count follows.
 fn flags_sent(capabilities: u32, flags: u8) -> CursorType
     ensures value { result.0 ≡ spec.flags_sent capabilities flags }
 {
@@ -57,14 +57,14 @@ fn if_agreed<'r, 'a>(
     }
 }
 
-/// The iteration count that is sent: 1 where none is given.
+/// Returns the iteration count that is sent: 1 if none is given.
 fn iterations_sent(count: u32) -> u32
     ensures { result ≡ spec.iterations_sent count }
 {
     if count == 0 { 1 } else { count }
 }
 
-/// Writes the execution that the builder makes of these parameters, or nothing if a type can't encode its value.
+/// Writes the execution that the builder builds of these parameters, or nothing if a type can't encode its value.
 #[inline(never)]
 #[tactic(auto, using(crate::proofs::WrittenExecutions::written_executions), unfolding(mysql_wire::specs::Writing::saturated))]
 fn put_execution(
@@ -89,10 +89,10 @@ fn put_execution(
     }
 }
 
-/// The longest payload of one frame.
+/// The maximum length of a payload in one frame.
 const MAX_PAYLOAD_LEN: usize = 0xff_ffff;
 
-/// Writes an execution whose bytes were counted.
+/// Writes an execution whose length was computed.
 #[inline(always)]
 #[tactic(auto, using(crate::proofs::CheckedParams::puts))]
 fn put_counted(
@@ -113,8 +113,8 @@ fn put_counted(
     OK
 }
 
-/// Writes an execution without names and attributes; one that is too long for a frame by the library's builder, which leaves
-/// byte strings out.
+/// Writes an execution without names and attributes. If it is too long for one frame, the library's builder
+/// writes it, which omits byte strings.
 #[inline(always)]
 fn put_plain(
     builder: ComStmtExecuteOptionsBuilder<'_, CParameter<'_>>,
@@ -163,7 +163,7 @@ fn put_named(
     put_execution(builder, params, out, written, as_long_data)
 }
 
-/// Writes the execution that the builder makes of these parameters, if all may be sent.
+/// Writes the execution that the builder builds of these parameters, if all are valid.
 fn put_asked(
     builder: ComStmtExecuteOptionsBuilder<'_, CParameter<'_>>,
     params: &[CParameter<'_>],

@@ -1,7 +1,7 @@
 -- The command `stmt`.
 use Rattle.std.specs.Prelude.{ℕ, List, ◌++◌}
-use Rattle.mysql_prepared.specs.declared.stmt.StmtPacket.{StmtPacket}
-use Rattle.mysql_prepared.specs.Stmt.{stmt}
+use Rattle.mysql_stmt.specs.declared.stmt.StmtPacket.{StmtPacket}
+use Rattle.mysql_stmt.specs.Stmt.{stmt}
 use Rattle.mysql_show.specs.FieldText.{lines_of}
 use Rattle.mysql_show.specs.Replies.{statement_fields}
 use Rattle.mysql_program.specs.Lines.{end_lines}

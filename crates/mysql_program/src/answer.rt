@@ -9,10 +9,10 @@ use mysql_wire::Fault;
 use std::alloc::{AllocError, Global};
 use std::marker::Model;
 
-/// The line of a bad call.
+/// The usage line of a bad call.
 pub const USAGE: &str = "usage: mypackets COMMAND ARGS\n";
 
-/// The lines that are written, and the status.
+/// The lines to write, and the exit status.
 #[derive(Drop)]
 pub struct Answer {
     text: String,
@@ -29,14 +29,14 @@ impl Model for Answer {
 }
 
 impl Answer {
-    /// All is done: status 0.
+    /// Creates the answer of a successful call: status 0.
     pub fn done(text: String) -> Answer
         ensures value { result ≡ done (string_bytes text) }
     {
         Answer { text, status: 0 }
     }
 
-    /// A bad call: the usage line, and status 2.
+    /// Creates the answer of a bad call: the usage line, and status 2.
     pub fn usage(alloc: Global) -> Result<Answer, AllocError>
         ensures value { IfOk result (λ answer. answer ≡ usage) }
     {
@@ -44,7 +44,7 @@ impl Answer {
         Ok(Answer { text, status: 2 })
     }
 
-    /// The lines so far, and a line with the name of an error: status 1.
+    /// Creates a refusal: the lines so far, and a line with the name of an error; status 1.
     pub fn refused_by(alloc: Global, mut text: String, name: &str) -> Result<Answer, AllocError>
         ensures value { IfOk result (λ answer. answer ≡ refused_by (string_bytes text) name.now) }
     {
@@ -52,7 +52,7 @@ impl Answer {
         Ok(Answer { text, status: 1 })
     }
 
-    /// Ends the answer with the kind of a fault.
+    /// Creates a refusal: the lines so far, and a line with the kind of a fault; status 1.
     ///
     /// A failed allocation is returned as the error.
     pub fn refused(alloc: Global, text: String, fault: Fault) -> Result<Answer, AllocError>
@@ -74,7 +74,7 @@ impl Answer {
         self.text.as_str()
     }
 
-    /// The status of the answer.
+    /// The exit status.
     pub fn status(&self) -> u8
         ensures value { result ≡ self.now.status }
     {

@@ -12,8 +12,8 @@ use mysql_values::ParamType;
 use std::alloc::{AllocError, Global};
 use std::marker::Model;
 
-/// The statement's number, the most bytes that a packet may have, the rule for the requests, and the types of the columns,
-/// if they are declared.
+/// The arguments of `bulk`: the statement's number, the maximum packet length in bytes, the rule for the
+/// requests, and the declared types of the columns, if any.
 #[derive(Drop)]
 pub struct BulkCall<'a> {
     stmt_id: u32,
@@ -39,14 +39,14 @@ impl<'a> Model for BulkCall<'a> {
 }
 
 impl<'a> BulkCall<'a> {
-    /// `STMT MAX`. It takes no memory.
+    /// Parses `STMT MAX`. It takes no memory.
     pub fn plain(stmt: &str, most: &str) -> Option<BulkCall<'a>>
         ensures value { result ≡ spec.bulk_call stmt.now most.now (Some spec.plain_rule) None }
     {
         BulkCall::with_rule(stmt, most, Some(BulkRule::PLAIN), None)
     }
 
-    /// `STMT MAX` and one of the options. It takes no memory.
+    /// Parses `STMT MAX` and one of the options. It takes no memory.
     pub fn with_one_option(stmt: &str, most: &str, option: &'a str) -> Option<BulkCall<'a>>
         ensures value { result ≡ spec.call_of_one stmt.now most.now option.now }
     {
@@ -58,7 +58,7 @@ impl<'a> BulkCall<'a> {
         }
     }
 
-    /// `STMT MAX` and two of the options. It takes no memory.
+    /// Parses `STMT MAX` and two of the options. It takes no memory.
     pub fn with_two_options(
         stmt: &str,
         most: &str,
@@ -73,7 +73,7 @@ impl<'a> BulkCall<'a> {
         }
     }
 
-    /// `STMT MAX types rows=K columns=TYPE,TYPE,..`. It takes no memory.
+    /// Parses `STMT MAX types rows=K columns=TYPE,TYPE,..`. It takes no memory.
     pub fn with_three_options(
         stmt: &str,
         most: &str,
@@ -114,7 +114,7 @@ impl<'a> BulkCall<'a> {
         self.rule
     }
 
-    /// The most bytes that a request may have.
+    /// The maximum length of a request in bytes.
     pub fn limit(&self) -> u64
         ensures value { result ≡ self.now.max_allowed_packet - 4 }
     {
@@ -131,7 +131,7 @@ impl<'a> BulkCall<'a> {
         }
     }
 
-    /// The builder that is asked for, before types are declared.
+    /// Creates the requested builder, before types are declared.
     pub fn builder(&self, alloc: Global) -> ComStmtBulkExecuteRequestBuilder<'static>
         ensures value { result ≡ builder_of self.now }
     {
@@ -150,7 +150,7 @@ impl<'a> BulkCall<'a> {
     }
 }
 
-/// The rule of `types` or `rows=K`.
+/// Parses `types` or `rows=K`.
 fn rule_of_one(option: &str) -> Option<BulkRule>
     ensures value { result ≡ spec.rule_of_one option.now }
     ensures some_rows { IfSome result (λ rule. IfSome rule.max_rows (λ rows. 1 ≤ rows)) }
@@ -167,7 +167,7 @@ fn rule_of_one(option: &str) -> Option<BulkRule>
     }
 }
 
-/// The rule of `types rows=K`.
+/// Parses `types rows=K`.
 fn rule_of_two(first: &str, second: &str) -> Option<BulkRule>
     ensures value { result ≡ spec.rule_of_two first.now second.now }
     ensures some_rows { IfSome result (λ rule. IfSome rule.max_rows (λ rows. 1 ≤ rows)) }
@@ -181,7 +181,7 @@ fn rule_of_two(first: &str, second: &str) -> Option<BulkRule>
     })
 }
 
-/// The number of rows in `rows=K`, which is at least 1.
+/// Parses the number of rows in `rows=K`, which is at least 1.
 fn most_rows(word: &str) -> Option<usize>
     ensures value { result ≡ spec.most_rows word.now }
 {
@@ -189,7 +189,7 @@ fn most_rows(word: &str) -> Option<usize>
     at_least(1, u64_of(digits)?)
 }
 
-/// The types in `columns=TYPE,TYPE,..`.
+/// Parses the types in `columns=TYPE,TYPE,..`.
 fn columns_in(word: &str) -> Option<TypeWords<'_>>
     ensures value { result ≡ spec.columns_in word.now }
 {

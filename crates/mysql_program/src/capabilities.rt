@@ -1,4 +1,4 @@
-//! Capability flags that are given as digits.
+//! Capability flags as digits.
 
 ghost use Rattle.std.specs.Prelude.{◌≡◌};
 ghost use Rattle.mysql_program.specs.Capabilities.{capabilities_of, is_flag_word};

@@ -28,7 +28,7 @@ pub enum Command<'a> {
     Handshake(HexDigits<'a>),
     /// `gtid HEX`: a replica's request for a binary log without the transactions of a GTID set.
     Gtid(HexDigits<'a>),
-    /// `gtidstrict HEX`: the same, by the strict reader.
+    /// `gtidstrict HEX`: like `gtid`, by the strict reader.
     GtidStrict(HexDigits<'a>),
     /// `sid TEXT`: the text of a server's transactions.
     Sid(Word<'a>),
@@ -43,7 +43,7 @@ pub enum Command<'a> {
 }
 
 impl<'a> Command<'a> {
-    /// The command that the words after the program's name give, unless it is a bad call.
+    /// Parses the words after the program's name as a command; a bad call is `None`.
     ///
     /// It takes no memory.
     pub fn of(words: &'a [String]) -> Option<Command<'a>>
@@ -55,7 +55,7 @@ impl<'a> Command<'a> {
         }
     }
 
-    /// A call of two to five words.
+    /// Parses a call of two to five words.
     fn call_to_five(words: &'a [String]) -> Option<Command<'a>>
         ensures value { result ≡ spec.call_to_five (map string_bytes words.now) }
     {
@@ -65,7 +65,7 @@ impl<'a> Command<'a> {
         }
     }
 
-    /// A call of two to four words.
+    /// Parses a call of two to four words.
     fn shorter_call(words: &'a [String]) -> Option<Command<'a>>
         ensures value { result ≡ spec.shorter_call (map string_bytes words.now) }
     {
@@ -82,7 +82,7 @@ impl<'a> Command<'a> {
         }
     }
 
-    /// A call of five words.
+    /// Parses a call of five words.
     #[tactic(auto, unfolding(crate::specs::Command::longer_call))]
     fn longer_call(words: &'a [String]) -> Option<Command<'a>>
         ensures value { result ≡ spec.longer_call (map string_bytes words.now) }
@@ -96,7 +96,7 @@ impl<'a> Command<'a> {
         }
     }
 
-    /// A call of six words.
+    /// Parses a call of six words.
     #[tactic(auto, unfolding(crate::specs::Command::longest_call))]
     fn longest_call(words: &'a [String]) -> Option<Command<'a>>
         ensures value { result ≡ spec.longest_call (map string_bytes words.now) }

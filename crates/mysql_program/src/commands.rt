@@ -1,4 +1,4 @@
-//! The program's commands, one a file.
+//! The program's commands, one per file.
 
 pub mod bulk;
 mod change;

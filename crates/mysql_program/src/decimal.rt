@@ -1,4 +1,4 @@
-//! Numbers that are given in decimal.
+//! Numbers in decimal.
 
 ghost use Rattle.std.specs.Prelude.{◌≡◌, ◌^◌, ◌+◌, option_map, neg_ℤ, pos, nat_lt, Some, None, if◌then◌else◌};
 ghost use Rattle.std.specs.Char.{is_ascii_digit};
@@ -58,7 +58,7 @@ pub fn u8_of(word: &[u8]) -> Option<u8>
     u8::try_from(u64_of(word)?).ok()
 }
 
-/// The number of 64 bits with a sign that digits write, with a minus before them or none.
+/// Parses a signed number of 64 bits: digits with an optional minus.
 #[tactic(auto, using(crate::proofs::Decimals::signed), unfolding(crate::specs::Decimal::i64_of))]
 pub fn i64_of(word: &[u8]) -> Option<i64>
     ensures value { result ≡ spec.i64_of word.now }

@@ -1,4 +1,4 @@
-//! Bytes that are given as hexadecimal digits.
+//! Bytes as hexadecimal digits.
 
 ghost use Rattle.std.specs.Prelude.{◌≡◌, IfOk};
 ghost use Rattle.std.specs.Char.{is_ascii_hexdigit};
@@ -26,7 +26,7 @@ impl<'a> Model for HexDigits<'a> {
 }
 
 impl<'a> HexDigits<'a> {
-    /// The digits, unless a character is none or one is left over. It takes no memory.
+    /// Checks the digits, which must be pairs. It takes no memory.
     #[tactic(auto, using(crate::proofs::Checked::judged_digits))]
     pub fn new(digits: &'a [u8]) -> Option<HexDigits<'a>>
         ensures value { result ≡ bytes_of digits.now }

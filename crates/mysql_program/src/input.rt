@@ -15,7 +15,7 @@ pub const MOST_READS: u32 = 1_048_576;
 pub enum InputError {
     /// A read failed.
     Read,
-    /// After [`MOST_READS`] reads the input had not ended.
+    /// The input had not ended after [`MOST_READS`] reads.
     Endless,
     /// An allocation failed.
     Memory,

@@ -1,4 +1,4 @@
-//! Bytes in parts.
+//! Splits bytes into parts.
 
 ghost use Rattle.std.specs.Prelude.{◌≡◌, IfOk, map};
 ghost use Rattle.std.specs.List.{slice_split};
@@ -6,7 +6,7 @@ ghost use Rattle.mysql_program.specs.Parts.{is_byte};
 
 use std::alloc::{AllocError, Global};
 
-/// The parts that a byte separates, at least one.
+/// Splits bytes at a separator into parts, at least one.
 pub fn parts_of(alloc: Global, bytes: &[u8], separator: u8) -> Result<Vec<&[u8]>, AllocError>
     ensures parts { IfOk result (λ parts. map (λ part. part.now) parts.items ≡ slice_split (is_byte separator) bytes.now) }
 {

@@ -1,4 +1,4 @@
-//! The program: what it writes for the words after its name, and its status.
+//! The program: its output and its exit status for the words after its name.
 
 ghost use Rattle.std.specs.Prelude.{◌≡◌, IfErr, IfOk, OnErr, Some, true, false, map, string_bytes};
 ghost use Rattle.mysql_show.specs.Output.{IsWritten};
@@ -15,18 +15,18 @@ use mysql_show::write_front;
 use std::alloc::Global;
 use std::io::{Read, Write};
 
-/// Runs the program on the words after its name, and returns its status.
+/// Runs the program on the words after its name, and returns its exit status.
 ///
 /// | Status | Meaning |
 /// |---|---|
 /// | 0 | done; the lines are written |
-/// | 1 | refused; the last line is `refused: NAME` |
-/// | 2 | a bad call; the one line is `usage: mypackets COMMAND ARGS` |
-/// | 3 | a read failed, and nothing is written; or a write failed, and a front of the lines is written |
+/// | 1 | the input is refused; the last line is `refused: NAME` |
+/// | 2 | a bad call; the only line is `usage: mypackets COMMAND ARGS` |
+/// | 3 | a read failed, and nothing is written; or a write failed, and only a prefix of the lines is written |
 ///
 /// The words are checked first, which takes no memory. Only `bulk` then reads: all of the input, before the first line is
 /// written, by at most 1,048,576 calls of `read`. An input that hasn't ended by then is a failed read. If an allocation fails,
-/// the only line is `refused: Memory`, and the status is 1. Only a failed read or write gives 3.
+/// the only line is `refused: Memory`, and the status is 1. Only a failed read or write returns 3.
 #[tactic(auto, using(mysql_show::proofs::Outputs::keeps_same))]
 pub fn run<R: Read, W: Write>(alloc: Global, args: &[String], reader: &mut R, writer: &mut W) -> u8
     ensures answer { IsAnswered (command_of (map string_bytes args.now)) (R.remaining reader.old) (R.remaining reader.new) (W.contents writer.old) (W.contents writer.new) result }
@@ -46,7 +46,7 @@ pub fn run<R: Read, W: Write>(alloc: Global, args: &[String], reader: &mut R, wr
     }
 }
 
-/// The input, where the command reads it; only that may fail.
+/// Reads the input, if the command needs it; only reading may fail.
 fn input_of<R: Read>(
     alloc: Global,
     command: &Command<'_>,
@@ -72,7 +72,7 @@ pub fn refuse_memory<W: Write>(writer: &mut W) -> u8
     write_lines(writer, "refused: Memory\n", 1)
 }
 
-/// Writes the lines, and returns the status, or 3 if a write failed: a front of the lines is written then.
+/// Writes the lines, and returns the status, or 3 if a write failed, after a prefix of the lines is written.
 fn write_lines<W: Write>(writer: &mut W, text: &str, status: u8) -> u8
     ensures value { IsWritten (record { text = text.now; status = status }) (W.contents writer.old) (W.contents writer.new) result }
 {

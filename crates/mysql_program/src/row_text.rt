@@ -1,4 +1,4 @@
-//! Rows that are given as text: one a line, its values separated by one space.
+//! Rows as text: one per line, with values separated by single spaces.
 
 ghost use Rattle.std.specs.Prelude.{◌≡◌, IfOk, map, option_map};
 ghost use Rattle.mysql_values.specs.Value.{content_of};
@@ -35,7 +35,7 @@ impl RowCell {
         }
     }
 
-    /// The value, with bytes of its own, if it is NULL, bytes or an integer.
+    /// Copies the value, if it is NULL, bytes or an integer.
     fn to_value(&self, alloc: Global) -> Result<Option<Value>, AllocError>
         ensures value { IfOk result (λ value. option_map content_of value ≡ spec.value_in (spec.cell_read self.now)) }
     {
@@ -120,7 +120,7 @@ fn read_value(alloc: Global, word: &[u8]) -> Result<Option<Value>, AllocError>
     })
 }
 
-/// Rows with their bytes where they are.
+/// Borrows each row as bulk values.
 pub fn borrowed_rows(
     alloc: Global,
     rows: &[Vec<RowCell>],
@@ -134,7 +134,7 @@ pub fn borrowed_rows(
     Ok(borrowed)
 }
 
-/// A row with its bytes where they are.
+/// Borrows a row as bulk values.
 fn borrowed_row(alloc: Global, row: &[RowCell]) -> Result<Vec<BulkValue<'_>>, AllocError>
     ensures value { IfOk result (λ borrowed. cells_of_row borrowed ≡ map spec.cell_read row.now) }
 {
@@ -145,7 +145,7 @@ fn borrowed_row(alloc: Global, row: &[RowCell]) -> Result<Vec<BulkValue<'_>>, Al
     Ok(borrowed)
 }
 
-/// The values of rows, unless one has a float, a date, a time, DEFAULT or IGNORE.
+/// Copies the values of the rows, or returns `None` if a row has a float, a date, a time, DEFAULT or IGNORE.
 pub fn rows_of_values(
     alloc: Global,
     rows: &[Vec<RowCell>],
@@ -162,7 +162,7 @@ pub fn rows_of_values(
     Ok(Some(values))
 }
 
-/// The values of a row, unless it has a float, a date, a time, DEFAULT or IGNORE.
+/// Copies the values of a row, or returns `None` if it has a float, a date, a time, DEFAULT or IGNORE.
 fn values_of_row(alloc: Global, row: &[RowCell]) -> Result<Option<Vec<Value>>, AllocError>
     ensures value { IfOk result (λ values. option_map contents_of_row values ≡ spec.values_in (map spec.cell_read row.now)) }
 {
@@ -187,7 +187,7 @@ fn lines_of(alloc: Global, text: &[u8]) -> Result<Vec<&[u8]>, AllocError>
     parts_of(alloc, text.strip_suffix(b"\n").unwrap_or(text), b'\n')
 }
 
-/// The words of a line, which one space separates.
+/// The words of a line, separated by single spaces.
 #[tactic(auto, unfolding(crate::specs::RowText::words_of))]
 fn words_of(alloc: Global, line: &[u8]) -> Result<Vec<&[u8]>, AllocError>
     ensures value { IfOk result (λ words. map (λ word. word.now) words.items ≡ spec.words_of line.now) }

@@ -1,4 +1,4 @@
-//! Floats, dates and times that are given as text.
+//! Floats, dates and times as text.
 
 ghost use Rattle.std.specs.Prelude.{◌≡◌, option_map};
 ghost use Rattle.mysql_values.specs.Value.{content_of};
@@ -26,7 +26,7 @@ fn is_bit_word(count: usize, word: &[u8]) -> bool
     word.len() == count && are_digits(word)
 }
 
-/// The float of 4 bytes whose bits are eight hexadecimal digits.
+/// Parses eight hexadecimal digits as the bits of a float of 4 bytes.
 #[tactic(auto, using(crate::proofs::Words::bit_words))]
 pub fn float_of(word: &[u8]) -> Option<Value>
     ensures value { option_map content_of result ≡ spec.float_in word.now }
@@ -38,7 +38,7 @@ pub fn float_of(word: &[u8]) -> Option<Value>
     Some(Value::Float(u32::from_str_radix(text, 16).ok()?))
 }
 
-/// The float of 8 bytes whose bits are sixteen hexadecimal digits.
+/// Parses sixteen hexadecimal digits as the bits of a float of 8 bytes.
 #[tactic(auto, using(crate::proofs::Words::bit_words))]
 pub fn double_of(word: &[u8]) -> Option<Value>
     ensures value { option_map content_of result ≡ spec.double_in word.now }
@@ -50,7 +50,7 @@ pub fn double_of(word: &[u8]) -> Option<Value>
     Some(Value::Double(u64::from_str_radix(text, 16).ok()?))
 }
 
-/// Whether these are as many characters as a time of day has, with the marks between its numbers.
+/// Whether the text has the length of a time of day, with the separators between its numbers.
 #[tactic(auto, unfolding(crate::specs::TimeText::has_time_marks))]
 fn has_time_marks(word: &[u8]) -> bool
     ensures value { result ≡ spec.has_time_marks word.now }
@@ -58,7 +58,7 @@ fn has_time_marks(word: &[u8]) -> bool
     word.len() == 16 && word[0] == b'T' && word[3] == b':' && word[6] == b':' && word[9] == b'.'
 }
 
-/// The time of day that `THH:MM:SS.FFFFFF` writes.
+/// Parses a time of day: `THH:MM:SS.FFFFFF`.
 #[tactic(auto, unfolding(crate::specs::TimeText::has_time_marks))]
 fn time_of_day(word: &[u8]) -> Option<TimeOfDay>
     ensures value { result ≡ spec.time_of_day word.now }
@@ -74,7 +74,7 @@ fn time_of_day(word: &[u8]) -> Option<TimeOfDay>
     })
 }
 
-/// Whether a date's characters are there, with the marks between its numbers.
+/// Whether the text has the length of a date, with the separators between its numbers.
 #[tactic(auto, unfolding(crate::specs::TimeText::has_date_marks))]
 fn has_date_marks(word: &[u8]) -> bool
     ensures value { result ≡ spec.has_date_marks word.now }
@@ -82,7 +82,7 @@ fn has_date_marks(word: &[u8]) -> bool
     10 <= word.len() && word[4] == b'-' && word[7] == b'-'
 }
 
-/// The date that `YYYY-MM-DDTHH:MM:SS.FFFFFF` writes.
+/// Parses a date with a time of day: `YYYY-MM-DDTHH:MM:SS.FFFFFF`.
 #[tactic(auto, unfolding(crate::specs::TimeText::has_date_marks))]
 pub fn date_of(word: &[u8]) -> Option<Value>
     ensures value { option_map content_of result ≡ spec.date_in word.now }
@@ -105,7 +105,7 @@ pub fn date_of(word: &[u8]) -> Option<Value>
     ))
 }
 
-/// The span that days and a time of day write.
+/// Parses a time span of days and a time of day.
 fn span_of(is_negative: bool, word: &[u8]) -> Option<Value>
     ensures value { option_map content_of result ≡ spec.span_in is_negative word.now }
 {
@@ -122,7 +122,7 @@ fn span_of(is_negative: bool, word: &[u8]) -> Option<Value>
     ))
 }
 
-/// The span that `DTHH:MM:SS.FFFFFF` writes, with a minus before it or none.
+/// Parses a time span, with an optional minus: `DTHH:MM:SS.FFFFFF`.
 #[tactic(auto, using(crate::proofs::Decimals::signed))]
 pub fn time_of(word: &[u8]) -> Option<Value>
     ensures value { option_map content_of result ≡ spec.time_in word.now }

@@ -1,4 +1,4 @@
-//! Types of columns that are given as text: their codes, with commas between them.
+//! Column types as text: their codes, separated by commas.
 
 ghost use Rattle.std.specs.Prelude.{◌≡◌, IfOk, is_some, option_map};
 ghost use Rattle.mysql_values.specs.ParamType.{type_with_flags};
@@ -12,7 +12,8 @@ use mysql_wire::{ColumnType, ConstValue, StmtExecuteParamFlags};
 use std::alloc::{AllocError, Global};
 use std::marker::Model;
 
-/// Types of columns: the code of each in decimal, as `column` shows it, and `u` after it where the type is unsigned.
+/// Column types as text: the code of each in decimal, as the command `column` shows it, followed by `u` if the
+/// type is unsigned.
 #[derive(Drop)]
 pub struct TypeWords<'a> {
     words: &'a [u8],
@@ -29,7 +30,7 @@ impl<'a> Model for TypeWords<'a> {
 }
 
 impl<'a> TypeWords<'a> {
-    /// The types, unless a word is none. It takes no memory.
+    /// Checks the words, each of which must be a type. It takes no memory.
     pub fn new(words: &'a [u8]) -> Option<TypeWords<'a>>
         ensures value { result ≡ spec.types_of words.now }
     {
@@ -40,7 +41,7 @@ impl<'a> TypeWords<'a> {
         }
     }
 
-    /// The types, one after another.
+    /// Returns the types, in order.
     pub fn types(&self, alloc: Global) -> Result<Vec<ParamType>, AllocError>
         ensures value { IfOk result (λ types. types.items ≡ self.now) }
     {
@@ -61,7 +62,7 @@ fn are_types(words: &[u8]) -> bool
         .all(|word| type_of(word).is_some())
 }
 
-/// The types that the words are, if each is one.
+/// Parses the words as types, or returns `None` if one of them isn't a type.
 #[tactic(auto, unfolding(crate::specs::TypeWords::types_of))]
 fn read_types(alloc: Global, words: &[u8]) -> Result<Option<Vec<ParamType>>, AllocError>
     ensures value { IfOk result (λ types. option_map (λ types. types.items) types ≡ spec.types_of words.now) }
@@ -76,7 +77,7 @@ fn read_types(alloc: Global, words: &[u8]) -> Result<Option<Vec<ParamType>>, All
     Ok(Some(types))
 }
 
-/// The type that a word is, if it is one.
+/// Parses a word as a type.
 #[tactic(auto, using(crate::proofs::Rows::feeds))]
 fn type_of(word: &[u8]) -> Option<ParamType>
     ensures value { result ≡ spec.type_of word.now }
@@ -87,7 +88,7 @@ fn type_of(word: &[u8]) -> Option<ParamType>
     }
 }
 
-/// The type of that code, with its flags.
+/// Returns the type of this code, with its flags.
 fn type_with_flags(code: &[u8], flags: StmtExecuteParamFlags) -> Option<ParamType>
     ensures value { result ≡ option_map (λ column_type. type_with_flags column_type flags) (spec.column_type_in code.now) }
 {

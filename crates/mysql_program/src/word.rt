@@ -4,7 +4,7 @@ ghost use Rattle.std.specs.Prelude.{◌≡◌};
 
 use std::marker::Model;
 
-/// A word of the call, which clauses see as its bytes.
+/// A word of the call. In a clause it is its bytes.
 #[derive(Drop)]
 pub struct Word<'a> {
     text: &'a str,
@@ -19,7 +19,7 @@ impl<'a> Model for Word<'a> {
 }
 
 impl<'a> Word<'a> {
-    /// The word.
+    /// Creates a word from a text.
     pub fn new(text: &'a str) -> Word<'a>
         ensures value { result ≡ text.now }
     {

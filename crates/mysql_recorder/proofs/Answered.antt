@@ -18,7 +18,7 @@ use Rattle.mysql_recorder.specs.Refusals.{IfRefused}
 use Rattle.mysql_recorder.specs.Refused.{ShowsRefused}
 use Rattle.mysql_recorder.specs.Shown as shown
 use Rattle.mysql_recorder.specs.Entries.{AppendsEntry, Entry, entry_line}
-use Rattle.mysql_recorder.specs.Shown.{entry_of, Item, Writes}
+use Rattle.mysql_recorder.specs.Shown.{entry_of, Item, placed, Writes}
 use Rattle.mysql_recorder.specs.Stops.{StopsAfter, StopsIn}
 use Rattle.mysql_recorder.specs.declared.error.RecordingError.{RecordingError}
 use Rattle.mysql_recorder.specs.declared.error.RecordingError.TheVariants as error
@@ -41,12 +41,13 @@ entry_after : (w : List ℕ) (layout : Layout) (e : Entry) (fields : List Said) 
 entry_after w layouts.Lines e fields a b h = (h.0, h.1, is_after w (a ++ entry_line e) b h.0 h.2 ∙ ap (λ (l : List ℕ). l ++ h.0) (sym (append_assoc w a (entry_line e))))
 entry_after w layouts.Json e fields a b h = (h.0, h.1, is_after w a b _ h.2)
 
-appends_after : (w : List ℕ) (layout : Layout) (e : Entry) (a b : List ℕ) → shown.Appends layout e a b → shown.Appends layout e (w ++ a) (w ++ b)
-appends_after w layout e a b h = (h.0, λ none. is_after w a b _ (h.1 none), entry_after w layout e h.0 a b h.2)
+appends_after : (w : List ℕ) (layout : Layout) (before : List Numbered) (x : Item) (a b : List ℕ) → shown.Appends layout before x a b → shown.Appends layout before x (w ++ a) (w ++ b)
+appends_after w layout before x a b h = (h.0, h.1, λ none. is_after w a b _ (h.2 none), entry_after w layout (entry_of x) h.0 a b h.3)
 
-writes_after : (w : List ℕ) (layout : Layout) (xs : List Item) (a b : List ℕ) → Writes layout xs a b → Writes layout xs (w ++ a) (w ++ b)
-writes_after w layout [] a b h = ap (λ (l : List ℕ). w ++ l) h
-writes_after w layout (x ∷ xs) a b h = (w ++ h.0, appends_after w layout (entry_of x) a h.0 h.1, writes_after w layout xs h.0 b h.2)
+writes_after : (w : List ℕ) (layout : Layout) (before xs : List Item) (a b : List ℕ) → Writes layout before xs a b → Writes layout before xs (w ++ a) (w ++ b)
+writes_after w layout before [] a b h = ap (λ (l : List ℕ). w ++ l) h
+writes_after w layout before (x ∷ xs) a b h =
+    (w ++ h.0, appends_after w layout (placed before) x a h.0 h.1, writes_after w layout (before ++ x ∷ []) xs h.0 b h.2)
 
 refused_after : (w : List ℕ) (all : List PacketKindTag) (layout : Layout) (side : Side) (sequence : ℕ) (payload : List ℕ) (items : List Numbered) (why : SessionError) (a b : List ℕ)
     → ShowsRefused all layout side sequence payload items why a b → ShowsRefused all layout side sequence payload items why (w ++ a) (w ++ b)
@@ -55,7 +56,7 @@ refused_after w all layout side sequence payload items why a b h = (h.0, h.1, h.
 stops_in_after : (w : List ℕ) (all : List PacketKindTag) (layout : Layout) (side : Side) (bytes : List ℕ) (items : List Item) (why : SessionError) (a b : List ℕ)
     → StopsIn all layout side bytes items why a b → StopsIn all layout side bytes items why (w ++ a) (w ++ b)
 stops_in_after w all layout side bytes items why a b h =
-    (h.0, h.1, h.2, h.3, h.4, h.5, w ++ h.6, h.7, h.8, h.9, writes_after w layout h.0 a h.6 h.10, h.11, refused_after w all layout side h.1 h.2 _ why h.6 b h.12)
+    (h.0, h.1, h.2, h.3, h.4, h.5, w ++ h.6, h.7, h.8, h.9, writes_after w layout items h.0 a h.6 h.10, h.11, refused_after w all layout side h.1 h.2 _ why h.6 b h.12)
 
 stops_after_after : (w : List ℕ) (all : List PacketKindTag) (layout : Layout) (text : List ℕ) (items : List Item) (why : SessionError) (a b : List ℕ)
     → StopsAfter all layout text items why a b → StopsAfter all layout text items why (w ++ a) (w ++ b)
@@ -63,7 +64,7 @@ stops_after_after w all layout text items why a b h = record { side = h.side; by
 
 loses_in_after : (w : List ℕ) (all : List PacketKindTag) (layout : Layout) (limit : ℕ) (side : Side) (bytes : List ℕ) (items : List Item) (a b : List ℕ)
     → LosesIn all layout limit side bytes items a b → LosesIn all layout limit side bytes items (w ++ a) (w ++ b)
-loses_in_after w all layout limit side bytes items a b (inl h) = inl (h.0, h.1, h.2, h.3, writes_after w layout h.0 a b h.4, h.5, h.6)
+loses_in_after w all layout limit side bytes items a b (inl h) = inl (h.0, h.1, h.2, h.3, writes_after w layout items h.0 a b h.4, h.5, h.6)
 loses_in_after w all layout limit side bytes items a b (inr h) = inr (h.0, stops_in_after w all layout side bytes items h.0 a b h.1)
 
 lost_after : (w : List ℕ) (all : List PacketKindTag) (layout : Layout) (limit : ℕ) (ends : Type 0) (text : List ℕ) (items : List Item) (a b : List ℕ)
@@ -72,15 +73,15 @@ lost_after w all layout limit ends text items a b (inl h) = inl (record { side =
 lost_after w all layout limit ends text items a b (inr h) = inr (h.0, h.1, ap (λ (l : List ℕ). w ++ l) h.2)
 
 -- these entries, followed by those
-writes_more : (layout : Layout) (xs ys : List Item) (w t : List ℕ) → Writes layout xs [] w → Writes layout ys [] t → Writes layout (xs ++ ys) [] (w ++ t)
-writes_more layout xs ys w t h g = writes_then layout xs ys [] w (w ++ t) h (subst (λ l. Writes layout ys l (w ++ t)) (append-nil w) (writes_after w layout ys [] t g))
+writes_more : (layout : Layout) (xs ys : List Item) (w t : List ℕ) → Writes layout [] xs [] w → Writes layout xs ys [] t → Writes layout [] (xs ++ ys) [] (w ++ t)
+writes_more layout xs ys w t h g = writes_then layout [] xs ys [] w (w ++ t) h (subst (λ l. Writes layout xs ys l (w ++ t)) (append-nil w) (writes_after w layout xs ys [] t g))
 
 -- ---- in the middle of an input
 
 -- what is printed for this input is there, and the recording is in the state after it
 abbrev pub IsAmid : List PacketKindTag → Layout → ℕ → Recording → List ℕ → List ℕ → Type 0
 IsAmid all layout limit r input text =
-    ((items : List Item) × Recorded r input items × Writes layout items [] text) ⊎ ((recorded.has_lost r ≡ true) × LostIn all layout limit IsAtFeed input text)
+    ((items : List Item) × Recorded r input items × Writes layout [] items [] text) ⊎ ((recorded.has_lost r ≡ true) × LostIn all layout limit IsAtFeed input text)
 
 pub amid_made : (all : List PacketKindTag) (layout : Layout) (limit : ℕ) (r : Recording) (x w : List ℕ) → IsAmid all layout limit r x w → IsMade all layout limit x w
 amid_made all layout limit r x w (inl h) = let seen = recorded_shown r x h.0 h.1 in inl (seen.0, (h.0, seen.1, h.2))
@@ -105,7 +106,7 @@ lost_ends all layout limit x w t l =
 
 -- something is lost in a piece; the entries up to there are followed by those of its rest
 lost_here : (r : Result (Unit {0}) RecordingError) (all : List PacketKindTag) (old new : Recording) (x p w t : List ℕ) (items : List Item)
-    → Recorded old x items → Writes (recorded.layout old) items [] w → Loses r all p old new [] t → recorded.has_lost new ≡ true
+    → Recorded old x items → Writes (recorded.layout old) [] items [] w → Loses r all p old new [] t → recorded.has_lost new ≡ true
     → (mid : List ℕ) × OnOk r (Stays mid t) × ((text : List ℕ) → Stays mid text → LostIn all (recorded.layout old) (recorded.longest old) IsAtFeed (x ++ p) (w ++ text))
 lost_here r all old new x p w t items h writes loses lost =
     let l = loses lost x items h in (
@@ -247,9 +248,9 @@ stopped all layout limit sums at_end r x p w t line error.Missing answer h stops
     for_another all layout limit sums at_end r x p w t line error.Missing answer h (λ P. tt) says ends
 
 -- what stops in the middle of a piece
-piece_refused : (all : List PacketKindTag) (layout : Layout) (e : RecordingError) (x p w t : List ℕ) (items : List Item) → Writes layout items [] w
+piece_refused : (all : List PacketKindTag) (layout : Layout) (e : RecordingError) (x p w t : List ℕ) (items : List Item) → Writes layout [] items [] w
     → IfRefused e (λ why. (front : List ℕ) × (back : List ℕ) × (here : List Item) × (mid : List ℕ) × (p ≡ front ++ back)
-    × Writes layout here [] mid × StopsAfter all layout (x ++ front) (items ++ here) why mid t)
+    × Writes layout items here [] mid × StopsAfter all layout (x ++ front) (items ++ here) why mid t)
     → IfRefused e (λ why. RefusedIn all layout why (x ++ p) (w ++ t))
 piece_refused all layout (error.Refused why) x p w t items writes s =
     (x ++ s.0, s.1, items ++ s.2, w ++ s.3, is_after x s.0 p s.1 s.4, writes_more layout items s.2 w s.3 writes s.5, stops_after_after w all layout (x ++ s.0) (items ++ s.2) why s.3 t s.6)
@@ -259,7 +260,7 @@ piece_refused all layout error.OutOfOrder x p w t items writes s = tt
 piece_refused all layout error.TooLong x p w t items writes s = tt
 piece_refused all layout error.Missing x p w t items writes s = tt
 
-end_refused : (all : List PacketKindTag) (layout : Layout) (e : RecordingError) (x w t : List ℕ) (items : List Item) → Writes layout items [] w
+end_refused : (all : List PacketKindTag) (layout : Layout) (e : RecordingError) (x w t : List ℕ) (items : List Item) → Writes layout [] items [] w
     → IfRefused e (λ why. StopsAfter all layout x items why [] t) → IfRefused e (λ why. RefusedIn all layout why (x ++ []) (w ++ t))
 end_refused all layout (error.Refused why) x w t items writes s =
     (x, [], items, w, refl, writes, subst (λ l. StopsAfter all layout x items why l (w ++ t)) (append-nil w) (stops_after_after w all layout x items why [] t s))
@@ -291,7 +292,7 @@ end_stops all sums at_end old new x w t line e answer takes (inr h) says ends =
     after_lost all (recorded.layout old) (recorded.longest old) sums at_end old x [] w t (w ++ t) line e answer (inr h) (lost_more all (recorded.layout old) (recorded.longest old) x [] w t h.1) says ends
 
 -- the input is at its end
-no_more : (all : List PacketKindTag) (old new : Recording) (x w t : List ℕ) (items : List Item) → Recorded old x items → Writes (recorded.layout old) items [] w
+no_more : (all : List PacketKindTag) (old new : Recording) (x w t : List ℕ) (items : List Item) → Recorded old x items → Writes (recorded.layout old) [] items [] w
     → Ends (Ok tt) all old new t → recorded.has_lost new ≡ true → LostIn all (recorded.layout old) (recorded.longest old) IsLineEnd x (w ++ t)
 no_more all old new x w t items h writes says lost_now =
     let l = says.loses lost_now x items h in (

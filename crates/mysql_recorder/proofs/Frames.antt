@@ -7,7 +7,7 @@ use Rattle.mysql_frames.specs.Frames.{FramedIn, Framed, most, next}
 use Rattle.mysql_frames.proofs.Peel.{four}
 use Rattle.mysql_recorder.specs.Frames.{AreFrames, NoneComes, AreFrom, Piece, joined, of_side, client_with, server_with, ComeIn, IsNumbered}
 use Rattle.mysql_recorder.specs.Lines.{heard}
-use Rattle.mysql_recorder.specs.Shown.{Item, placed, Appends, Writes, entry_of}
+use Rattle.mysql_recorder.specs.Shown.{Item, placed, Appends, Writes}
 use Rattle.mysql_recorder.specs.Streams.{as_sent, number_sent, header_comes}
 
 -- ---- lists
@@ -16,12 +16,13 @@ pub placed-append : (a b : List Item) → placed (a ++ b) ≡ placed a ++ placed
 placed-append [] b = refl
 placed-append (x ∷ a) b = ap (λ xs. x.placed ∷ xs) (placed-append a b)
 
-pub writes_then : (layout : Layout) (xs ys : List Item) (a b c : List ℕ) → Writes layout xs a b → Writes layout ys b c → Writes layout (xs ++ ys) a c
-writes_then layout [] ys a b c h g = subst (λ t. Writes layout ys t c) (sym h) g
-writes_then layout (x ∷ xs) ys a b c h g = (h.0, h.1, writes_then layout xs ys h.0 b c h.2 g)
+pub writes_then : (layout : Layout) (before xs ys : List Item) (a b c : List ℕ) → Writes layout before xs a b → Writes layout (before ++ xs) ys b c → Writes layout before (xs ++ ys) a c
+writes_then layout before [] ys a b c h g = subst (λ t. Writes layout before ys t c) (sym h) (subst (λ q. Writes layout q ys b c) (append-nil before) g)
+writes_then layout before (x ∷ xs) ys a b c h g =
+    (h.0, h.1, writes_then layout (before ++ x ∷ []) xs ys h.0 b c h.2 (subst (λ q. Writes layout q ys b c) (sym (append_assoc before (x ∷ []) xs)) g))
 
-pub writes_one : (layout : Layout) (xs : List Item) (x : Item) (a b c : List ℕ) → Writes layout xs a b → Appends layout (entry_of x) b c → Writes layout (xs ++ x ∷ []) a c
-writes_one layout xs x a b c h g = writes_then layout xs (x ∷ []) a b c h (c, g, refl)
+pub writes_one : (layout : Layout) (before xs : List Item) (x : Item) (a b c : List ℕ) → Writes layout before xs a b → Appends layout (placed (before ++ xs)) x b c → Writes layout before (xs ++ x ∷ []) a c
+writes_one layout before xs x a b c h g = writes_then layout before xs (x ∷ []) a b c h (c, g, refl)
 
 pub from_then : (side : Side) (xs ys : List Item) → AreFrom side xs → AreFrom side ys → AreFrom side (xs ++ ys)
 from_then side [] ys h g = g

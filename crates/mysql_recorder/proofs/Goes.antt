@@ -30,14 +30,14 @@ is_lost more old new before after e pieces items h = inl e
 pub sides_then : (a b : List Piece) (old mid new : Sides) (x y z : List ℕ) → sides.GoesOn a old mid x y → (has_lost mid ≡ true → has_lost new ≡ true) → layout mid ≡ layout old
     → sides.GoesOn b mid new y z → sides.GoesOn (a ++ b) old new x z
 sides_then a b old mid new x y z first lost same second pieces items h =
-    elim (first pieces items h) as (λ _. (has_lost new ≡ true) ⊎ ((here : List Item) × Stand new (pieces ++ (a ++ b)) (items ++ here) × Writes (layout old) here x z)) [
+    elim (first pieces items h) as (λ _. (has_lost new ≡ true) ⊎ ((here : List Item) × Stand new (pieces ++ (a ++ b)) (items ++ here) × Writes (layout old) items here x z)) [
       | inl e ↦ inl (lost e)
-      | inr f ↦ elim (second (pieces ++ a) (items ++ f.0) f.1) as (λ _. (has_lost new ≡ true) ⊎ ((here : List Item) × Stand new (pieces ++ (a ++ b)) (items ++ here) × Writes (layout old) here x z)) [
+      | inr f ↦ elim (second (pieces ++ a) (items ++ f.0) f.1) as (λ _. (has_lost new ≡ true) ⊎ ((here : List Item) × Stand new (pieces ++ (a ++ b)) (items ++ here) × Writes (layout old) items here x z)) [
         | inl e ↦ inl e
         | inr g ↦ inr (
           f.0 ++ g.0,
           subst (λ ps. Stand new ps (items ++ (f.0 ++ g.0))) (append_assoc pieces a b) (subst (λ xs. Stand new ((pieces ++ a) ++ b) xs) (append_assoc items f.0 g.0) g.1),
-          writes_then (layout old) f.0 g.0 x y z f.2 (subst (λ l. Writes l g.0 y z) same g.2),
+          writes_then (layout old) items f.0 g.0 x y z f.2 (subst (λ l. Writes l (items ++ f.0) g.0 y z) same g.2),
         )
       ]
     ]
@@ -139,7 +139,7 @@ same_stand old new pieces items e h =
 
 pub goes_same : (more : List Piece) (old mid new : Sides) (before after : List ℕ) → sides.GoesOn more old mid before after → sides.IsSame mid new → sides.GoesOn more old new before after
 goes_same more old mid new before after g e pieces items h =
-    elim (g pieces items h) as (λ _. (has_lost new ≡ true) ⊎ ((here : List Item) × Stand new (pieces ++ more) (items ++ here) × Writes (layout old) here before after)) [
+    elim (g pieces items h) as (λ _. (has_lost new ≡ true) ⊎ ((here : List Item) × Stand new (pieces ++ more) (items ++ here) × Writes (layout old) items here before after)) [
       | inl f ↦ inl (e.has_lost ∙ f)
       | inr f ↦ inr (f.0, same_stand mid new (pieces ++ more) (items ++ f.0) e f.1, f.2)
     ]
@@ -150,10 +150,10 @@ taken : (mid new : Recording) (text : List ℕ) (said : List Heard) (pieces : Li
     → IsRead text mid.place said → said ≡ joined pieces ++ heard mid.line.side mid.line.bytes.items → Stand mid.sides pieces items
     → Takes mid new before after → new.place ≡ mid.place → new.line.bytes.items ≡ []
     → (new.line.is_untaken ≡ true → IsReadTo text new.place (joined (pieces ++ piece mid.line.side mid.line.bytes.items ∷ [])) [])
-    → (recorded.has_lost new ≡ true) ⊎ ((here : List Item) × Recorded new text (items ++ here) × Writes (recorded.layout mid) here before after)
+    → (recorded.has_lost new ≡ true) ⊎ ((here : List Item) × Recorded new text (items ++ here) × Writes (recorded.layout mid) items here before after)
 taken mid new text said pieces items before after read waits stand takes place bytes untaken =
     let p : Piece = piece mid.line.side mid.line.bytes.items in
-    elim (takes pieces items stand) as (λ _. (recorded.has_lost new ≡ true) ⊎ ((here : List Item) × Recorded new text (items ++ here) × Writes (recorded.layout mid) here before after)) [
+    elim (takes pieces items stand) as (λ _. (recorded.has_lost new ≡ true) ⊎ ((here : List Item) × Recorded new text (items ++ here) × Writes (recorded.layout mid) items here before after)) [
       | inl e ↦ inl e
       | inr f ↦ inr (
         f.0,
@@ -172,7 +172,7 @@ taken mid new text said pieces items before after read waits stand takes place b
 
 pub takes_goes : (mid new : Recording) (before after : List ℕ) → Takes mid new before after → new.place ≡ mid.place → new.line.bytes.items ≡ [] → new.line.is_untaken ≡ false → recorded.GoesOn [] mid new before after
 takes_goes mid new before after takes place bytes is_taken text items h =
-    subst (λ t. (recorded.has_lost new ≡ true) ⊎ ((here : List Item) × Recorded new t (items ++ here) × Writes (recorded.layout mid) here before after)) (sym (append-nil text))
+    subst (λ t. (recorded.has_lost new ≡ true) ⊎ ((here : List Item) × Recorded new t (items ++ here) × Writes (recorded.layout mid) items here before after)) (sym (append-nil text))
     (taken mid new text h.said h.pieces items before after h.read h.waits h.stand takes place bytes (λ e. absurd (let no : true ≡ false = sym e ∙ is_taken in cc)))
 
 -- the byte that ends a line
@@ -180,7 +180,7 @@ pub ends_goes : (old mid new : Recording) (c : ℕ) (before after : List ℕ)
     → ((line : List ℕ) (said : List Heard) → Stands old.place line said → Passes (Some says.End) c line said mid.place) → mid.line ≡ old.line → mid.sides ≡ old.sides
     → Takes mid new before after → new.place ≡ mid.place → new.line.bytes.items ≡ [] → recorded.GoesOn (c ∷ []) old new before after
 ends_goes old mid new c before after passes line same takes place bytes text items h =
-    subst (λ s. (recorded.has_lost new ≡ true) ⊎ ((here : List Item) × Recorded new (text ++ c ∷ []) (items ++ here) × Writes (layout s) here before after)) same
+    subst (λ s. (recorded.has_lost new ≡ true) ⊎ ((here : List Item) × Recorded new (text ++ c ∷ []) (items ++ here) × Writes (layout s) items here before after)) same
     (taken mid new (text ++ c ∷ []) (h.said ++ []) h.pieces items before after
     (read_byte text h.said old.place mid.place c (Some says.End) h.read passes)
     (append-nil h.said ∙ h.waits ∙ ap (λ l. joined h.pieces ++ heard l.side l.bytes.items) (sym line))
@@ -201,14 +201,14 @@ recorded_stays r text read items h =
 pub recorded_then : (a b : List ℕ) (old mid new : Recording) (x y z : List ℕ) → recorded.GoesOn a old mid x y → (recorded.has_lost mid ≡ true → recorded.has_lost new ≡ true)
     → recorded.layout mid ≡ recorded.layout old → recorded.GoesOn b mid new y z → recorded.GoesOn (a ++ b) old new x z
 recorded_then a b old mid new x y z first lost same second text items h =
-    elim (first text items h) as (λ _. (recorded.has_lost new ≡ true) ⊎ ((here : List Item) × Recorded new (text ++ (a ++ b)) (items ++ here) × Writes (recorded.layout old) here x z)) [
+    elim (first text items h) as (λ _. (recorded.has_lost new ≡ true) ⊎ ((here : List Item) × Recorded new (text ++ (a ++ b)) (items ++ here) × Writes (recorded.layout old) items here x z)) [
       | inl e ↦ inl (lost e)
-      | inr f ↦ elim (second (text ++ a) (items ++ f.0) f.1) as (λ _. (recorded.has_lost new ≡ true) ⊎ ((here : List Item) × Recorded new (text ++ (a ++ b)) (items ++ here) × Writes (recorded.layout old) here x z)) [
+      | inr f ↦ elim (second (text ++ a) (items ++ f.0) f.1) as (λ _. (recorded.has_lost new ≡ true) ⊎ ((here : List Item) × Recorded new (text ++ (a ++ b)) (items ++ here) × Writes (recorded.layout old) items here x z)) [
         | inl e ↦ inl e
         | inr g ↦ inr (
           f.0 ++ g.0,
           subst (λ t. Recorded new t (items ++ (f.0 ++ g.0))) (append_assoc text a b) (subst (λ xs. Recorded new ((text ++ a) ++ b) xs) (append_assoc items f.0 g.0) g.1),
-          writes_then (recorded.layout old) f.0 g.0 x y z f.2 (subst (λ l. Writes l g.0 y z) same g.2),
+          writes_then (recorded.layout old) items f.0 g.0 x y z f.2 (subst (λ l. Writes l (items ++ f.0) g.0 y z) same g.2),
         )
       ]
     ]
@@ -217,7 +217,7 @@ recorded_then a b old mid new x y z first lost same second text items h =
 pub takes_piece : (old new : Recording) (bytes before after : List ℕ) → bytes ≡ old.line.bytes.items
     → sides.GoesOn (piece old.line.side bytes ∷ []) old.sides new.sides before after → Takes old new before after
 takes_piece old new bytes before after e g pieces items h =
-    subst (λ b. (recorded.has_lost new ≡ true) ⊎ ((here : List Item) × Stand new.sides (pieces ++ piece old.line.side b ∷ []) (items ++ here) × Writes (recorded.layout old) here before after)) e
+    subst (λ b. (recorded.has_lost new ≡ true) ⊎ ((here : List Item) × Stand new.sides (pieces ++ piece old.line.side b ∷ []) (items ++ here) × Writes (recorded.layout old) items here before after)) e
     (g pieces items h)
 
 pub takes_piece_on_ok : (r : Result (Unit {0}) RecordingError) (old new : Recording) (bytes before after : List ℕ) → bytes ≡ old.line.bytes.items

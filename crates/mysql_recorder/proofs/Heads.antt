@@ -3,7 +3,7 @@ use Rattle.std.proofs.Common.{◌≡◌, ℕ, List, [], ◌∷◌, ◌++◌, fal
 use Rattle.mysql_show.specs.Fields.{Said, said, Number, Word, Digits, have_float}
 use Rattle.mysql_show.specs.FieldObject.{AppendsObject, object_line}
 use Rattle.mysql_show.specs.Appended.{Stays}
-use Rattle.mysql_recorder.specs.Entries.{AppendsEntry, Begins, Entry, entry_head, entry_line, entry_text, notice_head, notice_text, name_of_side}
+use Rattle.mysql_recorder.specs.Entries.{AppendsEntry, Begins, Entry, entry_head, entry_text, notice_head, notice_text, name_of_side}
 use Rattle.mysql_recorder.specs.declared.entry.Layout.{Layout}
 use Rattle.mysql_recorder.specs.declared.entry.Layout.TheVariants as layout
 use Rattle.mysql_recorder.specs.declared.entry.Notice.{Notice}

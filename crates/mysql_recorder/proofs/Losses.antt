@@ -207,7 +207,7 @@ pub loses_then : (r : Result (Unit {0}) RecordingError) (all : List PacketKindTa
     → TextLoses r all ends mid new y z → (ends → IsAtFeed b) → OnOk r (Stays y z) → Loses r all (a ++ b) old new x z
 loses_then r all ends a b old mid new x y z first before same long loses feed stays lost text items h =
     elim (first text items h) as (λ _. (front : List ℕ) × (back : List ℕ) × (here : List Item) × (shown : List ℕ) × (m : List ℕ) × (a ++ b ≡ front ++ back)
-    × Writes (recorded.layout old) here x shown × IsLost all (recorded.layout old) (recorded.longest old) (IsAtFeed back) (text ++ front) (items ++ here) shown m × OnOk r (Stays m z)) [
+    × Writes (recorded.layout old) items here x shown × IsLost all (recorded.layout old) (recorded.longest old) (IsAtFeed back) (text ++ front) (items ++ here) shown m × OnOk r (Stays m z)) [
       | inl e ↦ (let l = before e text items h in (
         l.0,
         l.1 ++ b,

@@ -4,7 +4,6 @@ use Rattle.std.proofs.lemmas.Grind.{common_steps}
 use Rattle.mysql_conversation.specs.declared.packet_kind.Side.{Side}
 use Rattle.mysql_show.specs.Fields.{Said, have_float}
 use Rattle.mysql_recorder.specs.declared.entry.Layout.{Layout}
-use Rattle.mysql_recorder.specs.declared.entry.Layout.TheVariants as layouts
 use Rattle.mysql_recorder.specs.declared.entry.Notice.{Notice}
 use Rattle.mysql_recorder.specs.Sides.{passed_of}
 use Rattle.mysql_recorder.specs.Entries.{notice_text}

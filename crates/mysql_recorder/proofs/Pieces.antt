@@ -6,7 +6,7 @@ use Rattle.mysql_frames.specs.FrameReader.{ReaderState, HandsOut, HoldsAll}
 use Rattle.mysql_frames.specs.Frames.{Framed}
 use Rattle.mysql_observer.specs.Observed.{Observed}
 use Rattle.mysql_recorder.specs.Frames.{AreFrames, NoneComes, IsNumbered}
-use Rattle.mysql_recorder.specs.Shown.{Item, item, placed, Appends, entry_of}
+use Rattle.mysql_recorder.specs.Shown.{Item, item, placed, Appends}
 use Rattle.mysql_recorder.specs.Sides.{Reads}
 use Rattle.mysql_recorder.specs.Streams.{as_sent}
 use Rattle.mysql_recorder.specs.Taken.{ShowsPacket}
@@ -36,7 +36,7 @@ reads_packet side bytes input rest items here s old new p po pn a b c sequence p
         numbered = handed_numbered old.reader new.reader input payload rest h;
         limit = h.limit ∙ sent-limit old.reader input ∙ r.limit;
         observed = subst (λ xs. Observed pn.observer xs) (sym whole) shown.2;
-        written = writes_one p.layout here x a b c r.written (subst (λ y. Appends y (entry_of x) b c) l shown.3);
+        written = writes_one p.layout items here x a b c r.written (subst (λ y. Appends y (placed (items ++ here)) x b c) l shown.3);
       },
     )
 

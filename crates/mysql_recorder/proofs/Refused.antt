@@ -5,12 +5,11 @@ use Rattle.mysql_conversation.specs.declared.packet_kind_tag.PacketKindTag.{Pack
 use Rattle.mysql_conversation.specs.declared.pipeline.SessionError.{SessionError}
 use Rattle.mysql_show.specs.Fields.{Said, said, Bytes, Word, have_float}
 use Rattle.mysql_recorder.specs.declared.entry.Layout.{Layout}
-use Rattle.mysql_recorder.specs.declared.entry.Layout.TheVariants as layouts
 use Rattle.mysql_recorder.specs.declared.entry.Packet.{Packet}
 use Rattle.mysql_recorder.specs.Refused.{expected_fields, refused_fields, refusal_text, MayCome, AreExpected}
 use Rattle.mysql_recorder.specs.Refusals.{AppendsRefused, Expects}
-use Rattle.mysql_recorder.specs.Entries.{AppendsEntry, entry_as, entry_text}
-use Rattle.mysql_recorder.specs.Shown.{Appends}
+use Rattle.mysql_recorder.specs.Entries.{AppendsEntry, Entry, entry_as, entry_text}
+use Rattle.mysql_recorder.specs.Shown.{AppendsFields}
 use Rattle.mysql_observer.specs.declared.observer.Observer.{Observer}
 
 pub expected-append : (a b : List PacketKindTag) → expected_fields (a ++ b) ≡ expected_fields a ++ expected_fields b
@@ -52,12 +51,19 @@ refused_fields_are none first second last begins refused payload n why names a b
     d ∙ ap (λ xs. xs ++ expected_fields names) two ∙ ap (λ x. x ∷ refused ∷ expected_fields names) (e ∙ ap (λ m. said (codes "begins") (Bytes (take m payload))) f)
     ∙ ap (λ x. said (codes "begins") (Bytes (take (min (length payload) 64) payload)) ∷ x ∷ expected_fields names) g
 
--- an entry with these fields
-pub appends : {E : Type 0} (r : Result (Unit {0}) E) (layout : Layout) (p : Packet) (fields : List Said) (before after : List ℕ)
-    → OnOk r (have_float fields ≡ false → after ≡ before ++ entry_text layout (entry_as p) fields) → OnOk r (AppendsEntry layout (entry_as p) fields before after) → OnOk r (Appends layout (entry_as p) before after)
-appends (Ok u) layouts.Lines p fields before after ok shown = (fields, ok, shown)
-appends (Ok u) layouts.Json p fields before after ok shown = (fields, ok, shown)
-appends (Err e) layout p fields before after ok shown = tt
+-- an entry with these fields, which were added to none
+pub appends : {E : Type 0} (Are : List Said → Type 0) (r : Result (Unit {0}) E) (layout : Layout) (p : Packet) (none given fields : List Said) (before after : List ℕ)
+    → none ≡ [] → (more : List Said) × Are more × (given ≡ none ++ more) → fields ≡ given
+    → OnOk r (have_float fields ≡ false → after ≡ before ++ entry_text layout (entry_as p) fields) → OnOk r (AppendsEntry layout (entry_as p) fields before after)
+    → OnOk r (AppendsFields Are layout (entry_as p) before after)
+appends Are (Ok u) layout p none given fields before after e h is ok shown =
+    (fields, subst Are (sym (is ∙ h.2 ∙ ap (λ f. f ++ h.0) e)) h.1, ok, shown)
+appends Are (Err x) layout p none given fields before after e h is ok shown = tt
+
+-- the same entry, whose fields are such too
+pub appends_as : (These Those : List Said → Type 0) (layout : Layout) (entry : Entry) (a b : List ℕ) → ((fields : List Said) → These fields → Those fields)
+    → AppendsFields These layout entry a b → AppendsFields Those layout entry a b
+appends_as These Those layout entry a b turns h = (h.0, turns h.0 h.1, h.2, h.3)
 
 pub appends_refused : {E : Type 0} (r : Result (Unit {0}) E) (all : List PacketKindTag) (layout : Layout) (f : Observer) (p : Packet) (why : SessionError) (before after : List ℕ) (fields : List Said) (names : List PacketKindTag)
     → fields ≡ refused_fields p.payload.now why names → Expects f all names

@@ -30,7 +30,7 @@ server_packets pieces items client server h = of_server [] [] pieces items clien
 pub finishes : (old new : Recording) (before mid after : List ℕ) → Takes old new before mid → new.place ≡ old.place → SaysNothing new.sides mid after → Finishes old new before after
 finishes old new before mid after takes place nothing text items h =
     let p : Piece = piece old.line.side old.line.bytes.items in
-    elim (takes h.pieces items h.stand) as (λ _. (has_lost new ≡ true) ⊎ ((here : List Item) × IsFinished new text (items ++ here) × Writes (layout old) here before after)) [
+    elim (takes h.pieces items h.stand) as (λ _. (has_lost new ≡ true) ⊎ ((here : List Item) × IsFinished new text (items ++ here) × Writes (layout old) items here before after)) [
       | inl e ↦ inl e
       | inr f ↦ inr (
         f.0,
@@ -49,7 +49,7 @@ finishes old new before mid after takes place nothing text items h =
           };
           stand = f.1;
         },
-        subst (λ t. Writes (layout old) f.0 before t) (sym (nothing (h.pieces ++ p ∷ []) (items ++ f.0) f.1)) f.2,
+        subst (λ t. Writes (layout old) items f.0 before t) (sym (nothing (h.pieces ++ p ∷ []) (items ++ f.0) f.1)) f.2,
       )
     ]
 

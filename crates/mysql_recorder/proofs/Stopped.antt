@@ -149,11 +149,11 @@ pub stops_after : (all : List PacketKindTag) (xs : List ℕ) (i : ℕ) (old mid 
     → TextStops all mid e y z → Stops all xs old new e x z
 stops_after all xs i old mid new x y z e first lost same stops text items h =
     elim (first text items h) as (λ _. (recorded.has_lost new ≡ true) ⊎ IfRefused e (λ why. (front : List ℕ) × (back : List ℕ) × (here : List Item) × (m : List ℕ) × (xs ≡ front ++ back)
-    × Writes (recorded.layout old) here x m × StopsAfter all (recorded.layout old) (text ++ front) (items ++ here) why m z)) [
+    × Writes (recorded.layout old) items here x m × StopsAfter all (recorded.layout old) (text ++ front) (items ++ here) why m z)) [
       | inl f ↦ inl (lost f)
       | inr f ↦ inr (if_refused e (λ why. StopsAfter all (recorded.layout mid) (text ++ take i xs) (items ++ f.0) why y z)
           (λ why. (front : List ℕ) × (back : List ℕ) × (here : List Item) × (m : List ℕ) × (xs ≡ front ++ back)
-          × Writes (recorded.layout old) here x m × StopsAfter all (recorded.layout old) (text ++ front) (items ++ here) why m z)
+          × Writes (recorded.layout old) items here x m × StopsAfter all (recorded.layout old) (text ++ front) (items ++ here) why m z)
           (λ why s. (take i xs, drop i xs, f.0, y, sym (take-append-drop i xs), f.2, subst (λ l. StopsAfter all l (text ++ take i xs) (items ++ f.0) why y z) same s))
           (stops (text ++ take i xs) (items ++ f.0) f.1))
     ]

@@ -25,13 +25,13 @@ use Rattle.mysql_recorder.specs.declared.recording.Recording.{Recording}
 
 -- an entry for each packet that ends in the input, except for these bytes, which are pending
 abbrev pub Shows : Layout → List ℕ → List Heard → List ℕ → Type 0
-Shows layout input waits text = (items : List Item) × IsShown input waits items × Writes layout items [] text
+Shows layout input waits text = (items : List Item) × IsShown input waits items × Writes layout [] items [] text
 
 -- After a prefix of the input something is lost, and the packets up to there are shown; what was shown stays.
 abbrev pub LostIn : List PacketKindTag → Layout → ℕ → (List ℕ → Type 0) → List ℕ → List ℕ → Type 0
 LostIn all layout limit ends input text =
     (front : List ℕ) × (back : List ℕ) × (items : List Item) × (shown : List ℕ) × (mid : List ℕ) × (input ≡ front ++ back)
-    × Writes layout items [] shown × IsLost all layout limit (ends back) front items shown mid × Stays mid text
+    × Writes layout [] items [] shown × IsLost all layout limit (ends back) front items shown mid × Stays mid text
 
 -- a line ends there: at its line feed, or at the end of the input
 abbrev pub IsLineEnd : List ℕ → Type 0
@@ -45,7 +45,7 @@ IsMade all layout limit input text = ((waits : List Heard) × Shows layout input
 abbrev pub RefusedIn : List PacketKindTag → Layout → SessionError → List ℕ → List ℕ → Type 0
 RefusedIn all layout why input text =
     (front : List ℕ) × (back : List ℕ) × (items : List Item) × (mid : List ℕ) × (input ≡ front ++ back)
-    × Writes layout items [] mid × StopsAfter all layout front items why mid text
+    × Writes layout [] items [] mid × StopsAfter all layout front items why mid text
 
 -- the output begins with that of a prefix of the input
 abbrev pub BeginsMade : List PacketKindTag → Layout → ℕ → List ℕ → List ℕ → Type 0

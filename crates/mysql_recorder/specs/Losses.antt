@@ -37,7 +37,7 @@ AreTooLong limit bytes = (number : ℕ) × IsNumberOf number bytes × ((more : L
 -- These bytes are the frames of some packets, which are expected and shown, and then frames of no payload within the limit.
 abbrev pub BreaksIn : Layout → ℕ → Side → List ℕ → List Item → List ℕ → List ℕ → Type 0
 BreaksIn layout limit side bytes items before after =
-    (here : List Item) × (left : List ℕ) × AreFrom side here × AreFrames here bytes left × Writes layout here before after
+    (here : List Item) × (left : List ℕ) × AreFrom side here × AreFrames here bytes left × Writes layout items here before after
     × IsSessionBeginning (placed (items ++ here)) × (AreNoFrames left ⊎ AreTooLong limit left)
 
 -- the frames are malformed, or a packet is unexpected, and is shown
@@ -107,4 +107,4 @@ IsAtFeed bytes = (rest : List ℕ) × (bytes ≡ 10 ∷ rest)
 abbrev pub Loses : Result (Unit {0}) RecordingError → List PacketKindTag → List ℕ → Recording → Recording → List ℕ → List ℕ → Type 0
 Loses r all input old new before after = has_lost new ≡ true → (text : List ℕ) (items : List Item) → Recorded old text items
     → (front : List ℕ) × (back : List ℕ) × (here : List Item) × (shown : List ℕ) × (mid : List ℕ) × (input ≡ front ++ back)
-    × Writes (layout old) here before shown × IsLost all (layout old) (longest old) (IsAtFeed back) (text ++ front) (items ++ here) shown mid × OnOk r (Stays mid after)
+    × Writes (layout old) items here before shown × IsLost all (layout old) (longest old) (IsAtFeed back) (text ++ front) (items ++ here) shown mid × OnOk r (Stays mid after)

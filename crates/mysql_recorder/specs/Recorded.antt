@@ -85,12 +85,12 @@ pub record IsResynced (old new : Recording) (agreed : Agreed) : Type 0 where
 -- after this text something is lost; or it is read too, and an entry for each of its packets is appended
 abbrev pub GoesOn : List ℕ → Recording → Recording → List ℕ → List ℕ → Type 0
 GoesOn more old new before after = (text : List ℕ) (items : List Item) → Recorded old text items
-    → (has_lost new ≡ true) ⊎ ((here : List Item) × Recorded new (text ++ more) (items ++ here) × Writes (layout old) here before after)
+    → (has_lost new ≡ true) ⊎ ((here : List Item) × Recorded new (text ++ more) (items ++ here) × Writes (layout old) items here before after)
 
 -- the same for the pending part of a line, which is consumed
 abbrev pub Takes : Recording → Recording → List ℕ → List ℕ → Type 0
 Takes old new before after = (pieces : List Piece) (items : List Item) → Stand old.sides pieces items
-    → (has_lost new ≡ true) ⊎ ((here : List Item) × Stand new.sides (pieces ++ sides.piece old.line.side old.line.bytes.items ∷ []) (items ++ here) × Writes (layout old) here before after)
+    → (has_lost new ≡ true) ⊎ ((here : List Item) × Stand new.sides (pieces ++ sides.piece old.line.side old.line.bytes.items ∷ []) (items ++ here) × Writes (layout old) items here before after)
 
 -- The text has bytes of both sides. They come in pieces of one side each, except for these last ones, and the packets are those that end in
 -- the pieces; the rest of either stream contains none.
@@ -114,4 +114,4 @@ pub record IsFinished (r : Recording) (text : List ℕ) (items : List Item) : Ty
 -- at the end of the text something is lost, or an entry is appended for each packet in its rest
 abbrev pub Finishes : Recording → Recording → List ℕ → List ℕ → Type 0
 Finishes old new before after = (text : List ℕ) (items : List Item) → Recorded old text items
-    → (has_lost new ≡ true) ⊎ ((here : List Item) × IsFinished new text (items ++ here) × Writes (layout old) here before after)
+    → (has_lost new ≡ true) ⊎ ((here : List Item) × IsFinished new text (items ++ here) × Writes (layout old) items here before after)

@@ -26,7 +26,7 @@ pub record Reads (side : Side) (piece left : List ℕ) (items here : List Item) 
   pub numbered : IsNumbered new.reader
   pub limit : new.reader.limit ≡ old.reader.limit
   pub observed : Observed after.observer (placed (items ++ here))
-  pub written : Writes before.layout here text_before text_after
+  pub written : Writes before.layout items here text_before text_after
 
 abbrev pub layout : Sides → Layout
 layout s = s.packets.layout
@@ -107,7 +107,7 @@ pub record IsResynced (s : Sides) (agreed : Agreed) (before : ℕ) : Type 0 wher
 -- after these pieces something is lost; or they came too, and an entry for each of their packets is appended
 abbrev pub GoesOn : List Piece → Sides → Sides → List ℕ → List ℕ → Type 0
 GoesOn more old new before after = (pieces : List Piece) (items : List Item) → Stand old pieces items
-    → (has_lost new ≡ true) ⊎ ((here : List Item) × Stand new (pieces ++ more) (items ++ here) × Writes (layout old) here before after)
+    → (has_lost new ≡ true) ⊎ ((here : List Item) × Stand new (pieces ++ more) (items ++ here) × Writes (layout old) items here before after)
 
 abbrev pub piece : Side → List ℕ → Piece
 piece side bytes = record { side = side; bytes = bytes }

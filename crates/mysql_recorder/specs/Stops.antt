@@ -23,7 +23,7 @@ use Rattle.mysql_recorder.specs.declared.sides.Sides.{Sides}
 abbrev pub StopsIn : List PacketKindTag → Layout → Side → List ℕ → List Item → SessionError → List ℕ → List ℕ → Type 0
 StopsIn all layout side bytes items why before after =
     (here : List Item) × (sequence : ℕ) × (payload : List ℕ) × (next : ℕ) × (left : List ℕ) × (rest : List ℕ) × (mid : List ℕ)
-    × AreFrom side here × AreFrames here bytes left × Framed sequence payload next left rest × Writes layout here before mid
+    × AreFrom side here × AreFrames here bytes left × Framed sequence payload next left rest × Writes layout items here before mid
     × IsSessionBeginning (placed (items ++ here)) × ShowsRefused all layout side sequence payload (placed (items ++ here)) why mid after
 
 -- in a piece of a side
@@ -50,4 +50,4 @@ TextStops all r e before after = (text : List ℕ) (items : List Item) → Recor
 abbrev pub Stops : List PacketKindTag → List ℕ → Recording → Recording → RecordingError → List ℕ → List ℕ → Type 0
 Stops all input old new e before after = (text : List ℕ) (items : List Item) → Recorded old text items
     → (has_lost new ≡ true) ⊎ IfRefused e (λ why. (front : List ℕ) × (back : List ℕ) × (here : List Item) × (mid : List ℕ) × (input ≡ front ++ back)
-    × Writes (recorded.layout old) here before mid × StopsAfter all (recorded.layout old) (text ++ front) (items ++ here) why mid after)
+    × Writes (recorded.layout old) items here before mid × StopsAfter all (recorded.layout old) (text ++ front) (items ++ here) why mid after)

@@ -1,30 +1,34 @@
 //! The session changes of an OK packet, as fields.
 
+ghost use Rattle.std.specs.Prelude.{◌≡◌, ◌++◌, OnOk};
+ghost use Rattle.mysql_session.specs.SessionStateChangeRef.{change_of};
+ghost use Rattle.mysql_recorder.specs.ChangeFields as spec;
+
 use crate::values::fault_name;
 use mysql_replies::OkPacketRef;
 use mysql_session::{ChangeRef, SystemVariablesRef};
 use mysql_show::Field;
-use mysql_wire::FaultOf;
 use std::alloc::AllocError;
 
 /// Appends the changes of the session, as servers send them.
 pub(crate) fn append_changes<'p>(
     ok: &OkPacketRef<'p>,
     fields: &mut Vec<Field<'p>>,
-) -> Result<(), AllocError> {
+) -> Result<(), AllocError>
+    ensures ok { OnOk result (spec.AppendsChanges ok.now fields.old.items fields.new.items) }
+{
     for change in ok.session_state_changes() {
         match change {
             Ok(change) => append_change(change.into_change(), fields)?,
-            Err(fault) => {
-                let fault = FaultOf::from(fault);
-                fields.push(Field::word("refused", fault_name(&fault)))?;
-            }
+            Err(fault) => fields.push(Field::word("refused", fault_name(&fault)))?,
         }
     }
     Ok(())
 }
 
-fn append_change<'p>(change: ChangeRef<'p>, fields: &mut Vec<Field<'p>>) -> Result<(), AllocError> {
+fn append_change<'p>(change: ChangeRef<'p>, fields: &mut Vec<Field<'p>>) -> Result<(), AllocError>
+    ensures ok { OnOk result (fields.new.items ≡ fields.old.items ++ spec.change_fields (change_of change.entry)) }
+{
     let field = match change {
         ChangeRef::IsTracked(is_tracked) => Field::flag("state_changed", is_tracked),
         ChangeRef::Schema(schema) => Field::bytes("schema", schema),
@@ -41,7 +45,9 @@ fn append_change<'p>(change: ChangeRef<'p>, fields: &mut Vec<Field<'p>>) -> Resu
 fn append_variables<'p>(
     variables: SystemVariablesRef<'p>,
     fields: &mut Vec<Field<'p>>,
-) -> Result<(), AllocError> {
+) -> Result<(), AllocError>
+    ensures ok { OnOk result (fields.new.items ≡ fields.old.items ++ spec.variable_fields variables.entry) }
+{
     for variable in variables {
         fields.push(Field::bytes("variable", variable.name()))?;
         fields.push(Field::bytes("variable_value", variable.value()))?;

@@ -1,5 +1,10 @@
 //! The fields of a client's packet.
 
+ghost use Rattle.std.specs.Prelude.{[], ◌∷◌, ◌≡◌, ◌++◌, List, OnOk};
+ghost use Rattle.mysql_show.specs.Fields.{Said};
+ghost use Rattle.mysql_recorder.specs.ClientFields as spec;
+ghost use Rattle.mysql_recorder.specs.ServerFields.{length_field};
+
 use crate::command_fields::append_command;
 use mysql_observer::ClientPacket;
 use mysql_show::{Field, add_fields, login_fields, ssl_request_fields};
@@ -10,7 +15,9 @@ pub(crate) fn client_fields<'p>(
     alloc: Global,
     packet: &ClientPacket<'p>,
     fields: &mut Vec<Field<'p>>,
-) -> Result<(), AllocError> {
+) -> Result<(), AllocError>
+    ensures ok { OnOk result (fields.new.items ≡ fields.old.items ++ spec.client_fields packet.now) }
+{
     match packet {
         ClientPacket::SslRequest(request) => add_fields(&ssl_request_fields(request), fields),
         ClientPacket::Login(login) => {
@@ -29,14 +36,15 @@ pub(crate) fn client_fields<'p>(
 }
 
 /// Appends a field.
-pub(crate) fn append<'p>(field: Field<'p>, fields: &mut Vec<Field<'p>>) -> Result<(), AllocError> {
+pub(crate) fn append<'p>(field: Field<'p>, fields: &mut Vec<Field<'p>>) -> Result<(), AllocError>
+    ensures ok { OnOk result (fields.new.items ≡ fields.old.items ++ field.entry ∷ []) }
+{
     Ok(fields.push(field)?)
 }
 
 /// Appends the number of bytes.
-pub(crate) fn append_length<'p>(
-    bytes: &[u8],
-    fields: &mut Vec<Field<'p>>,
-) -> Result<(), AllocError> {
+pub(crate) fn append_length<'p>(bytes: &[u8], fields: &mut Vec<Field<'p>>) -> Result<(), AllocError>
+    ensures ok { OnOk result (fields.new.items ≡ fields.old.items ++ length_field bytes.now) }
+{
     append(Field::number("length", bytes.len() as u64), fields)
 }

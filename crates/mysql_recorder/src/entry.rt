@@ -1,4 +1,4 @@
-//! Packets of a recording, and notices between them, as they are shown.
+//! The packets of a recording, and the notices between them, as they are written.
 
 ghost use Rattle.std.specs.Prelude.{◌≡◌, ◌++◌, OnOk, OnErr, string_bytes, false};
 ghost use Rattle.mysql_show.specs.Appended.{Stays};
@@ -9,21 +9,21 @@ use mysql_conversation::Side;
 use mysql_show::{Field, append_lines, append_object};
 use std::alloc::{AllocError, Global};
 
-/// How packets are shown.
+/// How packets are written.
 #[derive(Clone, Copy, Debug, PartialEq, Eq)]
 pub enum Layout {
-    /// A line a packet, `SIDE SEQUENCE KIND`, and a line `name: value` for each field.
+    /// Each packet as a line `SIDE SEQUENCE KIND` and a line `name: value` for each field.
     Lines,
-    /// A JSON object a packet, in a line.
+    /// Each packet as a JSON object on one line.
     Json,
 }
 
-/// A packet: whose it is, its sequence number, the number of its exchange, the name of its kind, and the payload.
+/// A packet: its sender, its sequence number, the number of its exchange, the name of its kind, and the payload.
 #[derive(Clone, Copy)]
 pub(crate) struct Packet<'a> {
-    /// Who sent it.
+    /// The sender.
     pub(crate) side: Side,
-    /// The number of its first frame.
+    /// The sequence number of its first frame.
     pub(crate) sequence: u8,
     /// The number of the command whose exchange it belongs to.
     pub(crate) exchange: u64,
@@ -44,7 +44,7 @@ pub(crate) struct Notice {
     pub(crate) kind: &'static str,
 }
 
-/// The sign of a side: `>` of the client, `<` of the server.
+/// The character of a side: `>` for the client, `<` for the server.
 pub(crate) fn sign_of(side: Side) -> &'static str
     ensures { result.now ≡ spec.sign_of side }
 {

@@ -13,19 +13,19 @@ pub enum RecordingError {
     /// An allocation failed.
     #[error("Memory")]
     Memory,
-    /// The input has a line that is none of a recording's.
+    /// The input has a malformed line.
     #[error("InvalidInput")]
     Line,
     /// A frame has an unexpected sequence number.
     #[error("OutOfOrder")]
     OutOfOrder,
-    /// A payload is longer than the limit.
+    /// A payload exceeds the limit.
     #[error("TooLong")]
     TooLong,
-    /// Bytes are missing before it is known what both sides agreed on.
+    /// Bytes are missing before both sides have agreed on capabilities.
     #[error("Missing")]
     Missing,
-    /// A packet is unexpected before the login is done: it is the last one that is shown.
+    /// A packet is unexpected before the login is done; it is the last packet that is shown.
     #[error("refused")]
     Refused(SessionError),
 }

@@ -9,15 +9,15 @@ ghost use Rattle.mysql_recorder.specs.Recorded.{Recorded, IsShown};
 ghost use Rattle.mysql_recorder.specs.Shown.{Item, placed};
 ghost use Rattle.mysql_recorder.specs.declared.recording.Recording as recording;
 
-/// The text that a recording has read is bytes of both sides, and it has shown the packets that end in them; they are the
-/// beginning of a session by the grammar.
+/// The text that a recording has read is bytes of both sides, and the recording has shown the packets that end
+/// in them; these are the beginning of a session in the grammar.
 #[tactic(auto, using(crate::proofs::Seen::shown))]
 pub fn what_a_recording_has_shown()
     ensures packets { (r : recording.Recording) (text : List ℕ) (items : List Item) → Recorded r text items → (waits : List Heard) × IsShown text waits items }
     ensures session { (r : recording.Recording) (text : List ℕ) (items : List Item) → Recorded r text items → IsSessionBeginning (placed items) }
 {}
 
-/// The packets that end in pieces of both sides are, of each side, those whose frames its bytes are.
+/// The packets that end in pieces of both sides are, for each side, those whose frames its bytes are.
 #[tactic(auto, using(crate::proofs::Seen::sides))]
 pub fn packets_that_end_in_pieces_are_of_their_streams()
     ensures client { (pieces : List Piece) (items : List Item) (client server : List ℕ) → ComeIn [] [] pieces items client server

@@ -1,4 +1,4 @@
-//! Recordings: what both sides of a connection sent, packet by packet.
+//! Recordings: the bytes that both sides of a connection sent, shown packet by packet.
 #![tactic(auto)]
 
 mod change_fields;

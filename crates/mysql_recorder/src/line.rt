@@ -1,8 +1,9 @@
-//! The lines that a recording is given by.
+//! The lines of a recording.
 //!
-//! A line is a piece of one side's stream, in hexadecimal: after `>` for the client, after `<` for the server. The output of
-//! `tshark -z follow,tcp,raw` is read too: lower-case digits at the start of a line are the client's, after a tab the server's,
-//! and its other lines (`===`, `Follow:`, `Filter:`, `Node`) are ignored, as are empty lines and those that begin with `#`.
+//! A line is a piece of one side's stream, in hexadecimal: after `>` for the client, after `<` for the server.
+//! The output of `tshark -z follow,tcp,raw` is read too: lower-case digits at the start of a line are the
+//! client's, after a tab the server's, and its other lines (`===`, `Follow:`, `Filter:`, `Node`) are ignored,
+//! as are empty lines and those that begin with `#`.
 
 ghost use Rattle.std.specs.Prelude.{◌≡◌, ℕ, ◌≤◌, List, [], ◌∷◌, ◌++◌, IfOk, IfSome, None, Some, MatchResult};
 ghost use Rattle.mysql_recorder.specs.Lines as spec;
@@ -11,12 +12,12 @@ ghost use Rattle.mysql_recorder.specs.declared.line.Place.TheVariants as variant
 use mysql_conversation::Side;
 use thiserror::Error;
 
-/// A byte that may not come at its place in a line.
+/// A byte that is not allowed at its position in a line.
 #[derive(Clone, Copy, Debug, PartialEq, Eq, Error)]
 #[error("malformed line of a recording")]
 pub struct LineError;
 
-/// The place in a line.
+/// The position in a line.
 #[derive(Clone, Copy, Debug, PartialEq, Eq)]
 pub(crate) enum Place {
     /// At its beginning.
@@ -25,7 +26,7 @@ pub(crate) enum Place {
     Between(Side),
     /// After the first digit of a byte.
     Half(Side, u8),
-    /// In a line that says nothing.
+    /// In a line that is ignored.
     Silent,
 }
 
@@ -34,7 +35,7 @@ pub(crate) enum Place {
 pub(crate) enum Said {
     /// A byte of a side's stream.
     Byte(Side, u8),
-    /// The line of a side.
+    /// The end of a side's line.
     End,
 }
 
@@ -99,7 +100,7 @@ impl Place {
     }
 }
 
-/// The place after a line's first byte.
+/// Returns the position after a line's first byte.
 fn begun_by(byte: u8) -> Result<Place, LineError>
     ensures begins { IfOk result (λ place. (line : List ℕ) (before : List spec.Heard) → spec.Stands variants.Start line before → spec.Passes None byte line before place) }
     ensures place { MatchResult result (λ place. spec.begun_by byte ≡ Some place) (λ e. spec.begun_by byte ≡ None) }
@@ -116,7 +117,7 @@ fn begun_by(byte: u8) -> Result<Place, LineError>
     }
 }
 
-/// The place after one more byte of a side's line. Spaces are allowed between two bytes of a piece.
+/// Returns the position after one more byte of a side's line. Spaces are allowed between two bytes of a piece.
 fn after_byte(side: Side, byte: u8) -> Result<Place, LineError>
     ensures goes_on { IfOk result (λ place. (line : List ℕ) (before : List spec.Heard) → spec.Stands (variants.Between side) line before → spec.Stands place (line ++ byte ∷ []) before) }
     ensures side { IfOk result (λ place. spec.IsOfSide side place) }

@@ -17,12 +17,12 @@ pub(crate) enum Loss {
 }
 
 impl Loss {
-    /// Whether the capture lacks bytes.
+    /// Whether bytes are missing in the capture.
     pub(crate) fn is_missing(self) -> bool {
         matches!(self, Loss::Missing(_))
     }
 
-    /// The notice of a loss.
+    /// The notice of a loss, as a field.
     pub(crate) fn field(self) -> Field<'static> {
         match self {
             Loss::Missing(count) => Field::number("missing", count),
@@ -33,7 +33,7 @@ impl Loss {
     }
 }
 
-/// The number of bytes that say whether a line begins with a command.
+/// The number of bytes that determine whether a line begins with a command.
 pub(crate) const HEAD: usize = 5;
 
 /// Whether a line of the client begins with a command: a frame with the number 0, whose first byte is a command's.

@@ -1,7 +1,7 @@
-//! The marks of bytes that a capture lacks.
+//! The marks for bytes that are missing in a capture.
 //!
-//! If a segment of a stream is missing in the capture, `tshark` writes a line in its place: in hexadecimal, the text `[1460
-//! bytes missing in capture file]` and a zero byte.
+//! If a segment of a stream is missing in the capture, `tshark` writes a line instead of it: in hexadecimal,
+//! the text `[1460 bytes missing in capture file]` and a zero byte.
 
 ghost use Rattle.std.specs.Prelude.{◌≡◌, ◌<◌, ◌≤◌, ℕ, IfSome, IfNone, drop};
 ghost use Rattle.mysql_recorder.specs.Marks as spec;
@@ -12,7 +12,7 @@ const BEFORE: u8 = b'[';
 /// The text after the number.
 const AFTER: &[u8] = b" bytes missing in capture file]\0";
 
-/// The maximum number of digits: any number with so few fits in 64 bits.
+/// The maximum number of digits: a number with this many digits fits in 64 bits.
 const DIGITS: usize = 19;
 
 /// Parses up to 19 digits at the front as a number, and returns it with the rest of the text.
@@ -51,7 +51,7 @@ pub(crate) fn missing_of(line: &[u8]) -> Option<u64>
     }
 }
 
-/// Whether a line that begins like this may be a mark. No payload ends with such bytes: its length would exceed 8,000.
+/// Whether a line that begins with these bytes may be a mark. No payload ends with them: its length would exceed 8,000.
 pub(crate) fn may_be_mark(front: &[u8]) -> bool {
     match front {
         [] => true,

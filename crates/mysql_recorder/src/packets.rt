@@ -14,7 +14,8 @@ ghost use Rattle.mysql_conversation.specs.declared.pipeline.SessionError.TheVari
 ghost use Rattle.mysql_recorder.specs.Reasons.{IsReason};
 ghost use Rattle.mysql_recorder.specs.Refused.{MayCome, ShowsRefused, expected_fields, refusal_text};
 ghost use Rattle.mysql_recorder.specs.Refusals.{AppendsRefused, Expects, IfLine, IfRefused, Refuses};
-ghost use Rattle.mysql_recorder.specs.Shown.{Appends};
+ghost use Rattle.mysql_recorder.specs.Shown.{AppendsFields};
+ghost use Rattle.mysql_recorder.specs.RecordFields.{AreFields};
 ghost use Rattle.mysql_recorder.specs.Entries.{notice_text};
 ghost use Rattle.mysql_recorder.specs.Sides.{IsAtRest};
 ghost use Rattle.mysql_recorder.specs.Steps.{notice_exchange};
@@ -25,7 +26,7 @@ ghost use Rattle.mysql_recorder.specs.declared.packets.Taken.TheVariants as take
 
 use crate::entry::{Layout, Notice, Packet};
 use crate::error::RecordingError;
-use crate::fields::{append_client, append_server};
+use crate::fields::append_fields;
 use crate::sums::Sums;
 use crate::unheard::{Front, Unheard};
 use mysql_conversation::{PacketKind, PacketKindTag, SessionError, Side};
@@ -38,7 +39,8 @@ use std::alloc::{AllocError, Global};
 /// The number of bytes that are shown of an unexpected packet.
 const BEGINNING: usize = 64;
 
-/// The maximum number of statements, of types of their parameters and columns in all, and of types of the columns of a result.
+/// The maximum number of statements, of types of their parameters and columns in total, and of types of the
+/// columns of a result.
 const STATEMENTS: usize = 4096;
 
 const TYPES: usize = 262_144;
@@ -46,7 +48,7 @@ const TYPES: usize = 262_144;
 /// The maximum length of a pipelined execution that is kept.
 const EARLY_BYTES: usize = 65_536;
 
-/// The limits of what is kept of a connection in which as many commands may wait.
+/// Returns the limits for a connection in which `waiting` commands may wait.
 fn limits(waiting: usize) -> ObserverLimits
     ensures { result.waiting ≡ waiting }
 {
@@ -68,15 +70,15 @@ fn limits(waiting: usize) -> ObserverLimits
 /// The outcome of a packet.
 #[derive(Clone, Copy)]
 pub(crate) enum Taken {
-    /// It is shown.
+    /// The packet is shown.
     Shown,
-    /// It is unexpected, and shown as such. Both sides agreed on these capabilities.
+    /// The packet is unexpected, and shown as unexpected. Both sides agreed on these capabilities.
     Refused(SessionCapabilities),
 }
 
 /// The packets of a connection, which are shown one by one.
 ///
-/// It keeps what an observer does, and the sums.
+/// It keeps what an observer keeps, and the sums.
 #[derive(Drop)]
 pub(crate) struct Packets {
     alloc: Global,
@@ -90,7 +92,7 @@ pub(crate) struct Packets {
     sums: Option<Sums>,
 }
 
-/// The name of an error.
+/// The name of a [`SessionError`].
 fn refusal_name(why: SessionError) -> &'static str
     ensures { result.now ≡ refusal_text why }
 {
@@ -104,7 +106,8 @@ fn refusal_name(why: SessionError) -> &'static str
 }
 
 impl Packets {
-    /// None came of a connection from its greeting on, in which as many commands may wait.
+    /// Creates the state before the first packet of a connection, from its greeting on, in which `waiting`
+    /// commands may wait.
     pub(crate) fn new(alloc: Global, layout: Layout, waiting: usize) -> Self
         ensures observed { Observed result.observer [] }
         ensures layout { result.layout ≡ layout }
@@ -143,7 +146,7 @@ impl Packets {
         self.is_deciphered = true;
     }
 
-    /// Appends the sums, where they are asked for.
+    /// Appends the sums, if they are requested.
     pub(crate) fn append_sums(&self, out: &mut String) -> Result<(), AllocError>
         ensures none { is_some self.now.sums ≡ false → (result ≡ Ok tt) × (string_bytes out.new ≡ string_bytes out.old) }
         ensures sums { is_some self.now.sums ≡ true → OnOk result (AppendsSomeSums self.now.layout (string_bytes out.old) (string_bytes out.new)) }
@@ -155,7 +158,7 @@ impl Packets {
         }
     }
 
-    /// The capabilities that both sides agreed on, after the login.
+    /// The agreed capabilities, after the login.
     pub(crate) fn agreed(&self) -> Option<SessionCapabilities> {
         self.observer.agreed()
     }
@@ -173,7 +176,7 @@ impl Packets {
         self.unheard.only()
     }
 
-    /// Goes on at the next command, under what both sides agreed on: midway, or after a loss.
+    /// Continues at the next command under the agreed capabilities, in the middle of a connection or after a loss.
     pub(crate) fn resume(&mut self, agreed: SessionCapabilities)
         ensures resumed { Resumed self.new.observer agreed (last_exchange self.old.observer) [] }
         ensures layout { self.new.layout ≡ self.old.layout }
@@ -217,7 +220,7 @@ impl Packets {
         notice.append(self.alloc, self.layout, &[field], out)
     }
 
-    /// The last exchange; if the client's stream is resynchronized, the one that begins.
+    /// The number of the last exchange; if the client's stream is resynchronized, that of the exchange that begins.
     fn notice_exchange(&self, kind: &str, side: Side) -> u64
         ensures { result ≡ notice_exchange kind.now side (last_exchange self.now.observer) }
     {
@@ -227,7 +230,7 @@ impl Packets {
             .saturating_add(u64::from(is_next))
     }
 
-    /// Takes a packet, and appends what it says.
+    /// Takes a packet, and appends its entry.
     pub(crate) fn take(
         &mut self,
         side: Side,
@@ -270,7 +273,7 @@ impl Packets {
         }
     }
 
-    /// Which packet it is. After a request for TLS, continues with the decrypted contents, if the recording has them.
+    /// Classifies a packet. After a request for TLS, continues with the decrypted contents, if the recording has them.
     fn next(&mut self, side: Side, payload: &[u8]) -> Result<ObservedPacket, SessionError>
         // What came has now this packet, of this kind and exchange, at its end.
         ensures taken { IfOk result (λ x. (items : List Numbered) → Observed self.old.observer items → Observed self.new.observer (items ++ place side payload.now x.kind x.exchange ∷ [])) }
@@ -327,7 +330,7 @@ impl Packets {
         is_between: bool,
         out: &mut String,
     ) -> Result<(), AllocError>
-        ensures ok { OnOk result (Appends self.old.layout (entry_as packet.now) (string_bytes out.old) (string_bytes out.new)) }
+        ensures ok { OnOk result (AppendsFields (λ fields. AreFields self.old.observer packet.now.side kind packet.now.payload.now fields) self.old.layout (entry_as packet.now) (string_bytes out.old) (string_bytes out.new)) }
         ensures observer { self.new.observer ≡ self.old.observer }
         ensures deciphered { self.new.is_deciphered ≡ self.old.is_deciphered }
         ensures layout { self.new.layout ≡ self.old.layout }
@@ -339,10 +342,28 @@ impl Packets {
         let is_early = !is_between && matches!(kind, PacketKind::Command(_));
         self.unheard
             .hear(packet.side, kind, is_early, packet.payload);
-        match packet.side {
-            Side::Client => self.show_client(packet, kind, out),
-            Side::Server => self.show_server(packet, kind, out),
-        }
+        self.show_fields(packet, kind, out)
+    }
+
+    /// Appends a packet with its fields.
+    fn show_fields(
+        &self,
+        packet: &Packet<'_>,
+        kind: PacketKind,
+        out: &mut String,
+    ) -> Result<(), AllocError>
+        ensures ok { OnOk result (AppendsFields (λ fields. AreFields self.now.observer packet.now.side kind packet.now.payload.now fields) self.now.layout (entry_as packet.now) (string_bytes out.old) (string_bytes out.new)) }
+    {
+        let mut fields = Vec::new(self.alloc);
+        append_fields(
+            self.alloc,
+            &self.observer,
+            packet.side,
+            kind,
+            packet.payload,
+            &mut fields,
+        )?;
+        packet.append(self.alloc, self.layout, fields.as_slice(), out)
     }
 
     /// Appends an unexpected packet, with its first bytes, and the kinds that may come next.
@@ -396,43 +417,5 @@ impl Packets {
     {
         self.observer.may_receive(Side::Client, name)
             || self.observer.may_receive(Side::Server, name)
-    }
-
-    fn show_client(
-        &self,
-        packet: &Packet<'_>,
-        kind: PacketKind,
-        out: &mut String,
-    ) -> Result<(), AllocError>
-        ensures ok { OnOk result (Appends self.now.layout (entry_as packet.now) (string_bytes out.old) (string_bytes out.new)) }
-    {
-        let mut fields = Vec::new(self.alloc);
-        append_client(
-            self.alloc,
-            &self.observer,
-            kind,
-            packet.payload,
-            &mut fields,
-        )?;
-        packet.append(self.alloc, self.layout, fields.as_slice(), out)
-    }
-
-    fn show_server(
-        &self,
-        packet: &Packet<'_>,
-        kind: PacketKind,
-        out: &mut String,
-    ) -> Result<(), AllocError>
-        ensures ok { OnOk result (Appends self.now.layout (entry_as packet.now) (string_bytes out.old) (string_bytes out.new)) }
-    {
-        let mut fields = Vec::new(self.alloc);
-        append_server(
-            self.alloc,
-            &self.observer,
-            kind,
-            packet.payload,
-            &mut fields,
-        )?;
-        packet.append(self.alloc, self.layout, fields.as_slice(), out)
     }
 }

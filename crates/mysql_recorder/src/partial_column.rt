@@ -1,14 +1,18 @@
-//! A definition of a column that is malformed, as far as it can be read.
+//! A malformed column definition, as far as it can be read.
+
+ghost use Rattle.std.specs.Prelude.{◌≡◌, ◌++◌, List, OnOk};
+ghost use Rattle.mysql_show.specs.Fields.{Said};
+ghost use Rattle.mysql_recorder.specs.RecordFields.{HasFault};
 
 use crate::values::append_refused;
 use mysql_show::Field;
 use mysql_wire::{BytesRepr, FaultOf, LenEnc, ParseBuf};
 use std::alloc::{AllocError, Global};
 
-/// The texts of a definition, which follow its catalog.
+/// The names of a definition's texts, which follow its catalog.
 const TEXTS: [&str; 5] = ["schema", "table", "org_table", "name", "org_name"];
 
-/// The next text, unless it is malformed.
+/// Reads the next text, unless it is malformed.
 fn read_text<'p>(buf: &mut ParseBuf<'p>) -> Option<&'p [u8]> {
     let mut rest = buf.rest();
     let read: Result<ParseBuf<'p>, FaultOf<'_>> = <LenEnc as BytesRepr>::deserialize((), &mut rest);
@@ -28,7 +32,9 @@ pub(crate) fn append_partial_column<'p>(
     payload: &'p [u8],
     fault: &FaultOf<'_>,
     fields: &mut Vec<Field<'p>>,
-) -> Result<(), AllocError> {
+) -> Result<(), AllocError>
+    ensures ok { OnOk result ((more : List Said) × HasFault fault.now more × (fields.new.items ≡ fields.old.items ++ more)) }
+{
     let [3, b'd', b'e', b'f', texts @ ..] = payload else {
         return append_refused(fault, payload, fields);
     };

@@ -1,5 +1,8 @@
 //! A query whose attributes are malformed, as far as it can be read.
 
+ghost use Rattle.std.specs.Prelude.{OnOk};
+ghost use Rattle.mysql_recorder.specs.RecordFields.{BeginsWith};
+
 use crate::values::{append_attributes, append_unread};
 use mysql_commands::read_query_attributes;
 use mysql_conversation::PacketKind;
@@ -9,15 +12,17 @@ use mysql_wire::command_code::COM_QUERY;
 use mysql_wire::{CapabilityFlags, Flags, ParseBuf};
 use std::alloc::{AllocError, Global};
 
-/// Appends what can be read of a query that is refused: the attributes before the first that is malformed, and the bytes from there on, in
-/// which the text is.
+/// Appends the readable part of a malformed query: the attributes before the first malformed one, and the bytes
+/// from there on, which contain the text.
 pub(crate) fn append_partial_query<'p>(
     alloc: Global,
     agreed: Option<SessionCapabilities>,
     kind: PacketKind,
     payload: &'p [u8],
     fields: &mut Vec<Field<'p>>,
-) -> Result<(), AllocError> {
+) -> Result<(), AllocError>
+    ensures ok { OnOk result (BeginsWith fields.old.items fields.new.items) }
+{
     let Some(agreed) = agreed else {
         return Ok(());
     };

@@ -18,19 +18,19 @@ use mysql_conversation::{PacketKindTag, Side};
 use mysql_frames::FrameError;
 use mysql_replies::SessionCapabilities;
 
-/// The outcome of a piece of a stream, and the number of its bytes that are left.
+/// The outcome of a piece of a stream, and the number of its remaining bytes.
 #[derive(Clone, Copy)]
 pub(crate) enum Came {
-    /// Its packets, up to its end.
+    /// The packets up to the end of the piece.
     Whole,
     /// An unexpected packet. Both sides agreed on these capabilities.
     Refused(SessionCapabilities, usize),
-    /// Bytes that are no frames.
+    /// Bytes that are not the expected frames.
     NoFrames(FrameError, usize),
 }
 
-/// Takes a piece of a stream, and appends its packets. The answer to the first of them begins with a frame of the number
-/// `first`.
+/// Takes a piece of a stream, and appends its packets. The answer to the first of them begins with a frame with
+/// the number `first`.
 pub(crate) fn read_packets(
     stream: &mut Stream,
     packets: &mut Packets,

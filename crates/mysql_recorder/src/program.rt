@@ -18,7 +18,7 @@ use mysql_wire::{CapabilityFlags, MariadbCapabilities};
 use std::alloc::{AllocError, Global};
 use std::io::{Read, Write};
 
-/// The longest payload, where the call names none: 64 MiB, as `max_allowed_packet` is by default.
+/// The default for the maximum length of a payload: 64 MiB, the default of `max_allowed_packet`.
 const LONGEST: usize = 64 << 20;
 
 /// The maximum number of pipelined commands.
@@ -35,7 +35,7 @@ const OUT_OF_MEMORY: &[u8] = b"refused: Memory\n";
 struct Call {
     layout: Layout,
     longest: usize,
-    /// Whether sums end the output.
+    /// Whether the output ends with sums.
     sums: bool,
     /// Whether the recording contains the decrypted contents of TLS.
     is_deciphered: bool,
@@ -43,7 +43,7 @@ struct Call {
     agreed: Option<SessionCapabilities>,
 }
 
-/// The call that the words after the command's name give, unless it is a bad one.
+/// Parses the words after the command's name; a bad call is `None`.
 fn call_of(words: &[String]) -> Option<Call>
     ensures { result ≡ calls.call_of (map string_bytes words.now) }
 {
@@ -75,7 +75,7 @@ fn call_of(words: &[String]) -> Option<Call>
     if words.len() <= 6 { Some(call) } else { None }
 }
 
-/// Flags in hexadecimal.
+/// Parses flags in hexadecimal.
 #[tactic(auto, using(crate::proofs::Calls::numbers))]
 fn flags_of(digits: &str) -> Option<u32>
     ensures { result ≡ calls.number_in 16 (2 ^ 32) digits.now }
@@ -94,16 +94,16 @@ fn agreed_of(caps: Option<u32>, mariadb: u32) -> Option<SessionCapabilities>
     })
 }
 
-/// Reads a recording, and writes each packet once it is complete. Returns the status.
+/// Reads a recording, writes each packet once it is complete, and returns the exit status.
 ///
 /// | Status | Meaning |
 /// |---|---|
 /// | 0 | the input is read to its end |
-/// | 1 | refused, and the last line says why; or something was lost, and it is said where |
-/// | 2 | a bad call; the one line is its usage |
+/// | 1 | the recording is refused, and the last line says why; or something was lost, and a notice says where |
+/// | 2 | a bad call; the only line is the usage |
 /// | 3 | a read or a write failed |
 ///
-/// It keeps no more of the input than a payload of each side and the commands that wait.
+/// It keeps no more of the input than one payload of each side and the waiting commands.
 pub fn run<R: Read, W: Write>(alloc: Global, words: &[String], reader: &mut R, writer: &mut W) -> u8
     ensures { spec.IsRun PacketKindTag.ALL (map string_bytes words.now) (R.remaining reader.old) (R.remaining reader.new) (W.contents writer.old) (W.contents writer.new) result }
 {
@@ -135,7 +135,7 @@ pub fn refuse_memory<W: Write>(writer: &mut W) -> u8
     end(writer, OUT_OF_MEMORY, 1)
 }
 
-/// The recording for these arguments, without input yet.
+/// Creates the recording for these arguments, without input yet.
 fn begun(alloc: Global, call: Call) -> Recording
     ensures recorded { call.agreed ≡ None → Recorded result [] [] }
     ensures layout { layout result ≡ call.layout }
@@ -254,7 +254,7 @@ fn finish<W: Write>(
     }
 }
 
-/// The status of an input that is read to its end.
+/// The status for an input that is read to its end.
 fn lost_status(recording: &Recording) -> u8
     ensures { result ≡ spec.lost_status (has_lost recording.now) }
 {
@@ -354,7 +354,7 @@ fn end_with_sums<W: Write>(
     }
 }
 
-/// Writes the text, and returns the status, or 3 if a write failed: a front of the text is written then.
+/// Writes the text, and returns the status, or 3 if a write failed, after a part of the text is written.
 fn end<W: Write>(writer: &mut W, text: &[u8], status: u8) -> u8
     ensures { IsWritten (record { text = text.now; status = status }) (W.contents writer.old) (W.contents writer.new) result }
 {

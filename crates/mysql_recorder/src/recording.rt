@@ -1,4 +1,4 @@
-//! A recording: what both sides of a connection sent.
+//! A recording: the bytes that both sides of a connection sent.
 
 ghost use Rattle.std.specs.Prelude.{◌≡◌, ◌↔◌, ◌∷◌, [], ℕ, List, IfErr, IsTrue, None, OnOk, Some, false, true, string_bytes};
 ghost use Rattle.mysql_show.specs.Appended.{Stays};
@@ -21,12 +21,12 @@ use mysql_replies::SessionCapabilities;
 use std::alloc::{AllocError, Global};
 use std::mem;
 
-/// Reads a recording, which is given in pieces of any size, and shows each packet once its last byte is there.
+/// Reads a recording in pieces of any size, and shows each packet once its last byte has come.
 ///
-/// An unexpected packet, bytes that are not the expected frames, or a mark of missing bytes is shown, and both streams are then
-/// out of step. They are skipped up to the next line of the client that begins with a command, and the next line of the server
-/// that begins with a frame of the number after that command's; a notice says where each stream is resynchronized, and how many
-/// bytes were skipped.
+/// An unexpected packet, bytes that are not the expected frames, or a mark of missing bytes is shown, and both
+/// streams are then out of step. They are skipped up to the next line of the client that begins with a command,
+/// and the next line of the server that begins with a frame with the number after that command's; a notice says
+/// where each stream is resynchronized, and how many bytes were skipped.
 ///
 /// It keeps the incomplete payload of each side, the pipelined commands, and the state of the conversation.
 #[derive(Drop)]
@@ -37,7 +37,7 @@ pub struct Recording {
     sides: Sides,
 }
 
-/// The bytes of a line that aren't taken yet.
+/// The bytes of a line that have not been taken yet.
 #[derive(Drop)]
 struct Line {
     side: Side,
@@ -47,7 +47,8 @@ struct Line {
 }
 
 impl Recording {
-    /// Creates a recording without input, for payloads of at most `longest` bytes, with a limit of pipelined commands.
+    /// Creates a recording without input, with a maximum payload length of `longest` bytes and at most
+    /// `waiting` waiting commands.
     pub fn new(alloc: Global, layout: Layout, longest: usize, waiting: usize) -> Self
         ensures recorded { spec.Recorded result [] [] }
         ensures layout { spec.layout result ≡ layout }
@@ -68,8 +69,8 @@ impl Recording {
         }
     }
 
-    /// Takes up a connection at its next command, under what both sides agreed on: its greeting and its login were not seen. Both
-    /// streams are out of step up to there.
+    /// Starts at the next command of a connection, under the agreed capabilities, if its greeting and its login
+    /// were not recorded. Both streams are out of step up to there.
     pub fn resync(self, agreed: SessionCapabilities) -> Self
         ensures resync { spec.IsResynced self result agreed }
         ensures lost { spec.has_lost result ≡ spec.has_lost self }
@@ -114,7 +115,7 @@ impl Recording {
         recording
     }
 
-    /// Appends the sums, where they are asked for.
+    /// Appends the sums, if they are requested.
     pub fn append_sums(&self, out: &mut String) -> Result<(), AllocError>
         ensures none { spec.has_sums self.now ≡ false → (result ≡ Ok tt) × (string_bytes out.new ≡ string_bytes out.old) }
         ensures sums { spec.has_sums self.now ≡ true → OnOk result (AppendsSomeSums (spec.layout self.now) (string_bytes out.old) (string_bytes out.new)) }
@@ -141,7 +142,7 @@ impl Recording {
         self.sides.has_lost()
     }
 
-    /// Takes a piece of the input, and appends what its packets say.
+    /// Takes a piece of the input, and appends the entries of its packets.
     ///
     /// After an error the recording has taken the packets before the faulty one.
     pub fn push(&mut self, input: &[u8], out: &mut String) -> Result<(), RecordingError>
@@ -165,7 +166,7 @@ impl Recording {
         self.take_rest(out)
     }
 
-    /// Takes what came of the line that is not at its end, where it is no mark.
+    /// Takes the bytes of a line that is not complete, if it is no mark.
     fn take_rest(&mut self, out: &mut String) -> Result<(), RecordingError>
         ensures goes { OnOk result (spec.GoesOn [] self.old self.new (string_bytes out.old) (string_bytes out.new)) }
         ensures lost { spec.has_lost self.old ≡ true → spec.has_lost self.new ≡ true }
@@ -223,14 +224,15 @@ impl Recording {
         Ok(self.sides.say_unheard(out)?)
     }
 
-    /// Whether what came of a line can be taken before its end: it is no mark, and it is known how a line begins.
+    /// Whether the bytes of a line can be taken before its end: it is no mark, and enough of it has come to see
+    /// how it begins.
     fn may_be_taken(&self) -> bool {
         let bytes = self.line.bytes.as_slice();
         !self.line.is_untaken
             || !may_be_mark(bytes) && self.sides.may_be_begun(self.line.side, bytes)
     }
 
-    /// Takes the line that ends.
+    /// Takes a line at its end.
     fn end_line(&mut self, out: &mut String) -> Result<(), RecordingError>
         ensures goes { OnOk result (spec.Takes self.old self.new (string_bytes out.old) (string_bytes out.new)) }
         ensures lost { spec.has_lost self.old ≡ true → spec.has_lost self.new ≡ true }
@@ -283,7 +285,7 @@ impl Recording {
         Ok(())
     }
 
-    /// Takes what came of a line.
+    /// Takes the bytes of a line so far.
     fn take_line(&mut self, out: &mut String) -> Result<(), RecordingError>
         ensures goes { OnOk result (spec.Takes self.old self.new (string_bytes out.old) (string_bytes out.new)) }
         ensures lost { spec.has_lost self.old ≡ true → spec.has_lost self.new ≡ true }

@@ -1,25 +1,35 @@
 //! The fields of a server's packet.
 
+ghost use Rattle.std.specs.Prelude.{◌≡◌, ◌++◌, List, OnOk};
+ghost use Rattle.mysql_replies.specs.FieldListColumn.{default_of};
+ghost use Rattle.mysql_values.specs.ValueRef.{ref_content};
+ghost use Rattle.mysql_show.specs.Fields.{Said};
+ghost use Rattle.mysql_show.specs.Logins.{greeting_fields as after_versions, version_fields as versions};
+ghost use Rattle.mysql_recorder.specs.ServerFields as spec;
+
 use crate::change_fields::append_changes;
 use crate::client_fields::{append, append_length};
 use crate::values::{append_row, append_text_row};
 use mysql_auth::HandshakePacketRef;
 use mysql_observer::ServerPacket;
-use mysql_prepared::TypedColumn;
+use mysql_repl::BinlogStreamEvent;
 use mysql_replies::{ErrPacketRef, ExtendedColumnRef, FieldListColumn};
 use mysql_show::{
     Field, add_fields, column_names, column_numbers, count_fields, end_fields, error_fields,
     greeting_fields, infile_fields, ok_fields, plugin_fields, report_fields, statement_fields,
     terminator_fields, version_fields,
 };
+use mysql_stmt::TypedColumn;
 use mysql_values::ValueRef;
 use std::alloc::AllocError;
 
-/// Appends the fields of a packet of the server. The values of a row are read for it.
+/// Appends the fields of a packet of the server, with the values of a row.
 pub(crate) fn server_fields<'p, C: TypedColumn>(
     packet: &mut ServerPacket<'p, '_, C>,
     fields: &mut Vec<Field<'p>>,
-) -> Result<(), AllocError> {
+) -> Result<(), AllocError>
+    ensures ok { OnOk result (spec.AppendsServer packet.old fields.old.items fields.new.items) }
+{
     match packet {
         ServerPacket::Handshake(greeting) => append_greeting(greeting, fields),
         ServerPacket::GreetingError(error) => {
@@ -53,11 +63,7 @@ pub(crate) fn server_fields<'p, C: TypedColumn>(
             add_fields(&statement_fields(statement.packet()), fields)
         }
         ServerPacket::Statistics(text) => append(Field::bytes("text", text.as_bytes()), fields),
-        // (without the header of semi-synchronous replication)
-        ServerPacket::BinlogEvent(event) => append(
-            Field::number("event_size", event.event().len() as u64),
-            fields,
-        ),
+        ServerPacket::BinlogEvent(event) => append_event(event, fields),
         ServerPacket::Clone(bytes) => append_length(bytes.as_bytes(), fields),
     }
 }
@@ -65,15 +71,16 @@ pub(crate) fn server_fields<'p, C: TypedColumn>(
 fn append_greeting<'p>(
     greeting: &HandshakePacketRef<'p>,
     fields: &mut Vec<Field<'p>>,
-) -> Result<(), AllocError> {
+) -> Result<(), AllocError>
+    ensures ok { OnOk result (fields.new.items ≡ fields.old.items ++ (versions greeting.now ++ after_versions greeting.now)) }
+{
     add_fields(&version_fields(greeting), fields)?;
     add_fields(&greeting_fields(greeting), fields)
 }
 
-fn append_err<'p>(
-    packet: &ErrPacketRef<'p>,
-    fields: &mut Vec<Field<'p>>,
-) -> Result<(), AllocError> {
+fn append_err<'p>(packet: &ErrPacketRef<'p>, fields: &mut Vec<Field<'p>>) -> Result<(), AllocError>
+    ensures ok { OnOk result (fields.new.items ≡ fields.old.items ++ spec.err_fields packet.now) }
+{
     if packet.is_error() {
         add_fields(&error_fields(packet.server_error()), fields)
     } else {
@@ -81,10 +88,23 @@ fn append_err<'p>(
     }
 }
 
+/// The size of an event, without the header of semi-synchronous replication.
+fn append_event<'p>(
+    event: &BinlogStreamEvent<'p>,
+    fields: &mut Vec<Field<'p>>,
+) -> Result<(), AllocError>
+    ensures ok { OnOk result (fields.new.items ≡ fields.old.items ++ spec.event_fields event.now) }
+{
+    let size = event.event().len() as u64;
+    append(Field::number("event_size", size), fields)
+}
+
 fn append_column<'p>(
     extended: &ExtendedColumnRef<'p>,
     fields: &mut Vec<Field<'p>>,
-) -> Result<(), AllocError> {
+) -> Result<(), AllocError>
+    ensures ok { OnOk result (fields.new.items ≡ fields.old.items ++ spec.column_fields extended.now) }
+{
     add_fields(&column_names(extended.column()), fields)?;
     add_fields(&column_numbers(extended.column()), fields)?;
     match extended.metadata() {
@@ -93,14 +113,23 @@ fn append_column<'p>(
     }
 }
 
-/// The fields of a column, and its default value, shown as a value of a row is.
+/// Appends the fields of a column, and its default value, which is shown like a value of a row.
 fn append_field_list_column<'p>(
     column: &FieldListColumn<'p>,
     fields: &mut Vec<Field<'p>>,
-) -> Result<(), AllocError> {
+) -> Result<(), AllocError>
+    ensures ok { OnOk result (fields.new.items ≡ fields.old.items ++ spec.field_list_fields column.now) }
+{
     append_column(column.column(), fields)?;
-    let value = column
-        .default_value()
-        .map_or(ValueRef::NULL, ValueRef::Bytes);
-    append(Field::value("default_value", value), fields)
+    append(Field::value("default_value", default_value(column)), fields)
+}
+
+/// The default value: its text, or NULL.
+fn default_value<'p>(column: &FieldListColumn<'p>) -> ValueRef<'p>
+    ensures { ref_content result ≡ spec.default_content (default_of column.now) }
+{
+    match column.default_value() {
+        Some(text) => ValueRef::Bytes(text),
+        None => ValueRef::NULL,
+    }
 }

@@ -32,7 +32,7 @@ pub(crate) struct Sides {
     longest: usize,
     client: Stream,
     server: Stream,
-    /// The number that the server's next frame has, where its stream is out of step and the client's isn't.
+    /// The sequence number of the server's next frame, if its stream is out of step and the client's isn't.
     answer: Option<u8>,
     /// Whether something was lost.
     has_lost: bool,
@@ -40,7 +40,8 @@ pub(crate) struct Sides {
 }
 
 impl Sides {
-    /// Of a connection from its greeting on, for payloads of at most `longest` bytes, in which as many commands may wait.
+    /// Creates both sides of a connection from its greeting on, with a maximum payload length of `longest`
+    /// bytes, in which `waiting` commands may wait.
     pub(crate) fn new(alloc: Global, layout: Layout, longest: usize, waiting: usize) -> Self
         ensures stand { spec.Stand result [] [] }
         ensures layout { spec.layout result ≡ layout }
@@ -60,7 +61,8 @@ impl Sides {
         }
     }
 
-    /// Takes up a connection at its next command, under what both sides agreed on. Both streams are out of step up to there.
+    /// Starts at the next command of a connection, under the agreed capabilities. Both streams are out of step
+    /// up to there.
     pub(crate) fn take_up_at(&mut self, agreed: SessionCapabilities)
         ensures resync { spec.IsResynced self.new agreed (last_exchange self.old.packets.observer) }
         ensures lost { spec.has_lost self.new ≡ spec.has_lost self.old }
@@ -93,7 +95,7 @@ impl Sides {
         self.packets.tls_established();
     }
 
-    /// Appends the sums, where they are asked for.
+    /// Appends the sums, if they are requested.
     pub(crate) fn append_sums(&self, out: &mut String) -> Result<(), AllocError>
         ensures none { spec.has_sums self.now ≡ false → (result ≡ Ok tt) × (string_bytes out.new ≡ string_bytes out.old) }
         ensures sums { spec.has_sums self.now ≡ true → OnOk result (AppendsSomeSums (spec.layout self.now) (string_bytes out.old) (string_bytes out.new)) }
@@ -118,7 +120,7 @@ impl Sides {
         self.has_lost
     }
 
-    /// Whether enough bytes of a line have come to say how it begins.
+    /// Whether enough bytes of a line have come to see how it begins.
     pub(crate) fn may_be_begun(&self, side: Side, line: &[u8]) -> bool {
         line.len() >= HEAD || self.passed(side).is_none()
     }
@@ -173,7 +175,7 @@ impl Sides {
         self.take_piece(side, piece, out)
     }
 
-    /// Has a stream in step again, where it is out of step and a line of it begins as it must.
+    /// Resynchronizes a stream, if it is out of step and a line of it begins as it must.
     fn take_up(&mut self, side: Side, line: &[u8], out: &mut String) -> Result<(), RecordingError>
         // Also after a loss.
         ensures steps { OnOk result (steps.StepsIn side line.now self.old self.new) }
@@ -206,7 +208,7 @@ impl Sides {
         }
     }
 
-    /// Has a stream in step.
+    /// Marks a stream as in step.
     fn step_in(&mut self, side: Side)
         ensures passed { spec.passed_of side self.new ≡ None }
         ensures lost { spec.has_lost self.new ≡ spec.has_lost self.old }
@@ -218,7 +220,7 @@ impl Sides {
         }
     }
 
-    /// Passes over `count` bytes of a stream, where it is out of step.
+    /// Skips `count` bytes of a stream, if it is out of step.
     fn pass_over(&mut self, side: Side, count: usize)
         ensures lost { spec.has_lost self.new ≡ spec.has_lost self.old }
         ensures settings { spec.KeepsSettings self.old self.new }
@@ -239,7 +241,7 @@ impl Sides {
         self.say_left(Side::Server, out)
     }
 
-    /// Appends that of one stream.
+    /// Appends the number of skipped bytes of a stream, if it is still out of step.
     fn say_left(&self, side: Side, out: &mut String) -> Result<(), AllocError>
         ensures text { OnOk result (string_bytes out.new ≡ string_bytes out.old ++ steps.left_text side self.now) }
         ensures none { OnOk result (spec.passed_of side self.now ≡ None → string_bytes out.new ≡ string_bytes out.old) }
@@ -296,8 +298,8 @@ impl Sides {
         Ok(())
     }
 
-    /// Puts the server's stream out of step, up to the answer to this command, which has come: the answer to the previous one
-    /// is missing.
+    /// Marks the server's stream as out of step, up to the answer to this command, which has come: the answer
+    /// to the previous one is missing.
     fn lose_answer(&mut self, agreed: SessionCapabilities, command: &Front)
         ensures lost { spec.has_lost self.new ≡ true }
         ensures resumed { (front : List ℕ) × ResumedAfter self.new.packets.observer agreed (last_exchange self.old.packets.observer - 1) front }
@@ -309,7 +311,7 @@ impl Sides {
         self.packets.resume_after(agreed, command);
     }
 
-    /// Has both streams out of step, up to the next command.
+    /// Marks both streams as out of step, up to the next command.
     fn be_lost(&mut self, agreed: SessionCapabilities)
         ensures lost { spec.has_lost self.new ≡ true }
         ensures resumed { Resumed self.new.packets.observer agreed (last_exchange self.old.packets.observer) [] }
@@ -322,7 +324,7 @@ impl Sides {
         self.packets.resume(agreed);
     }
 
-    /// Takes a piece of a side's stream, and appends what its packets say.
+    /// Takes a piece of a side's stream, and appends the entries of its packets.
     fn take_piece(
         &mut self,
         side: Side,
@@ -348,7 +350,7 @@ impl Sides {
         }
     }
 
-    /// Goes on after what came of a piece.
+    /// Continues after a piece, by its outcome.
     fn go_on(
         &mut self,
         side: Side,
@@ -420,7 +422,8 @@ impl Sides {
         }
     }
 
-    /// After the first packet of a client whose stream is resynchronized, the server's may be too, from its answer on.
+    /// After the first packet of a client whose stream is resynchronized, allows the server's stream to be
+    /// resynchronized too, from the answer on.
     fn await_answer(&mut self, side: Side, number: Option<u8>)
         ensures { spec.IsSame self.old self.new }
     {

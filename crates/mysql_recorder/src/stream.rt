@@ -15,7 +15,7 @@ pub(crate) struct Sent<'a> {
     pub(crate) payload: CowSlice<'a, u8>,
 }
 
-/// Says that the next frame has the number that it was sent with.
+/// Sets the expected number to that of the next frame.
 #[tactic(auto, using(crate::proofs::Streams::sent))]
 fn expect_sent(reader: &mut FrameReader, input: &[u8])
     ensures { reader.new ≡ as_sent reader.old input.now }
@@ -23,15 +23,15 @@ fn expect_sent(reader: &mut FrameReader, input: &[u8])
     reader.resync_sequence(input);
 }
 
-/// One side's stream: in step, or out of step since something of it was lost.
+/// One side's stream: in step, or out of step since a part of it was lost.
 #[derive(Drop)]
 pub(crate) struct Stream {
     reader: FrameReader,
     /// The number of bytes of an incomplete payload.
     unfinished: u64,
-    /// The number of skipped bytes, if it is out of step.
+    /// The number of skipped bytes, if the stream is out of step.
     passed: Option<u64>,
-    /// The number that the frame after the last payload has.
+    /// The sequence number of the frame after the last payload.
     number: u8,
 }
 
@@ -51,14 +51,14 @@ impl Stream {
         }
     }
 
-    /// The number of skipped bytes, if it is out of step.
+    /// The number of skipped bytes, if the stream is out of step.
     pub(crate) fn passed(&self) -> Option<u64>
         ensures { result ≡ self.now.passed }
     {
         self.passed
     }
 
-    /// Whether it is in step, and no payload is cut.
+    /// Whether the stream is in step, and no payload is incomplete.
     pub(crate) fn is_between(&self) -> bool
         ensures { IsTrue result ↔ ((self.now.passed ≡ None) × (self.now.reader.held ≡ [])) }
     {
@@ -110,7 +110,7 @@ impl Stream {
         self.reader.recycle(payload);
     }
 
-    /// Puts it out of step: the bytes of an incomplete payload are skipped.
+    /// Marks the stream as out of step: the bytes of an incomplete payload are skipped.
     pub(crate) fn lose(&mut self) {
         let passed = self.passed.unwrap_or(0);
         self.passed = Some(passed.saturating_add(self.unfinished));
@@ -118,14 +118,14 @@ impl Stream {
         self.reader.expect(0);
     }
 
-    /// Passes over a given number of bytes, where it is out of step.
+    /// Skips this number of bytes, if the stream is out of step.
     pub(crate) fn pass_over(&mut self, count: usize) {
         if let Some(passed) = self.passed {
             self.passed = Some(passed.saturating_add(count as u64));
         }
     }
 
-    /// It is in step again.
+    /// Marks the stream as in step again.
     pub(crate) fn take_up(&mut self)
         ensures passed { self.new.passed ≡ None }
         ensures held { self.new.reader.held ≡ [] }

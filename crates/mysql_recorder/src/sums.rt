@@ -31,7 +31,7 @@ pub(crate) struct Tally {
     pub(crate) bytes: u64,
 }
 
-/// One of the largest packets: its size, and its number among all, the first being 1.
+/// One of the largest packets: its size, and its number among all packets, from 1.
 #[derive(Clone, Copy)]
 pub(crate) struct Large {
     pub(crate) size: usize,
@@ -46,20 +46,20 @@ pub(crate) struct Sums {
     alloc: Global,
     packets: u64,
     rows: u64,
-    /// By the first byte of their commands.
+    /// The number of commands, by first byte.
     exchanges: BTreeMap<u8, u64>,
-    /// By side and kind, in the order in which they came first.
+    /// The tallies by side and kind, in the order of their first packets.
     tallies: Vec<Tally>,
-    /// By code.
+    /// The number of errors, by code.
     errors: BTreeMap<u16, u64>,
-    /// The largest first.
+    /// The largest packets, the largest first.
     largest: Vec<Large>,
-    /// The statements that are prepared and not closed.
+    /// The open statements: prepared and not closed.
     open: BTreeMap<u32, u64>,
 }
 
 impl Sums {
-    /// Of no packet.
+    /// Creates the sums of no packets.
     pub(crate) fn new(alloc: Global) -> Self {
         Sums {
             alloc,
@@ -73,7 +73,7 @@ impl Sums {
         }
     }
 
-    /// Counts a packet that came.
+    /// Counts a packet.
     pub(crate) fn add(&mut self, packet: &Packet<'_>, kind: PacketKind) -> Result<(), AllocError> {
         self.packets = self.packets.saturating_add(1);
         self.tally(packet)?;
@@ -111,7 +111,7 @@ impl Sums {
         }])
     }
 
-    /// Puts a packet among the largest, where it is one.
+    /// Adds a packet to the largest ones, if it is one of them.
     fn rank(&mut self, packet: &Packet<'_>) -> Result<(), AllocError> {
         let size = packet.payload.len();
         let place = self
@@ -141,7 +141,7 @@ impl Sums {
         }
     }
 
-    /// A statement is open from its preparation on, with the number of that packet.
+    /// Records that a statement is open from its preparation on, with the number of that packet.
     fn prepare(&mut self, packet: &Packet<'_>) -> Result<(), AllocError> {
         if let [_, a, b, c, d, ..] = packet.payload {
             if self.open.len() < OPEN {
@@ -152,7 +152,7 @@ impl Sums {
         Ok(())
     }
 
-    /// A command that closes a statement, or all.
+    /// Records a command that closes a statement, or all.
     fn close(&mut self, code: u8, payload: &[u8]) {
         match (ServerCommand::from_code(code), payload) {
             (Some(ServerCommand::COM_STMT_CLOSE), [_, a, b, c, d, ..]) => {
@@ -190,7 +190,7 @@ impl Sums {
         self.append_counts(out)
     }
 
-    /// Appends what the packets are.
+    /// Appends the counts of packets, exchanges and errors.
     fn append_counts(&self, out: &mut String) -> Result<(), AllocError>
         ensures { OnOk result (Stays (string_bytes out.old) (string_bytes out.new)) }
     {
@@ -247,7 +247,7 @@ impl Sums {
         Ok(())
     }
 
-    /// The sums as an object.
+    /// Returns the sums as an object.
     fn object(&self) -> Result<Value, AllocError> {
         let alloc = self.alloc;
         let mut object = Map::new(alloc);
@@ -347,7 +347,7 @@ impl Sums {
     }
 }
 
-/// Counts one more.
+/// Increments a count.
 fn count<K: Ord + Drop>(counts: &mut BTreeMap<K, u64>, key: K) -> Result<(), AllocError> {
     if let Some(count) = counts.get_mut(&key) {
         *count = count.saturating_add(1);
@@ -357,7 +357,7 @@ fn count<K: Ord + Drop>(counts: &mut BTreeMap<K, u64>, key: K) -> Result<(), All
     Ok(())
 }
 
-/// The name of a command; its number where it has none.
+/// The name of a command, or its number if it has none.
 fn name_of(alloc: Global, code: u8) -> Result<String, AllocError> {
     match ServerCommand::from_code(code) {
         Some(command) => String::from_str(alloc, command_name(command)),

@@ -2,7 +2,7 @@
 
 use mysql_conversation::{PacketKind, Side};
 
-/// The number of bytes of a command that say what answers it: its first, and the flags of an execution.
+/// The number of bytes of a command that determine its answer: the first byte, and the flags of an execution.
 const FRONT: usize = 6;
 
 /// The first bytes of a command.
@@ -13,7 +13,7 @@ pub(crate) struct Front {
 }
 
 impl Front {
-    /// Of a payload.
+    /// Takes the first bytes of a payload.
     fn of(payload: &[u8]) -> Self {
         let mut bytes = [0; FRONT];
         for (place, byte) in bytes.iter_mut().zip(payload) {
@@ -25,13 +25,13 @@ impl Front {
         }
     }
 
-    /// Its bytes.
+    /// The first bytes.
     pub(crate) fn as_slice(&self) -> &[u8] {
         &self.bytes[..self.len.min(FRONT)]
     }
 }
 
-/// The number of such commands since the last packet of the server, and the last of them.
+/// The number of pipelined commands since the last packet of the server, and the last of them.
 #[derive(Clone, Copy)]
 pub(crate) struct Unheard {
     count: u64,
@@ -39,7 +39,7 @@ pub(crate) struct Unheard {
 }
 
 impl Unheard {
-    /// None came.
+    /// Creates the state without commands.
     pub(crate) fn none() -> Self {
         Unheard {
             count: 0,
@@ -47,7 +47,7 @@ impl Unheard {
         }
     }
 
-    /// Goes past a packet that came.
+    /// Updates the state by a packet.
     pub(crate) fn hear(&mut self, side: Side, kind: PacketKind, is_early: bool, payload: &[u8]) {
         match (side, kind) {
             (Side::Client, PacketKind::Command(_)) if is_early => {
@@ -59,7 +59,7 @@ impl Unheard {
         }
     }
 
-    /// The one that came, where it is one.
+    /// The only command, if there is exactly one.
     pub(crate) fn only(&self) -> Option<Front> {
         if self.count == 1 { self.last } else { None }
     }

@@ -36,7 +36,7 @@ pub type ComBinlogDumpHeader = ConstU8<InvalidComBinlogDumpHeader, COM_BINLOG_DU
 /// | 4 | `pos` |
 /// | 2 | `flags` |
 /// | 4 | `server_id` |
-/// | the others | `filename` |
+/// | the rest | `filename` |
 ///
 /// Numbers are little-endian. Fewer than 11 bytes are `UnexpectedEof`, another first byte is
 /// `InvalidData`. Reading takes no memory.
@@ -57,8 +57,8 @@ pub struct ComBinlogDump<'a> {
 }
 
 impl<'a> ComBinlogDump<'a> {
-    /// The request of the replica with this number, from position 0, with no flag and no file's name:
-    /// the server then sends its first binary log.
+    /// Creates the request of the replica with this server id, from position 0, without flags and without a
+    /// file name: the server then sends its first binary log.
     pub fn new(server_id: u32) -> Self
         ensures value { result ≡ spec.dump_of server_id 0 0 [] }
     {
@@ -71,7 +71,7 @@ impl<'a> ComBinlogDump<'a> {
         }
     }
 
-    /// The request from this position on.
+    /// Sets the position from which the log is sent.
     pub fn with_pos(mut self, pos: u32) -> Self
         ensures value { result ≡ spec.with_pos pos self.entry }
     {
@@ -79,7 +79,7 @@ impl<'a> ComBinlogDump<'a> {
         self
     }
 
-    /// The request with these flags.
+    /// Sets the flags.
     pub fn with_flags(mut self, flags: BinlogDumpFlags) -> Self
         ensures value { result ≡ spec.with_flags flags self.entry }
     {
@@ -87,7 +87,7 @@ impl<'a> ComBinlogDump<'a> {
         self
     }
 
-    /// The request for the binary log of this name.
+    /// Sets the name of the binary log.
     pub fn with_filename(mut self, filename: CowSlice<'a, u8>) -> Self
         ensures value { result ≡ spec.with_filename (cow_slice_items filename.entry) self.entry }
     {
@@ -111,7 +111,7 @@ impl<'a> ComBinlogDump<'a> {
         self.pos.0
     }
 
-    /// How the log is sent.
+    /// The flags: how the log is sent.
     #[inline]
     pub fn flags(&self) -> BinlogDumpFlags
         ensures value { result ≡ spec.flags_of self.now }
@@ -119,7 +119,7 @@ impl<'a> ComBinlogDump<'a> {
         self.flags.0
     }
 
-    /// The replica's number.
+    /// The replica's server id.
     #[inline]
     pub fn server_id(&self) -> u32
         ensures value { result ≡ spec.server_id self.now }

@@ -47,17 +47,17 @@ pub type ComBinlogDumpGtidHeader = ConstU8<InvalidComBinlogDumpGtidHeader, COM_B
 /// | 8 | `pos` |
 /// | 4 + n | the block of `sids`, after its length |
 ///
-/// Numbers are little-endian. The block is a head of eight bytes, and the sids. If the head's top byte is 1, the sids are in
-/// the form with tags, and their count is in the bits 8 to 55. With any other top byte they are in the form without tags, and
-/// the count is in the bits 0 to 55. A sid is 16 bytes; with tags, the tag after a length of variable width; a count of eight
-/// bytes, and that many pairs of numbers of eight bytes. Bytes of the block after the last sid are ignored, unless the reader
-/// is [`parse_strict`](Self::parse_strict).
+/// Numbers are little-endian. The block is a head of eight bytes and the sids. If the head's top byte is 1, the
+/// sids are in the form with tags, and their count is in the bits 8 to 55. With any other top byte they are in
+/// the form without tags, and the count is in the bits 0 to 55. A sid is 16 bytes; with tags, the tag after a
+/// length of variable width; a count of eight bytes, and that many pairs of numbers of eight bytes. Bytes of
+/// the block after the last sid are ignored, unless the reader is [`parse_strict`](Self::parse_strict).
 ///
 /// Missing bytes are `UnexpectedEof`. Another first byte, or an invalid tag, is `InvalidData`. Reading takes memory for the
 /// sids as it reaches them, and returns `Memory` if an allocation fails; without sids it takes none.
 ///
-/// The block is written with tags where some sid has one, and whole; its length is written as
-/// 2^32 - 1 where it is more. The first 2^32 - 1 bytes of the name are written.
+/// The block is written with tags if any sid has one, and always whole; a length above 2^32 - 1 is written as
+/// 2^32 - 1. At most the first 2^32 - 1 bytes of the name are written.
 ///
 /// ```
 /// let request = ComBinlogDumpGtid::new(server_id)
@@ -91,8 +91,7 @@ impl Drop for ComBinlogDumpGtid<'_> {
 }
 
 impl<'a> ComBinlogDumpGtid<'a> {
-    /// The request of the replica with this number, from position 0, with no flag, no file's name and
-    /// no sid.
+    /// Creates the request of the replica with this server id, from position 0, without flags, a file name or sids.
     pub fn new(server_id: u32) -> Self
         ensures value { result ≡ spec.dump_of server_id 0 0 [] [] }
     {
@@ -106,7 +105,7 @@ impl<'a> ComBinlogDumpGtid<'a> {
         }
     }
 
-    /// The replica's number.
+    /// The replica's server id.
     #[inline]
     pub fn server_id(&self) -> u32
         ensures value { result ≡ spec.server_id self.now }
@@ -114,7 +113,7 @@ impl<'a> ComBinlogDumpGtid<'a> {
         self.server_id.0
     }
 
-    /// How the log is sent.
+    /// The flags: how the log is sent.
     #[inline]
     pub fn flags(&self) -> BinlogDumpFlags
         ensures value { result.0 ≡ spec.flag_bits self.now }
@@ -153,7 +152,7 @@ impl<'a> ComBinlogDumpGtid<'a> {
         self.filename.as_str(alloc)
     }
 
-    /// The request for the binary log of this name.
+    /// Sets the name of the binary log.
     pub fn with_filename(mut self, filename: CowSlice<'a, u8>) -> Self
         ensures value { result ≡ spec.with_filename (cow_slice_items filename.entry) self.entry }
     {
@@ -161,7 +160,7 @@ impl<'a> ComBinlogDumpGtid<'a> {
         self
     }
 
-    /// The request of the replica with this number.
+    /// Sets the replica's server id.
     pub fn with_server_id(mut self, server_id: u32) -> Self
         ensures value { result ≡ spec.with_server_id server_id self.entry }
     {
@@ -169,8 +168,7 @@ impl<'a> ComBinlogDumpGtid<'a> {
         self
     }
 
-    /// The request with these flags, except for BINLOG_THROUGH_GTID, which is set exactly if there is a
-    /// sid.
+    /// Sets the flags, except for BINLOG_THROUGH_GTID, which is set exactly if there is a sid.
     pub fn with_flags(mut self, flags: BinlogDumpFlags) -> Self
         ensures value { result ≡ spec.with_flags flags.0 self.entry }
     {
@@ -178,7 +176,7 @@ impl<'a> ComBinlogDumpGtid<'a> {
         self
     }
 
-    /// The request from this position on.
+    /// Sets the position from which the log is sent.
     pub fn with_pos(mut self, pos: u64) -> Self
         ensures value { result ≡ spec.with_pos pos self.entry }
     {
@@ -196,8 +194,7 @@ impl<'a> ComBinlogDumpGtid<'a> {
         Ok(self)
     }
 
-    /// The request with these sids, in place of its own. The flag BINLOG_THROUGH_GTID is set exactly
-    /// if there is a sid.
+    /// Sets the sids, instead of the current ones. The flag BINLOG_THROUGH_GTID is set exactly if there is a sid.
     pub fn with_sids(mut self, sids: CowSlice<'a, Sid<'a>>) -> Self
         ensures value { result ≡ spec.with_sids (cow_slice_items sids.entry) self.entry }
     {
@@ -206,14 +203,15 @@ impl<'a> ComBinlogDumpGtid<'a> {
         self
     }
 
-    /// Reads a request as [`ParseBuf::parse`] does, and refuses as `InvalidData` two things more: a
-    /// block whose head's top byte is neither 0 nor 1, before any sid is read; and bytes of the
-    /// block after the last sid.
+    /// Reads a request like [`ParseBuf::parse`], but strictly.
     ///
-    /// It is strict only about the block's layout: any two numbers are an interval, and intervals may overlap, touch and come
-    /// in any order. [`is_canonical`](Self::is_canonical) says whether MySQL accepts them.
+    /// It also refuses, as `InvalidData`, a block whose head's top byte is neither 0 nor 1, before any sid is
+    /// read; and bytes of the block after the last sid.
     ///
-    /// It returns what `parse` returns. After an error the buffer is unchanged.
+    /// It is strict only about the block's layout: any two numbers are an interval, and intervals may overlap,
+    /// touch and come in any order. [`is_canonical`](Self::is_canonical) says whether MySQL accepts them.
+    ///
+    /// It returns the same request as `parse`. After an error the buffer is unchanged.
     pub fn parse_strict(buf: &mut ParseBuf<'a>) -> Result<Self, Fault>
         ensures value { Answers (counts_any ((space_in_dump true).reads buf.old)) result buf.new ((spec.gtid_dump.form true).reads buf.old) }
         ensures spelled { IfOk result (λ p. (spec.gtid_dump.form true).Spells p buf.old buf.new) }
@@ -227,7 +225,7 @@ impl<'a> ComBinlogDumpGtid<'a> {
     }
 }
 
-/// The request of these parts.
+/// Creates the request of these parts.
 pub(crate) fn of_parts<'a>(
     flags: BinlogDumpFlags,
     server_id: u32,
@@ -247,7 +245,7 @@ pub(crate) fn of_parts<'a>(
     }
 }
 
-/// The list of these values.
+/// Creates the list of these values.
 fn list_of<'a, T, L>(values: CowSlice<'a, T>) -> Seq<'a, T, L>
     ensures value { result ≡ cow_slice_items values.entry }
 {
@@ -258,7 +256,7 @@ fn list_of<'a, T, L>(values: CowSlice<'a, T>) -> Seq<'a, T, L>
     Seq::borrowed(values)
 }
 
-/// The flags, with BINLOG_THROUGH_GTID exactly if there is a sid.
+/// Returns the flags, with BINLOG_THROUGH_GTID set exactly if there is a sid.
 fn through_gtid(mut flags: BinlogDumpFlags, sids: &[Sid<'_>]) -> BinlogDumpFlags
     ensures value { result.0 ≡ spec.through_gtid sids.now flags.0 }
 {
@@ -266,7 +264,7 @@ fn through_gtid(mut flags: BinlogDumpFlags, sids: &[Sid<'_>]) -> BinlogDumpFlags
     flags
 }
 
-/// The first seven bytes: the header, the flags and the replica's number.
+/// Reads the first seven bytes: the header, the flags and the replica's server id.
 #[tactic(auto, using(mysql_wire::proofs::Packets::packets), unfolding(crate::specs::BinlogDumpGtid::gtid_dump_head, mysql_wire::specs::Int::raw, mysql_wire::specs::ConstantValue::coded))]
 pub(crate) fn read_head<'s>(
     strict: bool,
@@ -288,7 +286,7 @@ pub(crate) fn read_head<'s>(
     Ok((header, flags, server_id))
 }
 
-/// Reads a request, as a strict reader or as the other.
+/// Reads a request, strictly or not.
 fn read<'s, 'de>(
     strict: bool,
     buf: &mut ParseBuf<'de>,
@@ -345,7 +343,7 @@ impl<'de> MyDeserialize<'de> for ComBinlogDumpGtid<'de> {
     ghost size_is = { λ _. spec.size-gtid_dump false };
 }
 
-/// A request as its parts.
+/// A request in its parts.
 #[derive(Drop)]
 struct RequestParts<'b, 'a>(&'b ComBinlogDumpGtid<'a>);
 

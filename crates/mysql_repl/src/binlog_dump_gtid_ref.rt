@@ -16,10 +16,10 @@ use std::fmt;
 use std::fmt::Debug;
 use std::marker::Model;
 
-/// A replica's request for a binary log without the transactions that it has, whose file's name and sids stay in the packet:
-/// a [`ComBinlogDumpGtid`] for as long as the packet lives, without memory.
+/// A replica's request for a binary log without the transactions that it has, whose file name and sids stay in
+/// the packet: a [`ComBinlogDumpGtid`] for as long as the packet lives, without memory.
 ///
-/// It is read of the same bytes with the same faults except for `Memory`, and in a clause it is that request.
+/// It is read from the same bytes with the same faults except for `Memory`, and in a clause it is that request.
 ///
 /// ```
 /// let request: ComBinlogDumpGtidRef<'_> = ParseBuf::new(alloc, payload).parse(())?;

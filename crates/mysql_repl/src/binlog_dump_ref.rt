@@ -14,10 +14,10 @@ use std::fmt;
 use std::fmt::Debug;
 use std::marker::Model;
 
-/// A replica's request for a binary log from a position, whose file's name stays in the packet: a [`ComBinlogDump`] for as
-/// long as the packet lives.
+/// A replica's request for a binary log from a position, whose file name stays in the packet: a
+/// [`ComBinlogDump`] for as long as the packet lives.
 ///
-/// It is read of the same bytes with the same faults, and in a clause it is that request.
+/// It is read from the same bytes with the same faults, and in a clause it is that request.
 ///
 /// ```
 /// let request: ComBinlogDumpRef<'_> = ParseBuf::new(alloc, payload).parse(())?;
@@ -124,7 +124,7 @@ impl Debug for ComBinlogDumpRef<'_> {
     }
 }
 
-/// As a [`ComBinlogDump`].
+/// Read like a [`ComBinlogDump`].
 impl<'de> MyDeserialize<'de> for ComBinlogDumpRef<'de> {
     const SIZE: Option<usize> = None;
 

@@ -1,4 +1,4 @@
-//! A request for a binary log, in either of the two commands.
+//! A request for a binary log, by either of the two commands.
 
 ghost use Rattle.std.specs.Prelude.{false, ◌≡◌, []};
 ghost use Rattle.std.specs.Cow.{cow_slice_items};
@@ -11,14 +11,14 @@ use mysql_wire::{BinlogDumpFlags, Either, EofBytes, Flags, LeU64, RawBytes, Seq}
 use std::alloc::AllocError;
 use std::borrow::CowSlice;
 
-/// A request for a binary log, which [`as_cmd`](Self::as_cmd) makes a command of: a dump by position
-/// or a dump by GTID set.
+/// A request for a binary log, which [`as_cmd`](Self::as_cmd) converts to a command: a dump by position or a
+/// dump by GTID set.
 ///
 /// ```
 /// let request = BinlogRequest::new(server_id).with_use_gtid(use_gtid);
 /// Ok(match request.as_cmd() {
-///     Either::Left(by_file) => by_file.serialize(out)?,
-///     Either::Right(by_gtids) => by_gtids.serialize(out)?,
+/// Either::Left(by_file) => by_file.serialize(out)?,
+/// Either::Right(by_gtids) => by_gtids.serialize(out)?,
 /// })
 /// ```
 #[derive(Debug, PartialEq, Eq, Hash)]
@@ -46,8 +46,8 @@ impl Drop for BinlogRequest<'_> {
 }
 
 impl<'a> BinlogRequest<'a> {
-    /// The request of the replica with this number: by position, from position 4, with no flag, no
-    /// file's name and no sid.
+    /// Creates the request of the replica with this server id: by position, from position 4, without flags, a
+    /// file name or sids.
     pub fn new(server_id: u32) -> Self
         ensures server_id { spec.server_id result ≡ server_id }
         ensures use_gtid { spec.use_gtid result ≡ false }
@@ -66,7 +66,7 @@ impl<'a> BinlogRequest<'a> {
         }
     }
 
-    /// The replica's number.
+    /// The replica's server id.
     #[inline]
     pub fn server_id(&self) -> u32
         ensures value { result ≡ spec.server_id self.now }
@@ -82,7 +82,7 @@ impl<'a> BinlogRequest<'a> {
         self.use_gtid
     }
 
-    /// How the log is sent. A dump by position keeps BINLOG_DUMP_NON_BLOCK alone.
+    /// The flags: how the log is sent. A dump by position keeps only BINLOG_DUMP_NON_BLOCK.
     #[inline]
     pub fn flags(&self) -> BinlogDumpFlags
         ensures value { result ≡ spec.flags self.now }
@@ -114,7 +114,7 @@ impl<'a> BinlogRequest<'a> {
         self.pos
     }
 
-    /// The transactions that the replica has. A dump by position leaves them out.
+    /// The transactions that the replica has. A dump by position omits them.
     #[inline]
     pub fn sids(&self) -> &[Sid<'a>]
         ensures value { result.now ≡ spec.sids self.now }
@@ -122,7 +122,7 @@ impl<'a> BinlogRequest<'a> {
         self.sids.as_slice()
     }
 
-    /// The request of the replica with this number.
+    /// Sets the replica's server id.
     pub fn with_server_id(mut self, server_id: u32) -> Self
         ensures value { result ≡ spec.with_server_id server_id self.entry }
     {
@@ -130,7 +130,7 @@ impl<'a> BinlogRequest<'a> {
         self
     }
 
-    /// The request for a dump by GTID set, or by position.
+    /// Sets whether the command is a dump by GTID set, or by position.
     pub fn with_use_gtid(mut self, use_gtid: bool) -> Self
         ensures value { result ≡ spec.with_use_gtid use_gtid self.entry }
     {
@@ -138,7 +138,7 @@ impl<'a> BinlogRequest<'a> {
         self
     }
 
-    /// The request with these flags.
+    /// Sets the flags.
     pub fn with_flags(mut self, flags: BinlogDumpFlags) -> Self
         ensures value { result ≡ spec.with_flags flags self.entry }
     {
@@ -146,7 +146,7 @@ impl<'a> BinlogRequest<'a> {
         self
     }
 
-    /// The request for the binary log of this name.
+    /// Sets the name of the binary log.
     pub fn with_filename(mut self, filename: CowSlice<'a, u8>) -> Self
         ensures value { result ≡ spec.with_filename (cow_slice_items filename.entry) self.entry }
     {
@@ -154,7 +154,7 @@ impl<'a> BinlogRequest<'a> {
         self
     }
 
-    /// The request from this position on.
+    /// Sets the position from which the log is sent.
     pub fn with_pos(mut self, pos: u64) -> Self
         ensures value { result ≡ spec.with_pos pos self.entry }
     {
@@ -162,7 +162,7 @@ impl<'a> BinlogRequest<'a> {
         self
     }
 
-    /// The request with these sids, in place of its own.
+    /// Sets the sids, instead of the current ones.
     pub fn with_sids(mut self, sids: Vec<Sid<'a>>) -> Self
         ensures value { result ≡ spec.with_sids sids.entry.items self.entry }
     {
@@ -170,9 +170,11 @@ impl<'a> BinlogRequest<'a> {
         self
     }
 
-    /// The command: a dump by position, with the low 32 bits of the position and
-    /// BINLOG_DUMP_NON_BLOCK alone of the flags; or a dump by GTID set, with all, and with the flag
-    /// BINLOG_THROUGH_GTID exactly if there is a sid.
+    /// Returns the command.
+    ///
+    /// It is a dump by position, with the low 32 bits of the position and only BINLOG_DUMP_NON_BLOCK of the
+    /// flags; or a dump by GTID set, with all fields, and with the flag BINLOG_THROUGH_GTID exactly if there is
+    /// a sid.
     ///
     /// It borrows the name and the sids, and takes no memory.
     pub fn as_cmd(&self) -> Either<ComBinlogDump<'_>, ComBinlogDumpGtid<'_>>

@@ -1,4 +1,4 @@
-//! An event of a binary log, as it is sent.
+//! An event of a binary log, as a server sends it.
 #![tactic(auto, using(mysql_wire::proofs::Packets::packets), unfolding(crate::specs::BinlogStreamEvent::stream_event))]
 
 ghost use Rattle.std.specs.Prelude.{false, [], ◌≡◌, ◌<◌, ◌^◌, IfOk, IsOk, None, Some, option_map};
@@ -17,7 +17,7 @@ use std::alloc::{AllocError, Global};
 use std::borrow::CowSlice;
 use thiserror::Error;
 
-/// The first byte of an event that is sent is not `00`.
+/// The first byte of a packet with an event is not `00`.
 #[derive(Clone, Copy, Debug, Default, PartialEq, Eq, Hash, Error)]
 #[error("Invalid binlog stream event header")]
 pub struct InvalidBinlogStreamEventHeader;
@@ -26,18 +26,20 @@ impl ConstFault for InvalidBinlogStreamEventHeader {
     const MESSAGE: &'static str = "Invalid binlog stream event header";
 }
 
-/// The first byte of an event that is sent: `00`.
+/// The first byte of a packet with an event: `00`.
 pub type BinlogStreamEventHeader = ConstU8<InvalidBinlogStreamEventHeader, 0x00>;
 
-/// An event of a binary log, as a server sends it: the byte `00`; where semi-synchronous replication is agreed on, the byte
-/// `ef` and a byte of flags, whose lowest bit asks for a [`SemiSyncAckPacket`](crate::SemiSyncAckPacket); and the event's
-/// bytes to the end of the packet. `ef` is `kPacketMagicNum` of MySQL's `plugin/semisync/semisync.h`.
+/// An event of a binary log, as a server sends it.
 ///
-/// Reading is passed whether it is agreed on: the replica sets `@rpl_semi_sync_slave` (`@rpl_semi_sync_replica`) to 1 before
-/// it asks for the dump, and the server has its side enabled.
+/// It is the byte `00`; if semi-synchronous replication is agreed on, the byte `ef` and a byte of flags, whose
+/// lowest bit requests a [`SemiSyncAckPacket`](crate::SemiSyncAckPacket); and the event's bytes to the end of
+/// the packet. `ef` is `kPacketMagicNum` of MySQL's `plugin/semisync/semisync.h`.
 ///
-/// Missing bytes before the event are `UnexpectedEof`, another value for `00` or `ef` is `InvalidData`. Reading takes no
-/// memory.
+/// The context says whether it is agreed on: the replica sets `@rpl_semi_sync_slave` (`@rpl_semi_sync_replica`)
+/// to 1 before it requests the dump, and the server has its side enabled.
+///
+/// Missing bytes before the event are `UnexpectedEof`, another value for `00` or `ef` is `InvalidData`. Reading
+/// takes no memory.
 ///
 /// ```
 /// let event = BinlogStreamEvent::new(CowSlice::Borrowed(event)).with_semi_sync(true);
@@ -62,7 +64,7 @@ impl Drop for BinlogStreamEvent<'_> {
 }
 
 impl<'a> BinlogStreamEvent<'a> {
-    /// The event of these bytes, for replication that is not semi-synchronous.
+    /// Creates the packet of an event, without the header of semi-synchronous replication.
     #[inline]
     pub fn new(event: CowSlice<'a, u8>) -> Self
         ensures value { result ≡ spec.event_of None (cow_slice_items event.entry) }
@@ -74,7 +76,7 @@ impl<'a> BinlogStreamEvent<'a> {
         }
     }
 
-    /// Adds the header of semi-synchronous replication, which asks for an acknowledgement or not.
+    /// Adds the header of semi-synchronous replication, which requests an acknowledgement or not.
     #[inline]
     pub fn with_semi_sync(mut self, wants_ack: bool) -> Self
         ensures value { result ≡ spec.event_of (Some (header_of wants_ack)) (spec.event_bytes self.entry) }
@@ -91,7 +93,7 @@ impl<'a> BinlogStreamEvent<'a> {
         self.event.as_bytes()
     }
 
-    /// Whether an acknowledgement of the event is wanted, where replication is semi-synchronous.
+    /// Whether an acknowledgement of the event is requested, or `None` if replication is not semi-synchronous.
     #[inline]
     pub fn wants_ack(&self) -> Option<bool>
         ensures value { result ≡ option_map wants_ack (spec.semi_sync self.now) }
@@ -121,7 +123,7 @@ impl<'a> BinlogStreamEvent<'a> {
     }
 }
 
-/// The header of semi-synchronous replication, where it is agreed on.
+/// Reads the header of semi-synchronous replication, if that is agreed on.
 #[tactic(auto, unfolding(crate::specs::BinlogStreamEvent::agreed_header))]
 fn read_semi_sync<'s>(
     agreed: bool,

@@ -13,10 +13,10 @@ use std::borrow::CowSlice;
 /// |---|---|
 /// | `fe` | [`End`](BinlogStreamPacket::End) |
 /// | `ff` | [`Error`](BinlogStreamPacket::Error) |
-/// | `00` | [`Event`](BinlogStreamPacket::Event), whose context it is passed |
+/// | `00` | [`Event`](BinlogStreamPacket::Event), with the same context |
 ///
-/// An event that is cut before its own bytes, and an empty packet, are `UnexpectedEof`; a packet that begins with another
-/// byte is `InvalidData`. Reading takes no memory: the bytes stay in the payload.
+/// A packet that ends before the event's bytes, and an empty packet, are `UnexpectedEof`; a packet that begins
+/// with another byte is `InvalidData`. Reading takes no memory: the bytes stay in the payload.
 ///
 /// ```
 /// let packet: BinlogStreamPacket<'_> = ParseBuf::new(alloc, payload).parse(semi_sync)?;
@@ -29,9 +29,9 @@ use std::borrow::CowSlice;
 pub enum BinlogStreamPacket<'a> {
     /// An event of the log.
     Event(BinlogStreamEvent<'a>),
-    /// The stream is at its end, as the dump asked for: the payload of an EOF packet.
+    /// The end of the stream, which the dump requested: the payload of an EOF packet.
     End(RawBytes<'a, EofBytes>),
-    /// The stream breaks off: the payload of an error.
+    /// The stream is aborted: the payload of an error.
     Error(RawBytes<'a, EofBytes>),
 }
 

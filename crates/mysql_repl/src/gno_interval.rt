@@ -17,20 +17,20 @@ use thiserror::Error;
 /// ```
 #[derive(Clone, Copy, Debug, PartialEq, Eq, Hash, Error)]
 pub enum InvalidGno {
-    /// The start is not below the end.
+    /// The start is not less than the end.
     #[error("start({start}) >= end({end}) in GnoInterval")]
     Order {
-        /// The number that was to be the first.
+        /// The first number.
         start: u64,
         /// The number after the last one.
         end: u64,
     },
-    /// The start is 0, which numbers no transaction.
+    /// The start is 0, which is not the number of a transaction.
     #[error("Gno can't be zero")]
     Zero,
 }
 
-/// The transactions from `start` on, before `end`: two numbers of eight bytes, little-endian.
+/// The transactions from `start` up to, but not including, `end`: two numbers of eight bytes, little-endian.
 ///
 /// Fewer than 16 bytes are `UnexpectedEof`. Any two numbers are read and written.
 ///
@@ -44,7 +44,7 @@ pub struct GnoInterval {
 }
 
 impl GnoInterval {
-    /// The interval of these two numbers, whatever they are.
+    /// Creates the interval of two numbers, which aren't checked.
     #[inline]
     pub fn new(start: u64, end: u64) -> Self
         ensures value { result ≡ spec.interval_of start end }
@@ -70,7 +70,7 @@ impl GnoInterval {
         self.end
     }
 
-    /// The interval of these two numbers, where the first is below the second and is not 0.
+    /// Creates the interval of two numbers, or returns an error if the first is 0 or not less than the second.
     pub fn check_and_new(start: u64, end: u64) -> Result<Self, InvalidGno>
         ensures order { end ≤ start → result ≡ Err (Order start end) }
         ensures zero { start < end → start ≡ 0 → result ≡ Err Zero }

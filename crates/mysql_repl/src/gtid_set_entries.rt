@@ -23,7 +23,7 @@ use std::marker::Model;
 pub struct GtidSetSid<'a> {
     /// The server's identifier.
     pub uuid: [u8; UUID_LEN],
-    /// The tag of its transactions, if they have one.
+    /// The tag of its transactions, if any.
     pub tag: Option<TagText<'a>>,
     /// The number of intervals that follow, before the next sid.
     pub intervals: u64,
@@ -118,7 +118,7 @@ impl<'a> Left<'a> {
         }))
     }
 
-    /// The next one.
+    /// Returns the next item.
     fn next(&mut self) -> Option<Result<GtidSetEntry<'a>, InvalidSid>>
         ensures value { NextItem (entries_left self.old) result (entries_left self.new) }
     {
@@ -139,9 +139,9 @@ impl<'a> Left<'a> {
 /// The text of a GTID set, as MySQL shows one in `@@gtid_executed`, one sid and one interval after another. It takes no
 /// memory.
 ///
-/// Up to the first error these are the sids and intervals of [`sids_from_text`](crate::sids_from_text), in their order, and
-/// that error is the one of the text. After it, parsing continues after the faulty word, or after the piece without a uuid. In
-/// a clause it is the list of the remaining items.
+/// Up to the first error these are the sids and intervals of [`sids_from_text`](crate::sids_from_text), in
+/// their order, and that error is the same. Parsing then continues after the faulty word, or after the piece
+/// without a uuid. In a clause it is the list of the remaining items.
 ///
 /// ```
 /// let mut left = GtidSetEntries::new(text);
@@ -166,7 +166,7 @@ impl<'a> Model for GtidSetEntries<'a> {
 }
 
 impl<'a> GtidSetEntries<'a> {
-    /// All of a text.
+    /// Creates an iterator over a whole text.
     #[tactic(auto, unfolding(crate::specs::GtidSetEntries::text_entries))]
     pub fn new(text: &'a str) -> Self
         ensures value { result ≡ spec.text_entries text.now }

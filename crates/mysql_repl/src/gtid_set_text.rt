@@ -42,7 +42,7 @@ fn server_tag(alloc: Global, word: &str, left: Option<&str>) -> Result<Tag<'stat
     Ok(tag)
 }
 
-/// The sids with one more, where it has a tag or an interval.
+/// Appends a sid, if it has a tag or an interval.
 fn with_kept(
     mut sids: Vec<Sid<'static>>,
     sid: Sid<'static>,
@@ -139,12 +139,13 @@ fn with_piece(
 /// Parses the text of a GTID set, as MySQL shows one in `@@gtid_executed`: pieces separated by commas, such as
 /// `UUID:1-8:_x9:4-5:app:1-3:5-6, UUID:7`.
 ///
-/// A piece is a uuid, in any form without a colon, and words, each after a colon. A word that begins with a digit is an
-/// interval: a number, or the first and the last number with a hyphen between them. Another word is a tag, in upper or lower
-/// case, and the intervals after it are those of the tag: each tag is a sid of its own, and so are the intervals before the
-/// first tag. A tag is converted to lower case, and has at least one interval. The first number of an interval is at least 1
-/// and at most the last, and the last is at most 2^63 - 2. ASCII white space is allowed around uuids, tags and numbers. A blank
-/// piece has no sid, so an empty text is the empty set.
+/// A piece is a uuid, in any form without a colon, and words, each after a colon. A word that begins with a
+/// digit is an interval: a number, or the first and the last number with a hyphen between them. Any other word
+/// is a tag, in upper or lower case, and the intervals after it belong to the tag: each tag is a sid of its
+/// own, and so are the intervals before the first tag. A tag is converted to lower case, and has at least one
+/// interval. The first number of an interval is at least 1 and at most the last, and the last is at most 2^63 -
+/// 2. ASCII white space is allowed around uuids, tags and numbers. A blank piece has no sid, so an empty text
+/// is the empty set.
 ///
 /// Sids and intervals are returned in the order of the text, including repeated ones. An invalid text returns its first error.
 /// No memory is taken before the first uuid is read, and its first interval or the first byte of its first tag, so an empty
@@ -172,10 +173,10 @@ pub fn sids_from_text(alloc: Global, text: &str) -> Result<Vec<Sid<'static>>, In
 }
 
 impl<'a> ComBinlogDumpGtid<'a> {
-    /// The request with the sids of the text of a GTID set, as MySQL shows one in `@@gtid_executed`, in place of its own:
-    /// those of [`sids_from_text`], in their order. The flag BINLOG_THROUGH_GTID is set exactly if there is a sid.
+    /// Sets the sids from the text of a GTID set, as MySQL shows one in `@@gtid_executed`, instead of the current ones.
     ///
-    /// It fails for the same texts. The request is dropped then.
+    /// They are those of [`sids_from_text`], in their order. The flag BINLOG_THROUGH_GTID is set exactly if
+    /// there is a sid. It returns the same errors, and then drops the request.
     #[tactic(auto, using(crate::proofs::GtidSetTexts::dumps))]
     pub fn with_gtid_set(self, alloc: Global, text: &str) -> Result<Self, InvalidSid>
         ensures value { Answered result (spec.with_read_sids (spec.read_sids text.now) self.entry) }

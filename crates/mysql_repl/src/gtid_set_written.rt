@@ -1,4 +1,4 @@
-//! The text of sids, as a GTID set is written.
+//! Writes the text of a GTID set.
 
 ghost use Rattle.std.specs.Prelude.{◌≡◌, Some, option_map};
 ghost use Rattle.mysql_repl.specs.GtidSetWritten as spec;
@@ -51,14 +51,16 @@ impl fmt::Display for ShownNext<'_, '_> {
     }
 }
 
-/// The text of these sids, which [`sids_from_text`](crate::sids_from_text) reads: `UUID:1-8:_x9:4-5:app:1-3,\nUUID:7`.
+/// Displays sids as the text of a GTID set, which [`sids_from_text`](crate::sids_from_text) parses:
+/// `UUID:1-8:_x9:4-5:app:1-3,\nUUID:7`.
 ///
 /// Each sid is written as its own text, after a comma and a newline except for the first. A sid with a tag that follows one of
 /// the same uuid is written without its uuid. The sids are written in the order of the list.
 ///
-/// MySQL writes the sids of a set in the order of their uuids, those of a uuid in the order of their tags, the one without a
-/// tag first, each with merged intervals ([`Sid::normalized`]). A list in that order is written as MySQL writes it, and
-/// [`sids_from_text`](crate::sids_from_text) reads such a text as one. An empty list is an empty text.
+/// MySQL writes the sids of a set in the order of their uuids, those of a uuid in the order of their tags, the
+/// one without a tag first, each with merged intervals ([`Sid::normalized`]). A list in that order is written
+/// as MySQL writes it, and [`sids_from_text`](crate::sids_from_text) parses such a text to a list in that
+/// order. An empty list is an empty text.
 ///
 /// ```
 /// let sids = sids_from_text(alloc, text)?;

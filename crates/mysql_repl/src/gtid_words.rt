@@ -10,7 +10,7 @@ ghost use Rattle.mysql_repl.specs.SidTextParts.{left_len};
 use crate::gno_interval::GnoInterval;
 use crate::sid_text::{InvalidSid, checked, cut_at_comma, cut_at_hyphen, first_part, number_of};
 
-/// The greatest number of a transaction: 2^63 - 2.
+/// The maximum number of a transaction: 2^63 - 2.
 const LAST_GNO: u64 = (1 << 63) - 2;
 
 /// The text without ASCII white space at either end.
@@ -21,7 +21,7 @@ pub(crate) fn trimmed(text: &str) -> &str
     text.trim_ascii_start().trim_ascii_end()
 }
 
-/// The number of 64 bits that digits write.
+/// Parses digits as a number of 64 bits.
 #[tactic(auto, unfolding(crate::specs::GtidSetText::plain_number))]
 fn plain_number(text: &str) -> Option<u64>
     ensures value { result ≡ spec.plain_number text.now }
@@ -35,7 +35,7 @@ fn plain_number(text: &str) -> Option<u64>
     number_of(text)
 }
 
-/// The interval from the first number to the last, where both are numbers of transactions.
+/// The interval from the first number to the last, if both are numbers of transactions.
 fn server_numbers(first: Option<u64>, last: Option<u64>) -> Result<GnoInterval, InvalidSid>
     ensures value { result ≡ spec.server_numbers first last }
 {
@@ -101,7 +101,7 @@ pub(crate) fn first_piece(text: &str) -> Word<'_>
     }
 }
 
-/// Whether a word is an interval, and no tag.
+/// Whether a word is an interval, not a tag.
 pub(crate) fn is_interval(word: &str) -> bool
     ensures value { result ≡ spec.is_interval word.now }
 {

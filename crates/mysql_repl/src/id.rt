@@ -8,7 +8,7 @@ use mysql_wire::{Buffer, MySerialize};
 #[derive(Drop)]
 pub(crate) struct Id(pub(crate) [u8; 16]);
 
-/// Writes the bytes one by one, which the compiler makes one store of.
+/// Writes the bytes one by one, which the compiler turns into one store.
 #[inline(always)]
 #[tactic(auto, using(mysql_wire::proofs::After::after))]
 fn append_bytes<O: Buffer>(bytes: [u8; 16], out: &mut O)

@@ -1,4 +1,4 @@
-//! The intervals of a sid: a count of eight bytes, and a given number of intervals.
+//! The intervals of a sid: a count of eight bytes, and this number of intervals.
 #![tactic(auto, using(mysql_wire::proofs::Packets::packets))]
 
 ghost use Rattle.std.specs.Prelude.{◌≡◌, ◌+◌, ◌/◌, ◌++◌, ◌≤◌, length, min, drop};

@@ -16,19 +16,19 @@ use std::fmt;
 use std::fmt::Debug;
 use std::marker::Model;
 
-/// The intervals of a sid: the list of [`Sid::intervals`](crate::Sid::intervals), which borrows from the packet and takes no
-/// memory.
+/// The intervals of a sid, borrowed from the packet: the list of [`Sid::intervals`](crate::Sid::intervals). It
+/// takes no memory.
 ///
-/// An iterator over the intervals. All of them are read when it is created, so none of them fails later. In a clause it is the
-/// list of the remaining intervals.
+/// An iterator over the intervals. All of them are read when it is created, so none of them fails later. In a
+/// clause it is the list of the remaining intervals.
 ///
 /// ```
 /// let request: ComBinlogDumpGtidRef<'_> = ParseBuf::new(alloc, payload).parse(())?;
 /// let mut count: u64 = 0;
 /// for sid in request.sids() {
-///     for interval in sid.intervals() {
-///         count = count.saturating_add(interval.end().saturating_sub(interval.start()));
-///     }
+/// for interval in sid.intervals() {
+///     count = count.saturating_add(interval.end().saturating_sub(interval.start()));
+/// }
 /// }
 /// Ok(count)
 /// ```
@@ -37,7 +37,7 @@ pub struct IntervalsRef<'a> {
     count: u64,
     /// The length in bytes.
     len: usize,
-    /// They, and what follows them.
+    /// The bytes of the intervals, and the bytes after them.
     bytes: ParseBuf<'a>,
 }
 
@@ -54,7 +54,7 @@ impl<'a> Model for IntervalsRef<'a> {
     ghost invariant = { λ p. AreThere (interval.form tt) p.count p.len p.bytes };
 }
 
-/// Reads past `count` intervals.
+/// Skips `count` intervals.
 fn skip_intervals<'s>(count: u64, buf: &mut ParseBuf<'_>) -> Result<(), FaultOf<'s>>
     ensures value { Answers false result buf.new (passed ((counted count (interval.form tt)).reads buf.old)) }
 {
@@ -75,7 +75,7 @@ fn read_counted<'s, 'a>(count: u64, buf: &mut ParseBuf<'a>) -> Result<IntervalsR
     Ok(IntervalsRef { count, len, bytes })
 }
 
-/// The first interval and the others, where one is left.
+/// Returns the first interval and the others, if one is left.
 #[tactic(auto, using(crate::proofs::InPlace::one_by_one))]
 fn first_and_others<'a>(intervals: &IntervalsRef<'a>) -> Option<(GnoInterval, IntervalsRef<'a>)>
     ensures value { intervals.now ≡ joined (option_map (λ p. (p.0, p.1)) result) }
@@ -104,7 +104,7 @@ impl<'a> IntervalsRef<'a> {
         self.count
     }
 
-    /// The bytes of those that are left, after their count.
+    /// The bytes of the remaining intervals, without their count.
     #[inline]
     pub fn as_bytes(&self) -> &'a [u8]
         ensures value { StandIn (interval.form tt) (length self.now) result.now self.now }
@@ -113,7 +113,7 @@ impl<'a> IntervalsRef<'a> {
         bytes.eat(self.len)
     }
 
-    /// Iterates over the intervals from the first one on.
+    /// Returns an iterator over the remaining intervals.
     #[inline]
     pub fn iter(&self) -> IntervalsRef<'a>
         ensures value { result ≡ self.now }
@@ -138,7 +138,7 @@ impl<'a> IntervalsRef<'a> {
     }
 }
 
-/// Whether both give the same intervals, one after another.
+/// Whether both yield the same intervals, in the same order.
 fn give_the_same(one: &IntervalsRef<'_>, other: &IntervalsRef<'_>) -> bool
     ensures value { result ≡ pointwise ⟦<GnoInterval as PartialEq>⟧.eq one.now other.now }
 {
@@ -216,7 +216,7 @@ impl<'a> Iterator for IntervalsRef<'a> {
     }
 }
 
-/// A count of eight bytes, and a given number of intervals. Missing bytes are `UnexpectedEof`.
+/// A count of eight bytes, and this number of intervals. Missing bytes are `UnexpectedEof`.
 impl<'de> MyDeserialize<'de> for IntervalsRef<'de> {
     const SIZE: Option<usize> = None;
 

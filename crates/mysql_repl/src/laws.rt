@@ -1,7 +1,7 @@
 //! Laws over the grammars and the defined bytes of this crate's packets, and over texts.
 //!
-//! Each law is an empty function, whose contract holds for all values. Exceptions: those about sizes return them, those that
-//! begin with `this` are about a given value, and `request_written` makes two calls.
+//! Each law is an empty function, whose contract holds for all values. Exceptions: those about sizes return
+//! them, those that begin with `this` are about a given value, and `request_written` makes two calls.
 #![tactic(auto, using(mysql_wire::proofs::Packets::packets, crate::proofs::Fits::plain_fits, crate::proofs::SidFits::sid_fits))]
 
 ghost use Rattle.std.specs.Prelude.{◌≡◌, ◌++◌, ℕ, List, None, Some, Ok, OnErr, OnOk, IsTrue, IsUtf8, ◌↔◌, true, false, Bool, length, map};
@@ -71,14 +71,14 @@ pub fn semi_sync_ack_round_trips()
     ensures spelled { (p : SemiSyncAckPacket) (rest : List ℕ) → SemiSyncAckFits p rest → (semi_sync_ack.form tt).Spells p (semi_sync_ack.bytes p ++ rest) rest }
 {}
 
-/// A packet of a stream is read back if nothing follows: with the header of semi-synchronous replication where that is agreed
-/// on, and without it where it is not.
+/// A packet of a stream is read back if nothing follows: with the header of semi-synchronous replication if
+/// that is agreed on, otherwise without it.
 #[tactic(auto, using(crate::proofs::StreamFits::streams))]
 pub fn binlog_stream_packet_round_trips()
     ensures spelled { (agreed : Bool) (p : BinlogStreamPacket) (rest : List ℕ) → StreamPacketFits agreed p rest → (stream_packet.form agreed).Spells p (stream_packet.bytes p ++ rest) rest }
 {}
 
-/// A sid without a tag is read back, whatever bytes follow; and what is written of any sid in the form with tags.
+/// A sid without a tag is read back, whatever bytes follow, and any sid is read back in the form with tags.
 pub fn sid_round_trips()
     ensures untagged { (s : Sid) (rest : List ℕ) → IsSid s → s.tag ≡ None → (sid.form tt).Spells s (sid.bytes s ++ rest) rest }
     ensures tagged { (s : Sid) (rest : List ℕ) → IsSid s → (tagged_sid.form tt).Spells s (tagged_sid.bytes s ++ rest) rest }
@@ -90,7 +90,8 @@ pub fn binlog_dump_gtid_round_trips()
     ensures strict { (p : ComBinlogDumpGtid) (rest : List ℕ) → GtidDumpFits p → (gtid_dump.form true).Spells p (gtid_dump.bytes p ++ rest) rest }
 {}
 
-/// A dump by GTID set that the strict reader accepts is read by the other one as the same request with the same rest.
+/// A dump by GTID set that the strict reader accepts is read by the other reader as the same request with the
+/// same rest.
 pub fn strict_is_lenient()
     ensures spelled { (p : ComBinlogDumpGtid) (bytes rest : List ℕ) → (gtid_dump.form true).Spells p bytes rest → (gtid_dump.form false).Spells p bytes rest }
 {}
@@ -113,7 +114,7 @@ pub fn through_gtid_is_set_for_sids()
     ensures request { (r : BinlogRequest) → TellsSids (request_spec.gtid_dump r) × KeepsOthers (request_spec.flags r).0 (request_spec.gtid_dump r) }
 {}
 
-/// A text has at most one sid, and is parsed as that sid. So a text without a sid is an error.
+/// A text spells at most one sid, and is parsed as that sid; a text that spells none is an error.
 #[tactic(auto, using(crate::proofs::SidTextRead::texts_spelled))]
 pub fn sid_text_is_spelled()
     ensures one { (text : List ℕ) (s t : Sid) → SpellsSid text s → SpellsSid text t → s ≡ t }
@@ -128,7 +129,7 @@ pub fn sid_text_round_trips()
     ensures read { (s : Sid) → ProperSid s → read_sid (sid_text s) ≡ Ok s }
 {}
 
-/// A text in UTF-8 that was read, printed and read again gives the first reading.
+/// A text in UTF-8 that was parsed, printed and parsed again gives the same sid as at first.
 #[tactic(auto, using(crate::proofs::SidTextRead::sid_reads_again))]
 pub fn read_sid_text_round_trips()
     ensures read { (text : List ℕ) (s : Sid) → IsUtf8 text → read_sid text ≡ Ok s → read_sid (sid_text s) ≡ Ok s }
@@ -141,34 +142,34 @@ pub fn merged_intervals_are_as_servers_write()
     ensures servers { (s : Sid) → are_apart (intervals s) ≡ true → NumbersFit (intervals s) → is_canonical s ≡ true }
 {}
 
-/// The text that is written of sids is read as these sids, where each has at least one interval, and each interval is
-/// proper and ends below 2^63.
+/// The written text of sids is parsed as these sids, if each has at least one interval, and each interval is
+/// valid and ends below 2^63.
 pub fn gtid_set_text_round_trips()
     ensures read { (sids : List Sid) → SidsInSet sids → read_sids (set_text sids) ≡ Ok sids }
 {}
 
-/// The text that is written of sids that were read is read as these sids.
+/// The written text of sids that were parsed from a text is parsed as these sids.
 #[tactic(auto, using(crate::proofs::GtidSetReadAgain::sets_read_again))]
 pub fn read_gtid_set_text_round_trips()
     ensures read { (text : List ℕ) (sids : List Sid) → AreSids sids → read_sids text ≡ Ok sids → read_sids (set_text sids) ≡ Ok sids }
 {}
 
-/// The text of a GTID set is parsed as the sids of its entries, each with the intervals after it, or returns the first error
-/// among them; and each sid gives the number of intervals that follow.
+/// The text of a GTID set is parsed as the sids of its entries, each with the intervals after it, or returns
+/// the first error among them; and each sid has the number of intervals that follow.
 #[tactic(auto, using(crate::proofs::GtidEntriesRead::entries_read))]
 pub fn gtid_set_entries_are_read()
     ensures read { (text : List ℕ) → sids_of (text_entries text) ≡ alone (read_sids text) }
     ensures counted { (text : List ℕ) (sids : List Sid) → read_sids text ≡ Ok sids → counts (text_entries text) ≡ map (λ s. length (intervals s)) sids }
 {}
 
-/// A text is a tag exactly where it has no fault of one.
+/// A text is a tag exactly if it has no error of [`InvalidTag`](crate::InvalidTag).
 #[tactic(auto, using(crate::proofs::Tags::tag_faults))]
 pub fn tag_has_no_fault()
     ensures none { (text : List ℕ) → IsTag text → tag_fault text ≡ None }
     ensures tag { (text : List ℕ) → IsUtf8 text → tag_fault text ≡ None → IsTag text }
 {}
 
-/// The command of a request is written as the bytes of either command, after the bytes that the buffer had. If an allocation
+/// A request is written as the bytes of its command, after the bytes that the buffer had. If an allocation
 /// fails, the buffer is unchanged.
 ///
 /// This law makes the two calls.
@@ -180,7 +181,7 @@ pub fn request_written(request: &BinlogRequest<'_>, out: &mut Vec<u8>) -> Result
     request.as_cmd().serialize(out)
 }
 
-/// Tags, intervals and sids are equal exactly where they are the same, whether they borrow or own what they are made of.
+/// Tags, intervals and sids compare equal exactly if they have the same value, borrowed or owned.
 #[tactic(auto, using(crate::proofs::EqualRequests::equal_requests))]
 pub fn equal_sids_are_the_same()
     ensures tag { (x y : List ℕ) → IsTrue (⟦<Tag<'static> as PartialEq>⟧.eq x y) ↔ (x ≡ y) }
@@ -190,7 +191,7 @@ pub fn equal_sids_are_the_same()
     ensures sids { (xs ys : List Sid) → IsTrue (⟦<crate::sids_ref::SidsRef<'static> as PartialEq>⟧.eq xs ys) ↔ (xs ≡ ys) }
 {}
 
-/// Requests are equal exactly where they are the same.
+/// Requests compare equal exactly if they have the same value.
 #[tactic(auto, using(crate::proofs::EqualRequests::equal_requests))]
 pub fn equal_requests_are_the_same()
     ensures registration { (x y : ComRegisterSlave) → IsTrue (⟦<crate::register_slave::ComRegisterSlave<'static> as PartialEq>⟧.eq x y) ↔ (x ≡ y) }
@@ -201,7 +202,7 @@ pub fn equal_requests_are_the_same()
     ensures ack { (x y : SemiSyncAckPacket) → IsTrue (⟦<crate::semi_sync_ack::SemiSyncAckPacket<'static> as PartialEq>⟧.eq x y) ↔ (x ≡ y) }
 {}
 
-/// Packets of a replication stream are equal exactly if they are the same.
+/// Packets of a replication stream compare equal exactly if they have the same value.
 #[tactic(auto, using(crate::proofs::EqualRequests::equal_requests))]
 pub fn equal_stream_packets_are_the_same()
     ensures packet { (x y : BinlogStreamPacket) → IsTrue (⟦<crate::binlog_stream_packet::BinlogStreamPacket<'static> as PartialEq>⟧.eq x y) ↔ (x ≡ y) }
@@ -219,7 +220,7 @@ pub fn tag_max_len() -> usize
     Tag::MAX_LEN
 }
 
-/// Each packet states its size: an interval takes 16 bytes, and nothing else has a constant size.
+/// An interval takes 16 bytes, and nothing else has a constant size.
 pub fn each_packet_has_its_size() -> bool
     ensures value { IsTrue result }
 {

@@ -1,5 +1,5 @@
-//! Packets of a replica, a recorder or a proxy of binary logs: registration, dumps by position and by GTID set,
-//! acknowledgements, the texts of GTID sets, and the packets of the stream that answers a dump.
+//! Packets between replicas and servers: registration, dumps by position and by GTID set, acknowledgements, the
+//! texts of GTID sets, and the packets of the stream that answers a dump.
 #![tactic(auto)]
 
 mod binlog_dump;

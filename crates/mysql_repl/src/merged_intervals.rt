@@ -1,4 +1,4 @@
-//! Intervals that are put in order.
+//! Intervals in order.
 
 ghost use Rattle.std.specs.Prelude.{true, [], ◌≡◌, ℕ, Ok, IfOk, IsOk, filter};
 ghost use Rattle.std.specs.List.Sorted.{IsNonDecreasingBy, IsPermutation};
@@ -11,7 +11,7 @@ use crate::sid::Sid;
 use std::alloc::{AllocError, Global};
 use std::cmp::max;
 
-/// Whether an interval has a number.
+/// Whether an interval is nonempty.
 fn has_any(interval: &GnoInterval) -> bool
     ensures value { result ≡ spec.has_any interval.now }
 {
@@ -42,7 +42,7 @@ fn are_apart(intervals: &[GnoInterval]) -> bool
     has_any(first) && are_apart_after(first.end(), more)
 }
 
-/// The intervals that have a number.
+/// Returns the nonempty intervals.
 fn some_of(alloc: Global, intervals: &[GnoInterval]) -> Result<Vec<GnoInterval>, AllocError>
     ensures value { IfOk result (λ some. some.items ≡ filter spec.has_any intervals.now) }
     ensures no_memory { filter spec.has_any intervals.now ≡ [] → IsOk result }
@@ -56,7 +56,7 @@ fn some_of(alloc: Global, intervals: &[GnoInterval]) -> Result<Vec<GnoInterval>,
     Ok(some)
 }
 
-/// Puts intervals in the order of their starts.
+/// Sorts intervals by their starts.
 fn sort(intervals: &mut Vec<GnoInterval>)
     ensures permutation { IsPermutation intervals.old.items intervals.new.items }
     ensures sorted { IsNonDecreasingBy interval.start intervals.new.items }
@@ -64,7 +64,7 @@ fn sort(intervals: &mut Vec<GnoInterval>)
     intervals.sort_unstable_by_key(|interval| interval.start());
 }
 
-/// Merges intervals that are in order.
+/// Merges sorted intervals.
 fn merged(alloc: Global, sorted: &[GnoInterval]) -> Result<Vec<GnoInterval>, AllocError>
     ensures value { IfOk result (λ merged. merged.items ≡ spec.merged sorted.now) }
     ensures no_memory { sorted.now ≡ [] → IsOk result }
@@ -86,7 +86,7 @@ fn merged(alloc: Global, sorted: &[GnoInterval]) -> Result<Vec<GnoInterval>, All
     Ok(merged)
 }
 
-/// The numbers of all intervals, as intervals in order and apart.
+/// Returns the numbers of all intervals, as intervals in order and apart.
 fn put_in_order(alloc: Global, intervals: &[GnoInterval]) -> Result<Vec<GnoInterval>, AllocError>
     ensures in_order { IfOk result (λ merged. spec.are_apart merged.items ≡ true) }
     ensures same { IfOk result (λ merged. (n : ℕ) → spec.any_has n merged.items ≡ spec.any_has n intervals.now) }
@@ -98,13 +98,15 @@ fn put_in_order(alloc: Global, intervals: &[GnoInterval]) -> Result<Vec<GnoInter
 }
 
 impl<'a> Sid<'a> {
-    /// Returns the sid with its transactions in intervals that are in order, not empty, and apart: none touch, and
-    /// none overlap. So servers write them: [`is_canonical`](Sid::is_canonical) holds, where the numbers are
-    /// from 1 to 2^63 - 2.
+    /// Returns the sid with its transactions in intervals that are in order, nonempty, and apart: none touch or
+    /// overlap.
     ///
-    /// Any intervals are accepted: an empty one, whose start is not below its end, is dropped. Intervals that are already
-    /// normalized are returned unchanged, without memory; if all are empty, no memory is taken either. If the allocation fails,
-    /// the sid is dropped.
+    /// Servers write them in this form: [`is_canonical`](Sid::is_canonical) holds if the numbers are from 1 to
+    /// 2^63 - 2.
+    ///
+    /// Any intervals are accepted: an empty one, whose start is not less than its end, is dropped. Intervals
+    /// that are already normalized are returned unchanged, without memory; if all are empty, no memory is taken
+    /// either. If the allocation fails, the sid is dropped.
     pub fn normalized(self, alloc: Global) -> Result<Self, AllocError>
         ensures uuid { IfOk result (λ s. uuid s ≡ uuid self.entry) }
         ensures tag { IfOk result (λ s. tag s ≡ tag self.entry) }

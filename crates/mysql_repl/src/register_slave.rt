@@ -28,8 +28,7 @@ impl ConstFault for InvalidComRegisterSlaveHeader {
 /// The first byte of a registration: `15`.
 pub type ComRegisterSlaveHeader = ConstU8<InvalidComRegisterSlaveHeader, COM_REGISTER_SLAVE>;
 
-/// The registration of a replica at its source (`COM_REGISTER_SLAVE`), before it asks for a binary
-/// log.
+/// The registration of a replica at its source (`COM_REGISTER_SLAVE`), before it requests a binary log.
 ///
 /// | Bytes | Field |
 /// |---|---|
@@ -42,7 +41,7 @@ pub type ComRegisterSlaveHeader = ConstU8<InvalidComRegisterSlaveHeader, COM_REG
 /// | 4 | `replication_rank` |
 /// | 4 | `master_id` |
 ///
-/// Numbers are little-endian. The first 255 bytes of a string are written. Missing bytes are
+/// Numbers are little-endian. At most the first 255 bytes of a string are written. Missing bytes are
 /// `UnexpectedEof`, another first byte is `InvalidData`. Reading takes no memory.
 ///
 /// ```
@@ -78,7 +77,7 @@ impl Drop for ComRegisterSlave<'_> {
 }
 
 impl<'a> ComRegisterSlave<'a> {
-    /// Creates the registration of the replica with this number. The other fields are empty or 0.
+    /// Creates the registration of the replica with this server id. The other fields are empty or 0.
     pub fn new(server_id: u32) -> Self
         ensures value { result ≡ spec.registration server_id }
     {
@@ -94,7 +93,7 @@ impl<'a> ComRegisterSlave<'a> {
         }
     }
 
-    /// The registration with this name or address of the replica, which the source lists.
+    /// Sets the name or address of the replica, which the source lists.
     pub fn with_hostname(mut self, hostname: CowSlice<'a, u8>) -> Self
         ensures value { result ≡ spec.with_hostname (cow_slice_items hostname.entry) self.entry }
     {
@@ -102,7 +101,7 @@ impl<'a> ComRegisterSlave<'a> {
         self
     }
 
-    /// The registration with this account of the replica, which the source lists.
+    /// Sets the account of the replica, which the source lists.
     pub fn with_user(mut self, user: CowSlice<'a, u8>) -> Self
         ensures value { result ≡ spec.with_user (cow_slice_items user.entry) self.entry }
     {
@@ -110,7 +109,7 @@ impl<'a> ComRegisterSlave<'a> {
         self
     }
 
-    /// The registration with this password of the account.
+    /// Sets the password of the account.
     pub fn with_password(mut self, password: CowSlice<'a, u8>) -> Self
         ensures value { result ≡ spec.with_password (cow_slice_items password.entry) self.entry }
     {
@@ -118,7 +117,7 @@ impl<'a> ComRegisterSlave<'a> {
         self
     }
 
-    /// The registration with this port of the replica, which the source lists.
+    /// Sets the port of the replica, which the source lists.
     pub fn with_port(mut self, port: u16) -> Self
         ensures value { result ≡ spec.with_port port self.entry }
     {
@@ -126,7 +125,7 @@ impl<'a> ComRegisterSlave<'a> {
         self
     }
 
-    /// The registration with this rank, which servers ignore.
+    /// Sets the rank, which servers ignore.
     pub fn with_replication_rank(mut self, replication_rank: u32) -> Self
         ensures value { result ≡ spec.with_replication_rank replication_rank self.entry }
     {
@@ -134,7 +133,7 @@ impl<'a> ComRegisterSlave<'a> {
         self
     }
 
-    /// The registration with this number of the source, mostly 0.
+    /// Sets the server id of the source, usually 0.
     pub fn with_master_id(mut self, master_id: u32) -> Self
         ensures value { result ≡ spec.with_master_id master_id self.entry }
     {
@@ -142,7 +141,7 @@ impl<'a> ComRegisterSlave<'a> {
         self
     }
 
-    /// The replica's number.
+    /// The replica's server id.
     #[inline]
     pub fn server_id(&self) -> u32
         ensures value { result ≡ spec.server_id self.now }
@@ -211,7 +210,7 @@ impl<'a> ComRegisterSlave<'a> {
         self.replication_rank.0
     }
 
-    /// The source's number.
+    /// The source's server id.
     #[inline]
     pub fn master_id(&self) -> u32
         ensures value { result ≡ spec.master_id self.now }

@@ -17,7 +17,7 @@ use std::marker::Model;
 
 /// The registration of a replica, whose texts stay in the packet: a [`ComRegisterSlave`] for as long as the packet lives.
 ///
-/// It is read of the same bytes with the same faults, and in a clause it is that registration.
+/// It is read from the same bytes with the same faults, and in a clause it is that registration.
 ///
 /// ```
 /// let request: ComRegisterSlaveRef<'_> = ParseBuf::new(alloc, payload).parse(())?;
@@ -124,7 +124,7 @@ impl<'a> ComRegisterSlaveRef<'a> {
     }
 }
 
-/// The first five bytes: the header and the replica's number.
+/// Reads the first five bytes: the header and the replica's server id.
 #[tactic(auto, using(mysql_wire::proofs::Packets::packets), unfolding(crate::specs::RegisterSlave::register_slave_head, mysql_wire::specs::Int::raw))]
 fn read_head<'s>(
     buf: &mut ParseBuf<'_>,
@@ -137,7 +137,7 @@ fn read_head<'s>(
     Ok((header, RawInt::take(&mut head)))
 }
 
-/// The last ten bytes: the port, the rank and the source's number.
+/// Reads the last ten bytes: the port, the rank and the source's server id.
 #[tactic(auto, using(mysql_wire::proofs::Packets::packets), unfolding(crate::specs::RegisterSlave::register_slave_end, mysql_wire::specs::Int::raw))]
 fn read_end<'s>(
     buf: &mut ParseBuf<'_>,
@@ -194,7 +194,7 @@ impl Debug for ComRegisterSlaveRef<'_> {
     }
 }
 
-/// As a [`ComRegisterSlave`].
+/// Read like a [`ComRegisterSlave`].
 impl<'de> MyDeserialize<'de> for ComRegisterSlaveRef<'de> {
     const SIZE: Option<usize> = None;
 

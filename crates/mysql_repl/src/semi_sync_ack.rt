@@ -26,9 +26,9 @@ impl ConstFault for InvalidSemiSyncAckPacketPacketHeader {
 /// The first byte of an acknowledgement: `ef`.
 pub type SemiSyncAckPacketPacketHeader = ConstU8<InvalidSemiSyncAckPacketPacketHeader, 0xef>;
 
-/// A replica's acknowledgement of an event that asked for one (semi-synchronous replication): the
-/// byte `ef`, the position after the event in eight bytes, little-endian, and the name of the
-/// binary log to the end of the packet.
+/// A replica's acknowledgement of an event that requested one (semi-synchronous replication): the byte `ef`,
+/// the position after the event in eight bytes, little-endian, and the name of the binary log to the end of the
+/// packet.
 ///
 /// Fewer than 9 bytes are `UnexpectedEof`, another first byte is `InvalidData`. Reading takes no
 /// memory.
@@ -45,7 +45,7 @@ pub struct SemiSyncAckPacket<'a> {
 }
 
 impl<'a> SemiSyncAckPacket<'a> {
-    /// The acknowledgement of this position of the binary log of this name.
+    /// Creates the acknowledgement of this position in the binary log of this name.
     pub fn new(position: u64, filename: CowSlice<'a, u8>) -> Self
         ensures value { result ≡ spec.ack_of position (cow_slice_items filename.entry) }
     {
@@ -56,7 +56,7 @@ impl<'a> SemiSyncAckPacket<'a> {
         }
     }
 
-    /// The acknowledgement for the binary log of this name.
+    /// Sets the name of the binary log.
     pub fn with_filename(mut self, filename: CowSlice<'a, u8>) -> Self
         ensures value { result ≡ spec.with_filename (cow_slice_items filename.entry) self.entry }
     {
@@ -64,7 +64,7 @@ impl<'a> SemiSyncAckPacket<'a> {
         self
     }
 
-    /// The acknowledgement of this position.
+    /// Sets the position.
     pub fn with_position(mut self, position: u64) -> Self
         ensures value { result ≡ spec.with_position position self.entry }
     {

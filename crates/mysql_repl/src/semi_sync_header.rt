@@ -10,7 +10,7 @@ use mysql_wire::{
 };
 use thiserror::Error;
 
-/// The first byte in front of an event of semi-synchronous replication is not `ef`.
+/// The first byte before an event of semi-synchronous replication is not `ef`.
 #[derive(Clone, Copy, Debug, Default, PartialEq, Eq, Hash, Error)]
 #[error("Invalid semi-sync header")]
 pub struct InvalidSemiSyncHeader;
@@ -19,7 +19,7 @@ impl ConstFault for InvalidSemiSyncHeader {
     const MESSAGE: &'static str = "Invalid semi-sync header";
 }
 
-/// The byte `ef`, and a byte of flags, whose lowest bit asks for an acknowledgement.
+/// The byte `ef`, and a byte of flags, whose lowest bit requests an acknowledgement.
 ///
 /// Fewer than two bytes are `UnexpectedEof`, another first byte is `InvalidData`.
 #[derive(Clone, Debug, PartialEq, Eq, Drop)]
@@ -29,7 +29,7 @@ pub(crate) struct SemiSyncHeader {
 }
 
 impl SemiSyncHeader {
-    /// The header that asks for an acknowledgement, or doesn't.
+    /// Creates a header that requests an acknowledgement, or doesn't.
     #[inline]
     pub(crate) fn new(wants_ack: bool) -> Self
         ensures value { result ≡ spec.header_of wants_ack }
@@ -40,7 +40,7 @@ impl SemiSyncHeader {
         }
     }
 
-    /// Whether an acknowledgement is asked for.
+    /// Whether an acknowledgement is requested.
     #[inline]
     pub(crate) fn wants_ack(&self) -> bool
         ensures value { result ≡ spec.wants_ack self.now }

@@ -1,4 +1,4 @@
-//! Sids whose intervals are as servers write them.
+//! Whether the intervals of sids are in the form that servers write.
 
 ghost use Rattle.std.specs.Prelude.{◌≡◌};
 ghost use Rattle.mysql_repl.specs.BinlogDumpGtid.{sids};
@@ -8,7 +8,7 @@ use crate::binlog_dump_gtid::ComBinlogDumpGtid;
 use crate::gno_interval::GnoInterval;
 use crate::sid::Sid;
 
-/// Whether an interval has a transaction at least, begins after this number, and ends below 2^63.
+/// Whether an interval is nonempty, begins after this number, and ends below 2^63.
 fn is_after(last: u64, interval: &GnoInterval) -> bool
     ensures value { result ≡ spec.is_after last interval.now }
 {
@@ -32,11 +32,13 @@ fn are_in_order(intervals: &[GnoInterval]) -> bool
 }
 
 impl Sid<'_> {
-    /// Whether the intervals are as servers write them: in order, with a gap between each two, so that none overlap or
-    /// touch; each has a transaction at least; the first starts at 1 or later, and the last has an end of at most
-    /// 2^63 - 1.
+    /// Whether the intervals are in the form that servers write.
     ///
-    /// MySQL refuses a dump by GTID set whose sids have others (error 1773). No interval is in order too.
+    /// They are in order, with a gap between each two, so that none overlap or touch; each has at least one
+    /// transaction; the first starts at 1 or later, and the last has an end of at most 2^63 - 1. A sid without
+    /// intervals is canonical too.
+    ///
+    /// MySQL refuses a dump by GTID set with other intervals (error 1773).
     pub fn is_canonical(&self) -> bool
         ensures value { result ≡ spec.is_canonical self.now }
     {
@@ -45,10 +47,10 @@ impl Sid<'_> {
 }
 
 impl ComBinlogDumpGtid<'_> {
-    /// Whether the intervals of each sid are as servers write them: see [`Sid::is_canonical`].
+    /// Whether the intervals of each sid are in the form that servers write: see [`Sid::is_canonical`].
     ///
-    /// The readers don't check this: [`parse_strict`](Self::parse_strict) rejects blocks of another layout and bytes after the
-    /// last sid, and accepts intervals of any two numbers in any order.
+    /// The readers don't check this: [`parse_strict`](Self::parse_strict) rejects blocks of another layout and
+    /// bytes after the last sid, and accepts intervals of any two numbers in any order.
     pub fn is_canonical(&self) -> bool
         ensures value { result ≡ spec.are_as_servers_write (sids self.now) }
     {

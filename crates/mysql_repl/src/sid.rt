@@ -22,12 +22,12 @@ use std::borrow::CowSlice;
 /// The length of a server's identifier in bytes.
 pub const UUID_LEN: usize = 16;
 
-/// The transactions of one server, or those of them that have one tag: a part of a GTID set.
+/// The transactions of one server, or those with one tag: a part of a GTID set.
 ///
-/// Its own reader and writer are the form without tags, which drops the tag: the identifier's 16
-/// bytes, a count of eight bytes, and a given number of intervals of 16 bytes each. Missing bytes are
-/// `UnexpectedEof`. Reading takes memory for the intervals alone. The packet
-/// [`ComBinlogDumpGtid`](crate::ComBinlogDumpGtid) has the form with tags.
+/// Its own reader and writer use the form without tags, which drops the tag: the identifier's 16 bytes, a count
+/// of eight bytes, and this number of intervals of 16 bytes each. Missing bytes are `UnexpectedEof`. Reading
+/// takes memory only for the intervals. The packet [`ComBinlogDumpGtid`](crate::ComBinlogDumpGtid) has the form
+/// with tags.
 ///
 /// ```
 /// let merged = sid.normalized(alloc)?;
@@ -53,7 +53,7 @@ impl Drop for Sid<'_> {
 }
 
 impl<'a> Sid<'a> {
-    /// The server with this identifier, without a tag and without a transaction.
+    /// Creates a sid of the server with this identifier, without a tag and without intervals.
     pub fn new(uuid: [u8; UUID_LEN]) -> Self
         ensures value { result ≡ spec.new_sid uuid }
     {
@@ -114,7 +114,7 @@ impl<'a> Sid<'a> {
 
     /// Sets the tag.
     ///
-    /// A packet with a tag anywhere is written in the form with tags throughout.
+    /// A packet in which any sid has a tag is written in the form with tags.
     pub fn with_tag(mut self, tag: Tag<'a>) -> Self
         ensures value { result ≡ spec.with_tag tag.entry self.entry }
     {
@@ -190,7 +190,7 @@ fn read_tagged<'s, 'de>(buf: &mut ParseBuf<'de>) -> Result<Sid<'de>, FaultOf<'s>
     })
 }
 
-/// Reads a sid in the form with tags or in the other.
+/// Reads a sid in the form with or without tags.
 #[inline(always)]
 pub(crate) fn read_sid<'s, 'de>(
     tagged: bool,
@@ -205,7 +205,7 @@ pub(crate) fn read_sid<'s, 'de>(
     }
 }
 
-/// A sid that is written in the form with tags or in the other.
+/// A sid that is written in the form with or without tags.
 #[derive(Drop)]
 pub(crate) struct SidAs<'b, 'a> {
     pub(crate) tagged: bool,

@@ -16,7 +16,7 @@ use mysql_wire::{
 };
 use std::cmp::min;
 
-/// The layout that the head tells: its top byte.
+/// Returns the layout from the head: its top byte.
 pub(crate) fn layout(head: u64) -> u64
     ensures value { result ≡ spec.layout head }
 {
@@ -68,7 +68,7 @@ fn read_tagged<'s, 'de>(count: u64, block: &mut ParseBuf<'de>) -> Result<Vec<Sid
     read_counted(true, count, block)
 }
 
-/// Reads the head, and a given number of sids. A strict reader knows the layouts 0 and 1 alone.
+/// Reads the head, and this number of sids. A strict reader accepts only the layouts 0 and 1.
 #[tactic(auto, using(mysql_wire::proofs::Packets::packets), unfolding(crate::specs::SidBlock::sids_form))]
 fn read_sids<'s, 'de>(strict: bool, block: &mut ParseBuf<'de>) -> Result<Vec<Sid<'de>>, FaultOf<'s>>
     ensures value { Answers (counts_any ((space_in_sids strict).reads block.old)) (items_of result) block.new ((spec.sids_form strict).reads block.old) }
@@ -113,7 +113,7 @@ fn read_lenient_block<'s, 'de>(
     Ok(Seq::owned(sids))
 }
 
-/// Reads a block after its length, as a strict reader or as the other.
+/// Reads a block after its length, strictly or not.
 pub(crate) fn read_block<'s, 'de>(
     strict: bool,
     buf: &mut ParseBuf<'de>,
@@ -127,12 +127,12 @@ pub(crate) fn read_block<'s, 'de>(
     }
 }
 
-/// The sids of a dump, as they are written: with tags throughout where some sid has one.
+/// The sids of a dump, as they are written: all in the form with tags if any sid has one.
 #[derive(Drop)]
 pub(crate) struct SidBlock<'b, 'a>(pub(crate) &'b [Sid<'a>]);
 
 impl<'a> SidBlock<'_, 'a> {
-    /// Whether some sid has a tag.
+    /// Whether any sid has a tag.
     #[tactic(auto, unfolding(crate::specs::SidBlock::any_tag))]
     fn any_tag(&self) -> bool
         ensures value { result ≡ spec.any_tag self.now.0.now }
@@ -175,8 +175,8 @@ impl<'a> SidBlock<'_, 'a> {
         self.sids_len(tagged).saturating_add(8)
     }
 
-    /// Writes the sids to a buffer that has capacity for them. Sids with tags are written by a call, for which the buffer
-    /// is moved: what a call is passed does not stay in registers.
+    /// Writes the sids to a buffer that has capacity for them. Sids with tags are written by a call, for which
+    /// the buffer is moved: the arguments of a call do not stay in registers.
     #[inline(always)]
     fn append_sids<O: Buffer>(&self, tagged: bool, out: &mut O)
         requires { length (O.held out.old) + length (flat_map (sid_as tagged).bytes self.now.0.now) ≤ O.capacity out.old }

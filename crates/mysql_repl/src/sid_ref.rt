@@ -15,7 +15,7 @@ use std::marker::Model;
 
 /// The transactions of one server, or those that have one tag: a [`Sid`] that borrows from the packet, and takes no memory.
 ///
-/// It is read of the same bytes with the same faults except for `Memory`, and in a clause it is that sid.
+/// It is read from the same bytes with the same faults except for `Memory`, and in a clause it is that sid.
 ///
 /// ```
 /// let request: ComBinlogDumpGtidRef<'_> = ParseBuf::new(alloc, payload).parse(())?;
@@ -67,8 +67,7 @@ impl<'a> SidRef<'a> {
         self.intervals.iter()
     }
 
-    /// Reads a sid in the form with tags or in the other, as [`ParseBuf::parse`] reads the other. After an error the buffer is
-    /// unchanged.
+    /// Reads a sid in the form with or without tags. After an error the buffer is unchanged.
     pub fn parse_as(tagged: bool, buf: &mut ParseBuf<'a>) -> Result<Self, Fault>
         ensures value { Answers false result buf.new (((spec.sid_as tagged).form tt).reads buf.old) }
         ensures err { OnErr result (buf.new ≡ buf.old) }
@@ -103,7 +102,7 @@ fn read_tagged<'s, 'a>(buf: &mut ParseBuf<'a>) -> Result<SidRef<'a>, FaultOf<'s>
     })
 }
 
-/// Reads a sid in the form with tags or in the other.
+/// Reads a sid in the form with or without tags.
 pub(crate) fn read_sid_ref<'s, 'a>(
     tagged: bool,
     buf: &mut ParseBuf<'a>,

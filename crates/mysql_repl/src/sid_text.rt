@@ -36,26 +36,27 @@ pub enum InvalidSid {
     /// The text before the first colon isn't a uuid.
     #[error("Uuid")]
     Uuid,
-    /// Nothing follows the first colon; in a GTID set, any colon.
+    /// Nothing follows the first colon, or in a GTID set, any colon.
     #[error("Empty")]
     Empty,
     /// The text before the intervals isn't a tag.
     #[error("{0}")]
     Tag(InvalidTag),
-    /// No colon follows the tag; in a GTID set, no interval follows it.
+    /// No colon follows the tag, or in a GTID set, no interval.
     #[error("NoIntervals")]
     NoIntervals,
     /// An interval has more than one hyphen.
     #[error("Parts")]
     Parts,
-    /// An interval has a character that isn't a digit, or a number of more than 64 bits. In a GTID set a plus sign is an error
-    /// too.
+    /// An interval has a character that isn't a digit, or a number of more than 64 bits. In a GTID set a plus
+    /// sign is an error too.
     #[error("Number")]
     Number,
-    /// The last number of an interval is 2^64 - 1, after which there is none; in a GTID set, it is above 2^63 - 2.
+    /// The last number of an interval is 2^64 - 1, so that there is no next one, or in a GTID set, it is above
+    /// 2^63 - 2.
     #[error("TooLarge")]
     TooLarge,
-    /// The numbers of an interval are no interval of transactions.
+    /// The numbers are no interval of transactions.
     #[error("{0}")]
     Gno(InvalidGno),
     /// An allocation failed. The same text can be parsed again once memory is available.
@@ -127,7 +128,7 @@ pub(crate) fn cut_at_comma(text: &str) -> Option<(&str, &str)>
     text.split_once(',')
 }
 
-/// The number of 64 bits that digits write, after a plus or none.
+/// Parses digits, with an optional plus, as a number of 64 bits.
 pub(crate) fn number_of(text: &str) -> Option<u64>
     ensures { result ≡ spec.number_of text.now }
 {
@@ -168,7 +169,7 @@ pub(crate) fn first_part(text: &str) -> FirstPart<'_>
     }
 }
 
-/// The intervals that are read one after another, on memory of their own.
+/// Reads the intervals one after another, into memory of their own.
 #[tactic(auto, using(crate::proofs::SidLoops::loops))]
 fn read_intervals(
     alloc: Global,
@@ -187,17 +188,16 @@ fn read_intervals(
 impl Sid<'static> {
     /// Parses the text of a sid: `UUID:1-5:7`, or with a tag `UUID:tag:1-5:7`.
     ///
-    /// The text is a uuid in any form without a colon; a colon; a tag and a colon, or none; and
-    /// intervals with colons between them. An interval is a number, or the first and the last number
-    /// with a hyphen between them: the first is at least 1 and at most the last, and the last is
-    /// below 2^64 - 1. A number is one or more digits, after a plus or none. Without a tag the
-    /// intervals begin with a digit.
+    /// The text is a uuid in any form without a colon; a colon; optionally a tag and a colon; and intervals
+    /// separated by colons. An interval is a number, or the first and the last number with a hyphen between
+    /// them: the first is at least 1 and at most the last, and the last is below 2^64 - 1. A number is one or
+    /// more digits, with an optional plus. Without a tag the intervals begin with a digit.
     ///
-    /// The text of a whole GTID set, with several uuids or several tags after one, is read by
-    /// [`sids_from_text`](crate::sids_from_text).
+    /// [`sids_from_text`](crate::sids_from_text) parses the text of a whole GTID set, with several uuids or
+    /// several tags after one.
     ///
-    /// An invalid text returns its first error. No memory is taken before the uuid and the tag with its colon, or else the
-    /// first interval, are read.
+    /// An invalid text returns its first error. No memory is taken before the uuid and the tag with its colon,
+    /// or without a tag the first interval, are read.
     #[tactic(auto, using(crate::proofs::SidTextRead::answers))]
     pub fn from_str(alloc: Global, text: &str) -> Result<Sid<'static>, InvalidSid>
         ensures spelled { IfOk result (SpellsSid text.now) }
@@ -230,7 +230,7 @@ fn read_sid(alloc: Global, text: &str) -> Result<Sid<'static>, InvalidSid>
     )
 }
 
-/// The bytes of the uuid that a text writes, in any of its forms.
+/// Parses a uuid in any of its forms, and returns its bytes.
 pub(crate) fn uuid_of(text: &str) -> Option<[u8; 16]>
     ensures value { result ≡ parsed text.now }
 {
@@ -290,9 +290,9 @@ impl fmt::Display for ShownTag<'_, '_> {
     }
 }
 
-/// The text: the uuid in lower case with hyphens, the tag if there is one, and the intervals, with
-/// colons between them. An interval of one number is that number, another one its first and its last
-/// with a hyphen between them. Every interval is shown; an end of 0 has the last number 0.
+/// Displays the uuid in lower case with hyphens, the tag if there is one, and the intervals, separated by
+/// colons. An interval of one number is that number, another one its first and its last number with a hyphen
+/// between them. Every interval is shown; an end of 0 has the last number 0.
 impl fmt::Display for Sid<'_> {
     ghost use Rattle.mysql_repl.specs.SidText.{sid_text};
 

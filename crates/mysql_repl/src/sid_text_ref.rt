@@ -39,8 +39,8 @@ fn read_interval(text: &str) -> Result<GnoInterval, InvalidSid>
 
 /// An iterator over the intervals in a text, which are separated by colons. It takes no memory.
 ///
-/// Each interval is parsed by itself: after an error the next ones follow. In a clause it is the list of the results of the
-/// remaining ones.
+/// Each interval is parsed by itself: after an error the next ones follow. In a clause it is the list of the
+/// results of the remaining intervals.
 ///
 /// ```
 /// let sid = SidTextRef::new(text)?;
@@ -69,7 +69,7 @@ impl<'a> Model for IntervalTextsRef<'a> {
     ghost view = { λ p. read_each (left_parts (option_map (λ t. t.now) p.rest)) };
 }
 
-/// Returns the number of parts of a text, which colons separate.
+/// Returns the number of parts of a text that are separated by colons.
 #[tactic(auto, using(crate::proofs::IntervalTexts::counts))]
 fn count_parts(text: &str) -> usize
     ensures value { result ≡ length (spec.parts_of text.now) }
@@ -121,7 +121,7 @@ impl<'a> Iterator for IntervalTextsRef<'a> {
 /// The borrowed parts of a sid's text: its uuid, its tag if there is one, and its intervals, which aren't parsed yet. It takes
 /// no memory.
 ///
-/// In a clause it is these parts, with what each of the intervals is read as.
+/// In a clause it is these parts, with the result of parsing each interval.
 ///
 /// ```
 /// let sid = SidTextRef::new(text)?;
@@ -175,8 +175,8 @@ fn after_uuid(uuid: [u8; UUID_LEN], text: &str) -> Result<SidTextRef<'_>, Invali
 }
 
 impl<'a> SidTextRef<'a> {
-    /// Splits a text into its parts, in the form that [`Sid::from_str`](crate::Sid::from_str) reads. An invalid text returns
-    /// the same first error; the intervals aren't parsed yet, so they are no error here.
+    /// Splits a text into its parts, in the form that [`Sid::from_str`](crate::Sid::from_str) reads. An invalid
+    /// text returns the same first error, except for errors of intervals, which aren't parsed yet.
     #[tactic(auto, unfolding(crate::specs::SidText::sid_parts, crate::specs::SidText::read_sid))]
     pub fn new(text: &'a str) -> Result<Self, InvalidSid>
         ensures value { result ≡ spec.sid_parts text.now }
@@ -208,7 +208,7 @@ impl<'a> SidTextRef<'a> {
         self.tag.as_ref()
     }
 
-    /// The intervals, from the first one on.
+    /// Returns an iterator over the intervals.
     #[inline]
     pub fn intervals(&self) -> IntervalTextsRef<'a>
         ensures value { result ≡ self.now.intervals }

@@ -18,19 +18,19 @@ use std::fmt;
 use std::fmt::Debug;
 use std::marker::Model;
 
-/// The sids of a dump: the list of [`ComBinlogDumpGtid::sids`](crate::ComBinlogDumpGtid::sids), which borrows from the packet
-/// and takes no memory.
+/// The sids of a dump, borrowed from the packet: the list of
+/// [`ComBinlogDumpGtid::sids`](crate::ComBinlogDumpGtid::sids). It takes no memory.
 ///
-/// An iterator over the sids. All of them are read when it is created, so none of them fails later. In a clause it is the list
-/// of the remaining sids.
+/// An iterator over the sids. All of them are read when it is created, so none of them fails later. In a clause
+/// it is the list of the remaining sids.
 ///
 /// ```
 /// let request: ComBinlogDumpGtidRef<'_> = ParseBuf::new(alloc, payload).parse(())?;
 /// let mut count: u64 = 0;
 /// for sid in request.sids() {
-///     for interval in sid.intervals() {
-///         count = count.saturating_add(interval.end().saturating_sub(interval.start()));
-///     }
+/// for interval in sid.intervals() {
+///     count = count.saturating_add(interval.end().saturating_sub(interval.start()));
+/// }
 /// }
 /// Ok(count)
 /// ```
@@ -40,7 +40,7 @@ pub struct SidsRef<'a> {
     count: u64,
     /// The length in bytes.
     len: usize,
-    /// They, and what follows them.
+    /// The bytes of the sids, and the bytes after them.
     bytes: ParseBuf<'a>,
 }
 
@@ -57,7 +57,7 @@ impl<'a> Model for SidsRef<'a> {
     ghost invariant = { λ p. AreThere ((sid_as p.tagged).form tt) p.count p.len p.bytes };
 }
 
-/// Reads past `count` sids.
+/// Skips `count` sids.
 fn skip_sids<'s>(tagged: bool, count: u64, buf: &mut ParseBuf<'_>) -> Result<(), FaultOf<'s>>
     ensures value { Answers false result buf.new (passed ((counted count ((sid_as tagged).form tt)).reads buf.old)) }
 {
@@ -87,7 +87,7 @@ fn read_counted<'s, 'a>(
     })
 }
 
-/// Reads the head, and a given number of sids.
+/// Reads the head, and this number of sids.
 #[tactic(auto, using(mysql_wire::proofs::Packets::packets), unfolding(crate::specs::SidBlock::sids_form))]
 fn read_sids<'s, 'a>(buf: &mut ParseBuf<'a>) -> Result<SidsRef<'a>, FaultOf<'s>>
     ensures value { Answers false result buf.new ((block.sids_form false).reads buf.old) }
@@ -106,7 +106,7 @@ pub(crate) fn read_block_ref<'s, 'a>(buf: &mut ParseBuf<'a>) -> Result<SidsRef<'
     Ok(sids)
 }
 
-/// The first sid and the others, where one is left.
+/// Returns the first sid and the others, if one is left.
 #[tactic(auto, using(crate::proofs::InPlace::one_by_one))]
 fn first_and_others<'a>(sids: &SidsRef<'a>) -> Option<(SidRef<'a>, SidsRef<'a>)>
     ensures value { sids.now ≡ joined (option_map (λ p. (p.0, p.1)) result) }
@@ -136,8 +136,8 @@ impl<'a> SidsRef<'a> {
         self.count
     }
 
-    /// The bytes of the remaining sids, after their head, and whether they are in the form with tags. Without sids the form is
-    /// the one without tags.
+    /// The bytes of the remaining sids, without their head, and whether they are in the form with tags. Without
+    /// sids the form is the one without tags.
     #[inline]
     #[tactic(auto, using(mysql_wire::proofs::Packets::packets, crate::proofs::InPlace::standing))]
     pub fn as_bytes(&self) -> (&'a [u8], bool)
@@ -151,7 +151,7 @@ impl<'a> SidsRef<'a> {
         (bytes.eat(self.len), self.tagged)
     }
 
-    /// Iterates over the sids from the first one on.
+    /// Returns an iterator over the remaining sids.
     #[inline]
     pub fn iter(&self) -> SidsRef<'a>
         ensures value { result ≡ self.now }
@@ -177,7 +177,7 @@ impl<'a> SidsRef<'a> {
     }
 }
 
-/// Whether both give the same sids, one after another.
+/// Whether both yield the same sids, in the same order.
 fn give_the_same(one: &SidsRef<'_>, other: &SidsRef<'_>) -> bool
     ensures value { result ≡ pointwise ⟦<Sid<'static> as PartialEq>⟧.eq one.now other.now }
 {

@@ -30,8 +30,8 @@ pub type ComTableDumpHeader = ConstU8<InvalidComTableDumpHeader, COM_TABLE_DUMP>
 /// The request for the rows of a table (`COM_TABLE_DUMP`): the byte `13`, and the names of the
 /// database and of the table, each after its length in one byte.
 ///
-/// The first 255 bytes of a name are written. Missing bytes are `UnexpectedEof`, another first byte
-/// is `InvalidData`. Reading takes no memory.
+/// At most the first 255 bytes of a name are written. Missing bytes are `UnexpectedEof`, another first byte is
+/// `InvalidData`. Reading takes no memory.
 ///
 /// ```
 /// let request = ComTableDump::new(CowSlice::Borrowed(database), CowSlice::Borrowed(table));
@@ -56,7 +56,7 @@ impl Drop for ComTableDump<'_> {
 }
 
 impl<'a> ComTableDump<'a> {
-    /// The request for this table of this database.
+    /// Creates the request for a table of a database.
     pub fn new(database: CowSlice<'a, u8>, table: CowSlice<'a, u8>) -> Self
         ensures value { result ≡ spec.dump_of (cow_slice_items database.entry) (cow_slice_items table.entry) }
     {

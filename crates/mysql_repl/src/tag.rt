@@ -18,8 +18,10 @@ use std::hash::{Hash, Hasher};
 use std::marker::Model;
 use thiserror::Error;
 
-/// The error of an invalid tag. The first one of these is returned: the text is empty, it is too long, its first character is
-/// invalid, and then its other characters from the left.
+/// The error of an invalid tag.
+///
+/// The first of these is returned: the text is empty; it is too long; its first character is invalid; one of
+/// its other characters, from the left, is invalid.
 ///
 /// ```
 /// Tag::new(CowStr::Borrowed(text))
@@ -29,7 +31,7 @@ pub enum InvalidTag {
     /// The text is empty.
     #[error("tag is empty")]
     Empty,
-    /// The text has a given number of bytes, and so more than 32.
+    /// The text has this number of bytes, which is more than 32.
     #[error("tag is too long ({0} > 32)")]
     TooLong(usize),
     /// The text begins with this character.
@@ -107,7 +109,7 @@ fn in_lower_case(c: Option<char>) -> Option<char>
     }
 }
 
-/// The first fault of a text in lower case.
+/// Returns the first error of a text in lower case.
 #[tactic(auto, using(crate::proofs::LowerTexts::lower_faults))]
 pub(crate) fn fault_in_lower_case(text: &str) -> Option<InvalidTag>
     ensures { result ≡ tag_fault (map to_ascii_lowercase text.now) }
@@ -120,8 +122,8 @@ pub(crate) fn fault_in_lower_case(text: &str) -> Option<InvalidTag>
 /// The tag of some transactions: a lowercase letter or an underscore, and then up to 31 lowercase
 /// letters, digits and underscores.
 ///
-/// Tags with the same text are equal, hash equally and have one place in the order, whoever owns the
-/// text. They are ordered by their bytes.
+/// Tags with the same text are equal, hash equally and compare as equal in the order, borrowed or owned. They
+/// are ordered by their bytes.
 ///
 /// ```
 /// Tag::new(CowStr::Borrowed(text))
@@ -148,10 +150,10 @@ impl<'a> Model for Tag<'a> {
 }
 
 impl<'a> Tag<'a> {
-    /// The most bytes that a tag has.
+    /// The maximum length of a tag in bytes.
     pub const MAX_LEN: usize = 32;
 
-    /// The tag of this text, or the text's first fault. It takes no memory.
+    /// Creates a tag of this text, or returns the text's first error. It takes no memory.
     #[tactic(auto, using(crate::proofs::Tags::tag_faults))]
     pub fn new(text: CowStr<'a>) -> Result<Self, InvalidTag>
         ensures ok { IfOk result (λ tag. (tag ≡ cow_str_bytes text.entry) × (tag_fault (cow_str_bytes text.entry) ≡ None)) }
@@ -181,8 +183,8 @@ impl<'a> Tag<'a> {
         self.0.as_str()
     }
 
-    /// Converts to an owned tag; an owned text is kept. If the allocation fails, the tag is dropped; the text that it borrowed
-    /// isn't affected.
+    /// Converts to an owned tag; an owned text is kept. If the allocation fails, the tag is dropped; the
+    /// borrowed text isn't affected.
     pub fn into_owned(self, alloc: Global) -> Result<Tag<'static>, AllocError>
         ensures value { IfOk result (λ owned. owned ≡ self.entry) }
     {
@@ -303,7 +305,7 @@ impl Debug for Tag<'_> {
     }
 }
 
-/// The text.
+/// Displays the text.
 impl fmt::Display for Tag<'_> {
     ghost output = { λ tag. Some tag };
 

@@ -1,4 +1,4 @@
-//! A tag among bytes, or none.
+//! An optional tag in its encoding.
 
 ghost use Rattle.std.specs.Prelude.{false, ◌≡◌, List, ℕ};
 ghost use Rattle.mysql_wire.specs.Form.{looked_up};
@@ -10,10 +10,10 @@ use crate::tag_ref::TagRef;
 use mysql_wire::{BytesRepr, FaultOf, ParseBuf, VarLen};
 use std::str;
 
-/// The text of an absent tag.
+/// The error text of an invalid tag.
 const INVALID: &str = "Invalid tag";
 
-/// The tag of some bytes; none, if there are no bytes.
+/// Returns the tag of some bytes, or `None` if there are no bytes.
 fn tag_of<'s, 'a>(bytes: &'a [u8]) -> Result<Option<TagRef<'a>>, FaultOf<'s>>
     ensures value { (rest : List ℕ) → Answers false result rest (looked_up (spec.tag_of bytes.now) rest) }
 {
@@ -31,7 +31,7 @@ fn tag_of<'s, 'a>(bytes: &'a [u8]) -> Result<Option<TagRef<'a>>, FaultOf<'s>>
 
 /// Reads a tag after its length, which is 0 for no tag. It takes no memory.
 ///
-/// Bytes that are no tag are `InvalidData`.
+/// Bytes that aren't a tag are `InvalidData`.
 #[tactic(auto, unfolding(crate::specs::TagString::tag_form))]
 pub(crate) fn read_tag_ref<'s, 'de>(
     buf: &mut ParseBuf<'de>,
@@ -52,7 +52,7 @@ pub(crate) fn read_tag<'s, 'de>(buf: &mut ParseBuf<'de>) -> Result<Option<Tag<'d
     }
 }
 
-/// The bytes of the tag; none, if there is none.
+/// The bytes of the tag; empty if there is none.
 pub(crate) fn tag_bytes<'b>(tag: &'b Option<Tag<'_>>) -> &'b [u8]
     ensures value { result.now ≡ spec.tag_bytes tag.now }
 {

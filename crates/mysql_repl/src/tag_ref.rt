@@ -1,4 +1,4 @@
-//! A tag that stays in its packet.
+//! A borrowed tag.
 
 ghost use Rattle.std.specs.Prelude.{◌≡◌, Some, None, IfOk, IfErr, ⊤};
 ghost use Rattle.mysql_repl.specs.Tag.{IsTag, tag_fault};
@@ -27,7 +27,7 @@ impl<'a> Model for TagRef<'a> {
 }
 
 impl<'a> TagRef<'a> {
-    /// The tag of this text, or the text's first fault.
+    /// Creates a tag of this text, or returns the text's first error.
     #[tactic(auto, using(crate::proofs::Tags::tag_faults))]
     pub fn new(text: &'a str) -> Result<Self, InvalidTag>
         ensures ok { IfOk result (λ tag. (tag ≡ text.now) × (tag_fault text.now ≡ None)) }

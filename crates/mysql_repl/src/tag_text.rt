@@ -1,4 +1,4 @@
-//! A tag as the text of a GTID set has it.
+//! A tag in the text of a GTID set.
 
 ghost use Rattle.std.specs.Char.{to_ascii_lowercase};
 ghost use Rattle.std.specs.Prelude.{◌≡◌, Some, None, IfOk, IfErr, map, ⊤};
@@ -10,9 +10,9 @@ use std::fmt;
 use std::fmt::Debug;
 use std::marker::Model;
 
-/// A tag in either case, which stays in its text: in lower case it is a [`Tag`](crate::Tag). In a clause it is the text.
+/// A borrowed tag in either case: in lower case it is a [`Tag`](crate::Tag). In a clause it is the text.
 ///
-/// Tags are equal that are the same in lower case.
+/// Tags are equal if they are the same in lower case.
 ///
 /// ```
 /// Ok(TagText::new(text)?.as_str())
@@ -35,7 +35,7 @@ impl<'a> Model for TagText<'a> {
 }
 
 impl<'a> TagText<'a> {
-    /// The tag of this text, or the first fault that it has in lower case.
+    /// Creates a tag of this text, or returns its first error in lower case.
     #[tactic(auto, using(crate::proofs::LowerTexts::lower_tags))]
     pub fn new(text: &'a str) -> Result<Self, InvalidTag>
         ensures ok { IfOk result (λ tag. (tag ≡ text.now) × (tag_fault (map to_ascii_lowercase text.now) ≡ None)) }

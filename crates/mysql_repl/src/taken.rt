@@ -1,4 +1,4 @@
-//! Writing with the buffer in a variable of its own.
+//! Writing into a buffer that is a variable of its own.
 
 ghost use Rattle.std.specs.Prelude.{◌≡◌, ◌+◌, ◌++◌, ◌≤◌, length, drop};
 
@@ -6,8 +6,8 @@ use mysql_wire::{Buffer, MySerialize};
 
 /// Writes a value to the end of a buffer that has capacity for it.
 ///
-/// While the buffer is a variable of its own, the compiler keeps its length and its address in registers, and makes one
-/// store of a number's bytes.
+/// While the buffer is a variable of its own, the compiler keeps its length and its address in registers, and
+/// merges a number's bytes into one store.
 #[inline(always)]
 pub(crate) fn append_taken<T: MySerialize, O: Buffer>(value: &T, out: &mut O)
     requires { length (O.held out.old) + length (T.bytes value.now) ≤ O.capacity out.old }

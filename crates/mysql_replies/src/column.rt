@@ -17,7 +17,7 @@ use mysql_wire::{
 use std::alloc::{AllocError, Global};
 use std::borrow::CowStr;
 
-/// The catalog of every column: `def`, length-encoded.
+/// The catalog of every column, `def`, as a length-encoded string.
 #[derive(Clone, Copy, Debug, Default, PartialEq, Eq, Hash)]
 pub struct Catalog;
 
@@ -56,7 +56,7 @@ pub struct Column {
     pub(crate) fields: ColumnFields,
 }
 
-/// The column of these names and fields, which copies the names.
+/// Creates a column of these names and fields, and copies the names.
 pub(crate) fn named(
     alloc: Global,
     names: &Names<'_>,
@@ -73,7 +73,7 @@ pub(crate) fn named(
 }
 
 impl Column {
-    /// A column of this type: its names are empty, and its numbers and flags 0.
+    /// Creates a column of this type, with empty names, and with 0 for its numbers and flags.
     pub fn new(column_type: ColumnType) -> Self
         ensures value { result ≡ spec.new_column column_type }
     {
@@ -148,7 +148,7 @@ impl Column {
         named(alloc, &names, self.fields)
     }
 
-    /// The column with these flags.
+    /// Sets the flags.
     #[inline]
     pub fn with_flags(self, flags: ColumnFlags) -> Column
         ensures value { result ≡ spec.with_flags self flags }
@@ -158,7 +158,7 @@ impl Column {
         Column { fields, ..self }
     }
 
-    /// The column with this length.
+    /// Sets the length.
     #[inline]
     pub fn with_column_length(self, column_length: u32) -> Column
         ensures value { result ≡ spec.with_column_length self column_length }
@@ -168,7 +168,7 @@ impl Column {
         Column { fields, ..self }
     }
 
-    /// The column with this character set.
+    /// Sets the character set.
     #[inline]
     pub fn with_character_set(self, character_set: u16) -> Column
         ensures value { result ≡ spec.with_character_set self character_set }
@@ -178,7 +178,7 @@ impl Column {
         Column { fields, ..self }
     }
 
-    /// The column with this many decimals.
+    /// Sets the number of decimals.
     #[inline]
     pub fn with_decimals(self, decimals: u8) -> Column
         ensures value { result ≡ spec.with_decimals self decimals }
@@ -188,7 +188,7 @@ impl Column {
         Column { fields, ..self }
     }
 
-    /// The most characters of a value, for showing it.
+    /// The maximum length of a value in characters, for display.
     #[inline]
     pub fn column_length(&self) -> u32
         ensures value { result ≡ spec.column_length self.now }
@@ -252,7 +252,7 @@ impl Column {
         self.meta.table()
     }
 
-    /// The name of the table, or of its alias as text, with U+FFFD for invalid UTF-8. Valid UTF-8 is borrowed.
+    /// The name of the table, or of its alias, as text, with U+FFFD for invalid UTF-8. Valid UTF-8 is borrowed.
     pub fn table_str(&self, alloc: Global) -> Result<CowStr<'_>, AllocError>
         ensures text { GivesText (spec.table self.now) result }
     {
@@ -282,7 +282,7 @@ impl Column {
         self.meta.name()
     }
 
-    /// The name of the column, or of its alias as text, with U+FFFD for invalid UTF-8. Valid UTF-8 is borrowed.
+    /// The name of the column, or of its alias, as text, with U+FFFD for invalid UTF-8. Valid UTF-8 is borrowed.
     pub fn name_str(&self, alloc: Global) -> Result<CowStr<'_>, AllocError>
         ensures text { GivesText (spec.name self.now) result }
     {

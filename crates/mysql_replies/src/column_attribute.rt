@@ -16,16 +16,16 @@ use std::borrow::{CowSlice, CowStr};
 /// The kind of a column's attribute.
 #[derive(Clone, Copy, Debug, PartialEq, Eq)]
 pub enum ColumnAttributeKind {
-    /// The name of the column's type, as `uuid`, `inet6` or `point`: 0.
+    /// The name of the column's type, such as `uuid`, `inet6` or `point`: 0.
     TypeName,
-    /// The name of the format of its values, as `json`: 1.
+    /// The name of the format of its values, such as `json`: 1.
     FormatName,
-    /// Another kind, by its number. The numbers 0 and 1 are written as the kinds above.
+    /// Any other kind, by its number. `Unknown(0)` and `Unknown(1)` are written like the kinds above.
     Unknown(u8),
 }
 
 impl ColumnAttributeKind {
-    /// The kind of this number.
+    /// Returns the kind with this number.
     pub fn of(code: u8) -> Self
         ensures value { result ≡ spec.kind_of code }
     {

@@ -16,7 +16,7 @@ use std::marker::Model;
 
 /// An attribute of a column whose text stays in the packet: a [`ColumnAttribute`] for as long as the packet lives.
 ///
-/// It is read of the same bytes with the same faults, and in a clause it is that attribute.
+/// It is read from the same bytes with the same faults, and in a clause it is that attribute.
 ///
 /// ```
 /// let column: ExtendedColumnRef<'_> = ParseBuf::new(alloc, payload).parse(agreed)?;
@@ -102,7 +102,7 @@ impl Debug for ColumnAttributeRef<'_> {
     }
 }
 
-/// As a [`ColumnAttribute`].
+/// Read like a [`ColumnAttribute`].
 impl<'de> MyDeserialize<'de> for ColumnAttributeRef<'de> {
     const SIZE: Option<usize> = None;
 

@@ -11,7 +11,7 @@ use std::marker::Model;
 /// An iterator over the attributes in the extended metadata of a column. Each borrows from the packet; a fault is the last
 /// item. It takes no memory.
 ///
-/// In a clause it is the list of the bytes that are left.
+/// In a clause it is the list of the remaining bytes.
 ///
 /// ```
 /// let column: ExtendedColumnRef<'_> = ParseBuf::new(alloc, payload).parse(agreed)?;
@@ -33,7 +33,7 @@ impl<'a> Model for ColumnAttributes<'a> {
     ghost view = { λ c. c.attributes };
 }
 
-/// Takes the next attribute off the front, or all bytes where it is none.
+/// Takes the next attribute off the front, or all bytes if they don't begin with one.
 #[tactic(auto, using(mysql_wire::proofs::Packets::packets, crate::proofs::Attributes::attributes))]
 fn next_attribute<'a>(
     attributes: &mut ParseBuf<'a>,
@@ -54,7 +54,7 @@ fn next_attribute<'a>(
 }
 
 impl<'a> ColumnAttributes<'a> {
-    /// The attributes of these bytes.
+    /// Creates an iterator over the attributes in these bytes.
     pub(crate) fn new(attributes: ParseBuf<'a>) -> Self
         ensures { result ≡ attributes.entry }
     {

@@ -1,4 +1,4 @@
-//! The count of columns that a result begins with.
+//! The column count that a result begins with.
 #![tactic(auto, using(mysql_wire::proofs::Packets::packets), unfolding(crate::specs::ColumnCount::column_count))]
 
 ghost use Rattle.std.specs.Prelude.{◌≡◌, None, refl, option_map};
@@ -17,7 +17,7 @@ use mysql_wire::{
 /// | Bytes | Field |
 /// |---|---|
 /// | 1, 3, 4 or 9 | `count`, length-encoded |
-/// | 1 | `metadata_follows`, where both sides have `CLIENT_OPTIONAL_RESULTSET_METADATA` or `MARIADB_CLIENT_CACHE_METADATA` |
+/// | 1 | `metadata_follows`, if both sides have `CLIENT_OPTIONAL_RESULTSET_METADATA` or `MARIADB_CLIENT_CACHE_METADATA` |
 ///
 /// The byte is 0 if the server omits the definitions: MySQL, because the client asked for none (`resultset_metadata`); MariaDB,
 /// because they are those of the statement's last execution. Without the byte, the definitions follow. MySQL writes the count
@@ -35,7 +35,7 @@ pub struct ColumnCount {
 }
 
 impl ColumnCount {
-    /// A count of columns whose definitions follow, without the byte that says so.
+    /// Creates a column count without the metadata byte: the definitions follow.
     #[inline]
     pub fn new(count: u64) -> Self
         ensures value { result ≡ spec.columns count }
@@ -46,7 +46,7 @@ impl ColumnCount {
         }
     }
 
-    /// Adds the byte that says whether definitions follow, for sessions whose flags ask for it.
+    /// Adds the metadata byte, which says whether the definitions follow, for sessions whose flags ask for it.
     #[inline]
     pub fn with_metadata_follows(self, follows: bool) -> Self
         ensures value { result ≡ spec.with_metadata_follows follows self }
@@ -76,7 +76,7 @@ impl ColumnCount {
         }
     }
 
-    /// The byte that says whether the definitions follow, if there is one.
+    /// The metadata byte, which says whether the definitions follow, if there is one.
     #[inline]
     pub fn metadata_byte(&self) -> Option<u8>
         ensures value { option_map raw_int result ≡ self.now.metadata_follows }
@@ -88,7 +88,7 @@ impl ColumnCount {
     }
 }
 
-/// Whether a byte says if definitions follow: MySQL's flag asks for it, or MariaDB's.
+/// Whether the packet has the metadata byte: MySQL's flag or MariaDB's asks for it.
 #[inline]
 fn says_follow(agreed: SessionCapabilities) -> bool
     ensures value { result ≡ spec.says_follow agreed }

@@ -27,7 +27,7 @@ pub(crate) struct ColumnFields {
     pub(crate) filler: Skip<2>,
 }
 
-/// The fields of these.
+/// Creates the fields of these values.
 #[inline]
 pub(crate) fn fields_of(
     character_set: u16,

@@ -1,4 +1,4 @@
-//! The names of a column, on memory of their own.
+//! The names of a column, in memory of their own.
 #![tactic(auto, using(crate::proofs::NamesAfter::names), unfolding(crate::specs::ColumnNames::column_meta))]
 
 ghost use Rattle.std.specs.Prelude.{false, ◌≡◌, ◌≤◌, ◌+◌, ◌++◌, None, length, refl, vec_capacity, vec_len, Ok, IfOk, OnErr, IsTrue, MatchResult};
@@ -75,7 +75,7 @@ impl<'a> Model for Names<'a> {
 }
 
 impl<'a> Names<'a> {
-    /// The names as they are written, which stay where they are.
+    /// Returns the names in the form in which they are written, borrowed.
     pub(crate) fn meta(&self) -> ColumnMeta<'a>
         ensures value { result ≡ self.now }
     {
@@ -127,8 +127,7 @@ pub(crate) fn read_name<'s, 'de>(buf: &mut ParseBuf<'de>) -> Result<&'de [u8], F
 
 /// Reads five length-encoded strings. After a fault the bytes are unchanged.
 ///
-/// Each of the two readers of columns has its own instance, so that it is inlined there, and names that nobody uses cost
-/// nothing.
+/// Each of the two readers of columns has its own instance, so that it is inlined there, and unused names cost nothing.
 #[inline(always)]
 pub(crate) fn read_names<'s, 'de, const COPIED: bool>(
     buf: &mut ParseBuf<'de>,
@@ -171,7 +170,7 @@ impl Model for ColumnNames {
     ghost invariant = { AreInOrder };
 }
 
-/// A name that stays where it is.
+/// Returns a borrowed name.
 fn borrowed(name: &[u8]) -> RawBytes<'_, LenEnc>
     ensures value { result ≡ name.now }
 {
@@ -192,7 +191,7 @@ fn put(name: &[u8], bytes: &mut Vec<u8>) -> usize
 }
 
 impl ColumnNames {
-    /// A copy of these names.
+    /// Copies these names.
     #[tactic(auto, using(crate::proofs::NamesAfter::names), unfolding(mysql_wire::specs::Writing::saturated))]
     pub(crate) fn of(alloc: Global, names: &Names<'_>) -> Result<Self, AllocError>
         ensures value { IfOk result (λ copy. copy ≡ names.now) }
@@ -227,7 +226,7 @@ impl ColumnNames {
         }
     }
 
-    /// The names as they are written.
+    /// Returns the names in the form in which they are written.
     pub(crate) fn meta(&self) -> ColumnMeta<'_>
         ensures value { result ≡ self.now }
     {

@@ -1,4 +1,4 @@
-//! A column of a result that stays in its packet.
+//! A borrowed column of a result.
 #![tactic(auto, using(mysql_wire::proofs::Packets::packets), unfolding(crate::specs::Column::column, crate::specs::ColumnNames::column_meta))]
 
 ghost use Rattle.std.specs.Prelude.{◌≡◌, None, refl, IfOk, IfErr, IsTrue, ⊤};
@@ -16,9 +16,11 @@ use std::fmt;
 use std::fmt::Debug;
 use std::marker::Model;
 
-/// A column of a result (`Protocol::ColumnDefinition41`) whose names stay in the packet: [`Column`] without memory.
+/// A column of a result (`Protocol::ColumnDefinition41`) that borrows its names from the packet: a [`Column`]
+/// that takes no memory.
 ///
-/// It is read of the same bytes as a [`Column`], with the same faults except for `Memory`, and in a clause it is that column.
+/// It is read from the same bytes as a [`Column`], with the same faults except for `Memory`, and in a clause it
+/// is that column.
 ///
 /// ```
 /// let column: ColumnRef<'_> = ParseBuf::new(alloc, payload).parse(())?;
@@ -138,7 +140,7 @@ impl<'a> ColumnRef<'a> {
         )
     }
 
-    /// The column with names of its own. It takes memory where a name has any byte.
+    /// Converts to an owned column. It takes memory unless all names are empty.
     pub fn to_column(&self, alloc: Global) -> Result<Column, AllocError>
         ensures value { IfOk result (λ column. column ≡ self.now) }
         ensures memory { IfErr result (λ _. IsTrue (has_a_name (spec.names_of self.now))) }
@@ -191,7 +193,7 @@ impl Debug for ColumnRef<'_> {
     }
 }
 
-/// The column of these names and fields.
+/// Creates a column of these names and fields.
 #[inline(always)]
 pub(crate) fn placed<'a>(names: Names<'a>, fields: &ColumnFields) -> ColumnRef<'a>
     ensures value { result ≡ spec.column_with names.entry fields.now }

@@ -1,4 +1,4 @@
-//! Errors and progress reports, in their packet.
+//! Errors and progress reports, in one packet type.
 #![tactic(auto, using(mysql_wire::proofs::Packets::packets), unfolding(crate::specs::ErrPacket::err_packet))]
 
 ghost use Rattle.std.specs.Prelude.{◌≡◌, None, Some, refl, IsTrue};
@@ -22,26 +22,26 @@ pub type ErrPacketHeader = ConstU8<InvalidErrPacketHeader, 0xff>;
 /// The code of a packet that may be a progress report.
 pub(crate) const PROGRESS_CODE: u16 = 0xffff;
 
-/// An error or a progress report (`Protocol::ERR_Packet`): the byte `ff`, a code of two bytes,
-/// little-endian, then what it is the code of.
+/// An error or a progress report (`Protocol::ERR_Packet`): the byte `ff`, a code of two bytes, little-endian,
+/// and the rest of the error or the report.
 ///
-/// If the code is `ffff` and the flags have `CLIENT_PROGRESS_OBSOLETE`, it is a progress report. Otherwise it is an error, with
-/// an SQL state if the flags have `CLIENT_PROTOCOL_41`.
+/// If the code is `ffff` and the flags have `CLIENT_PROGRESS_OBSOLETE`, it is a progress report. Otherwise it
+/// is an error, with an SQL state if the flags have `CLIENT_PROTOCOL_41`.
 ///
-/// Before the handshake no flags are agreed: an error in place of the greeting, as 'Too many connections', is a
-/// [`GreetingError`](crate::GreetingError), with or without an SQL state.
+/// Before the handshake no flags are agreed: an error instead of the greeting, such as 'Too many connections',
+/// is a [`GreetingError`](crate::GreetingError), with or without an SQL state.
 ///
 /// ```
 /// match packet.to_packet() {
-///     ErrPacket::Error(error) => Ok(error.into_owned(alloc)?),
-///     ErrPacket::Progress(_) => Err(Error::Unknown("a report in place of an error")),
+/// ErrPacket::Error(error) => Ok(error.into_owned(alloc)?),
+/// ErrPacket::Progress(_) => Err(Error::Unknown("a report in place of an error")),
 /// }
 /// ```
 #[derive(Clone, Debug, PartialEq, Drop)]
 pub enum ErrPacket<'a> {
     /// An error.
     Error(ServerError<'a>),
-    /// How far a long statement is.
+    /// A report on the progress of a long statement.
     Progress(ProgressReport<'a>),
 }
 
@@ -62,7 +62,7 @@ impl<'a> ErrPacket<'a> {
         matches!(self, ErrPacket::Progress(_))
     }
 
-    /// The progress report. The packet is one, as `is_progress_report` tells.
+    /// The progress report. The packet must be one: see [`is_progress_report`](Self::is_progress_report).
     pub fn progress_report(&self) -> &ProgressReport<'a>
         requires { IsTrue (spec.is_progress_report self.now) }
         ensures value { self.now ≡ err.Progress result.now }
@@ -73,7 +73,7 @@ impl<'a> ErrPacket<'a> {
         }
     }
 
-    /// The error. The packet is one, as `is_error` tells.
+    /// The error. The packet must be one: see [`is_error`](Self::is_error).
     pub fn server_error(&self) -> &ServerError<'a>
         requires { IsTrue (spec.is_error self.now) }
         ensures value { self.now ≡ err.Error result.now }

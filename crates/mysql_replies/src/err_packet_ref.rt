@@ -1,4 +1,4 @@
-//! Errors and progress reports that stay in their packet.
+//! Borrowed errors and progress reports.
 #![tactic(auto, using(mysql_wire::proofs::Packets::packets), unfolding(crate::specs::ErrPacket::err_packet))]
 
 ghost use Rattle.std.specs.Prelude.{◌≡◌, None, refl, IsTrue};
@@ -23,7 +23,7 @@ enum Answer<'a> {
 
 /// An error or a progress report whose texts stay in the packet: an [`ErrPacket`] for as long as the packet lives.
 ///
-/// It is read of the same bytes with the same faults, and in a clause it is that packet.
+/// It is read from the same bytes with the same faults, and in a clause it is that packet.
 ///
 /// ```
 /// match packet.to_packet() {
@@ -59,7 +59,7 @@ impl<'a> ErrPacketRef<'a> {
         matches!(&self.answer, Answer::Progress(_))
     }
 
-    /// The progress report. The packet is one, as `is_progress_report` tells.
+    /// The progress report. The packet must be one: see [`is_progress_report`](Self::is_progress_report).
     pub fn progress_report(&self) -> &ProgressReportRef<'a>
         requires { IsTrue (spec.is_progress_report self.now) }
         ensures value { self.now ≡ err.Progress result.now }
@@ -70,7 +70,7 @@ impl<'a> ErrPacketRef<'a> {
         }
     }
 
-    /// The error. The packet is one, as `is_error` tells.
+    /// The error. The packet must be one: see [`is_error`](Self::is_error).
     pub fn server_error(&self) -> &ServerErrorRef<'a>
         requires { IsTrue (spec.is_error self.now) }
         ensures value { self.now ≡ err.Error result.now }
@@ -92,7 +92,7 @@ impl<'a> ErrPacketRef<'a> {
     }
 }
 
-/// As an [`ErrPacket`].
+/// Read like an [`ErrPacket`].
 impl<'de> MyDeserialize<'de> for ErrPacketRef<'de> {
     const SIZE: Option<usize> = None;
 

@@ -14,13 +14,14 @@ use mysql_wire::{
 use std::alloc::{AllocError, Global};
 use std::borrow::CowSlice;
 
-/// A column of a result, by the capabilities of both sides: with `MARIADB_CLIENT_EXTENDED_METADATA` one more length-encoded
-/// string, its extended metadata, stands after the six names (MariaDB's "Result Set Packets", column definition).
+/// A column of a result, by the capabilities of both sides: with `MARIADB_CLIENT_EXTENDED_METADATA` one more
+/// length-encoded string, its extended metadata, follows the six names (MariaDB's "Result Set Packets", column
+/// definition).
 ///
 /// | Bytes | Field |
 /// |---|---|
 /// | 4 and more | the catalog and the names of a [`Column`] |
-/// | 1 and more | `metadata`, a length-encoded string, under the flag alone |
+/// | 1 and more | `metadata`, a length-encoded string, only under the flag |
 /// | 13 | the other fields of a [`Column`] |
 ///
 /// The metadata are a list of [`ColumnAttribute`](crate::ColumnAttribute)s. Their bytes are kept, so that they are written as
@@ -45,7 +46,7 @@ impl Drop for ExtendedColumn {
 }
 
 impl ExtendedColumn {
-    /// The column without metadata, as it is sent where the flag is not agreed to.
+    /// Creates a column without metadata, as it is sent if the flag is not agreed on.
     #[inline]
     pub fn new(column: Column) -> Self
         ensures value { result ≡ spec.extended column None }
@@ -73,7 +74,7 @@ impl ExtendedColumn {
         })
     }
 
-    /// The column of these, for which the metadata are copied.
+    /// Creates a column of these, and copies the metadata.
     pub(crate) fn of(
         alloc: Global,
         column: Column,
@@ -108,7 +109,7 @@ impl ExtendedColumn {
         column
     }
 
-    /// The bytes of the metadata, where there are any: under the flag alone.
+    /// The bytes of the metadata, if any: only under the flag.
     #[inline]
     pub fn metadata_ref(&self) -> Option<&[u8]>
         ensures value { option_map (λ m. m.now) result ≡ spec.metadata_of self.now }
@@ -119,7 +120,7 @@ impl ExtendedColumn {
         }
     }
 
-    /// Iterates over the attributes in the metadata, if there are metadata.
+    /// Iterates over the attributes in the metadata, if any.
     pub fn attributes(&self, alloc: Global) -> ColumnAttributes<'_>
         ensures value { result ≡ spec.attribute_bytes (spec.metadata_of self.now) }
     {
@@ -128,7 +129,7 @@ impl ExtendedColumn {
     }
 }
 
-/// A copy of a text.
+/// Copies a text.
 fn owned(alloc: Global, text: &[u8]) -> Result<RawBytes<'static, LenEnc>, AllocError>
     ensures value { IfOk result (λ copy. copy ≡ text.now) }
     ensures no_memory { text.now ≡ [] → IsOk result }

@@ -1,4 +1,4 @@
-//! A column of a result with extended metadata that stays in its packet.
+//! A borrowed column of a result with extended metadata.
 #![tactic(auto, using(mysql_wire::proofs::Packets::packets), unfolding(crate::specs::ExtendedColumn::extended_column))]
 
 ghost use Rattle.std.specs.Prelude.{◌≡◌, None, refl, IfOk, OnErr, IsTrue, option_map, ⊤};
@@ -66,7 +66,7 @@ impl<'a> ExtendedColumnRef<'a> {
         self.column
     }
 
-    /// The bytes of the metadata, where there are any: under the flag alone.
+    /// The bytes of the metadata, if any: only under the flag.
     #[inline]
     pub fn metadata(&self) -> Option<&'a [u8]>
         ensures value { option_map (λ m. m.now) result ≡ spec.metadata_of self.now }
@@ -74,7 +74,7 @@ impl<'a> ExtendedColumnRef<'a> {
         self.metadata
     }
 
-    /// Iterates over the attributes in the metadata, if there are metadata.
+    /// Iterates over the attributes in the metadata, if any.
     #[inline]
     pub fn attributes(&self, alloc: Global) -> ColumnAttributes<'a>
         ensures value { result ≡ spec.attribute_bytes (spec.metadata_of self.now) }
@@ -86,7 +86,7 @@ impl<'a> ExtendedColumnRef<'a> {
         ColumnAttributes::new(ParseBuf::new(alloc, bytes))
     }
 
-    /// The column with texts of its own. It takes memory where a text has any byte.
+    /// Converts to an owned column. It takes memory unless all texts are empty.
     pub fn to_column(&self, alloc: Global) -> Result<ExtendedColumn, AllocError>
         ensures value { IfOk result (λ column. column ≡ self.now) }
         ensures memory { OnErr result (IsTrue (spec.has_text self.now)) }
@@ -136,7 +136,7 @@ impl Debug for ExtendedColumnRef<'_> {
     }
 }
 
-/// The metadata as they are written, which stay where they are.
+/// Returns the metadata in the form in which they are written, borrowed.
 fn written<'a>(metadata: Option<&'a [u8]>) -> Option<RawBytes<'a, LenEnc>>
     ensures value { result ≡ option_map (λ m. m.now) metadata.entry }
 {
@@ -146,7 +146,7 @@ fn written<'a>(metadata: Option<&'a [u8]>) -> Option<RawBytes<'a, LenEnc>>
     }
 }
 
-/// The bytes of the [`ExtendedColumn`].
+/// Written like the [`ExtendedColumn`].
 impl Parts for ExtendedColumnRef<'_> {
     ghost bytes = { spec.extended_column.bytes };
 

@@ -13,7 +13,7 @@ impl ConstFault for InvalidCatalog {
     const MESSAGE: &'static str = "Invalid catalog value in the column definition";
 }
 
-/// The byte in front of a column's fixed fields is not `0c`, their length.
+/// The byte before a column's fixed fields is not `0c`, their length.
 #[derive(Clone, Copy, Debug, Default, PartialEq, Eq, Hash, Error)]
 #[error("Invalid fixed length field length in the column definition")]
 pub struct InvalidFixedLengthFieldsLen;
@@ -31,7 +31,7 @@ impl ConstFault for InvalidLocalInfileHeader {
     const MESSAGE: &'static str = "Invalid LOCAL_INFILE header";
 }
 
-/// The byte in front of an SQL state is not `#`.
+/// The byte before an SQL state is not `#`.
 #[derive(Clone, Copy, Debug, Default, PartialEq, Eq, Hash, Error)]
 #[error("Invalid SqlStateMarker value")]
 pub struct InvalidSqlStateMarker;

@@ -22,11 +22,12 @@ const NULL: u8 = 0xfb;
 ///
 /// | Bytes | Field |
 /// |---|---|
-/// | 24 and more | `column`, an [`ExtendedColumn`](crate::ExtendedColumn): its names, its metadata under the flag and its other fields |
+/// | 24 and more | `column`, an [`ExtendedColumn`](crate::ExtendedColumn): its names, its metadata under the flag, and its other fields |
 /// | 1 and more | `default_value`, a length-encoded string, or `fb` for NULL |
 ///
-/// The server writes the default value as a row of text has it (`Item::send`, under `SEND_DEFAULTS` in `send_result_set_metadata`). A
-/// column without a default value has NULL. The definitions of results and of prepared statements end without it.
+/// The server writes the default value as in a text row (`Item::send`, under `SEND_DEFAULTS` in
+/// `send_result_set_metadata`). A column without a default value has NULL. The definitions of results and of
+/// prepared statements end without it.
 ///
 /// The faults are those of the column, and of a length-encoded string; missing bytes are `UnexpectedEof`. It takes no memory.
 ///
@@ -47,7 +48,7 @@ impl<'a> Model for FieldListColumn<'a> {
 }
 
 impl<'a> FieldListColumn<'a> {
-    /// The column with this default value, or with NULL.
+    /// Creates a column with this default value, or with NULL.
     #[inline]
     pub fn new(column: ExtendedColumnRef<'a>, default_value: Option<&'a [u8]>) -> Self
         ensures value { result ≡ definition column.entry (option_map (λ text. text.now) default_value.entry) }
@@ -66,7 +67,7 @@ impl<'a> FieldListColumn<'a> {
         &self.column
     }
 
-    /// The text of the default value; none where it is NULL.
+    /// The text of the default value, or `None` for NULL.
     #[inline]
     pub fn default_value(&self) -> Option<&'a [u8]>
         ensures value { option_map (λ text. text.now) result ≡ spec.default_of self.now }

@@ -1,4 +1,4 @@
-//! An error in place of the greeting.
+//! An error instead of the greeting.
 #![tactic(auto, using(mysql_wire::proofs::Packets::packets), unfolding(crate::specs::GreetingError::greeting_error))]
 
 ghost use Rattle.std.specs.Prelude.{◌≡◌, [], None, Some, refl, IfOk, IsOk};
@@ -12,18 +12,19 @@ use mysql_wire::{AnyWidth, FaultOf, LeU16, MyDeserialize, ParseBuf, Parts, RawIn
 use std::alloc::{AllocError, Global};
 use std::fmt;
 
-/// An error that a server sends in place of the greeting, as 'Too many connections' (`Protocol::ERR_Packet`): no flags are
-/// agreed yet, and MySQL sends an SQL state (`net_send_error` in `sql/protocol_classic.cc`), MariaDB none.
+/// An error that a server sends instead of the greeting, such as 'Too many connections'
+/// (`Protocol::ERR_Packet`): no flags are agreed yet, and MySQL sends an SQL state (`net_send_error` in
+/// `sql/protocol_classic.cc`), MariaDB none.
 ///
 /// | Bytes | Field |
 /// |---|---|
 /// | 1 | the byte `ff` |
 /// | 2 | the code, little-endian |
-/// | 6 | the SQL state, where `#` stands there and five bytes more follow |
+/// | 6 | the SQL state, if there is a `#` and at least five more bytes follow |
 /// | the rest | the message |
 ///
-/// Fewer than three bytes are `UnexpectedEof`, another first byte is `InvalidData`. A message without a state that begins with
-/// `#` and has five bytes more is read as one with a state.
+/// Fewer than three bytes are `UnexpectedEof`, another first byte is `InvalidData`. A message without a state
+/// that begins with `#` and has at least five more bytes is read as one with a state.
 ///
 /// ```
 /// let packet: GreetingErrorRef<'_> = ParseBuf::new(alloc, payload).parse(())?;
@@ -35,7 +36,7 @@ pub struct GreetingError<'a> {
 }
 
 impl<'a> GreetingError<'a> {
-    /// This error, in place of the greeting.
+    /// Creates the packet of this error.
     #[inline]
     pub fn new(error: ServerError<'a>) -> Self
         ensures value { result ≡ spec.greeting_error_of error.entry }
@@ -51,7 +52,7 @@ impl<'a> GreetingError<'a> {
         &self.error
     }
 
-    /// The error.
+    /// Returns the error.
     #[inline]
     pub fn into_server_error(self) -> ServerError<'a>
         ensures value { result ≡ spec.error_of_greeting self.entry }

@@ -1,4 +1,4 @@
-//! An error in place of the greeting that stays in its packet.
+//! A borrowed error instead of the greeting.
 #![tactic(auto, using(mysql_wire::proofs::Packets::packets), unfolding(crate::specs::GreetingError::greeting_error))]
 
 ghost use Rattle.std.specs.Prelude.{◌≡◌, None, refl, ⊤};
@@ -15,9 +15,10 @@ use std::fmt;
 use std::fmt::Debug;
 use std::marker::Model;
 
-/// An error in place of the greeting whose texts stay in the packet: a [`GreetingError`] for as long as the packet lives.
+/// An error instead of the greeting whose texts stay in the packet: a [`GreetingError`] for as long as the
+/// packet lives.
 ///
-/// It is read of the same bytes with the same faults, and in a clause it is that packet.
+/// It is read from the same bytes with the same faults, and in a clause it is that packet.
 ///
 /// ```
 /// let packet: GreetingErrorRef<'_> = ParseBuf::new(alloc, payload).parse(())?;
@@ -49,7 +50,7 @@ impl<'a> GreetingErrorRef<'a> {
     }
 }
 
-/// Whether the bytes begin with an SQL state: `#`, and five bytes more.
+/// Whether the bytes begin with an SQL state: `#` and at least five more bytes.
 #[inline]
 fn begins_with_state(buf: &ParseBuf<'_>) -> bool
     ensures value { result ≡ spec.begins_with_state buf.now }
@@ -85,7 +86,7 @@ impl Debug for GreetingErrorRef<'_> {
     }
 }
 
-/// As a [`GreetingError`].
+/// Read like a [`GreetingError`].
 impl<'de> MyDeserialize<'de> for GreetingErrorRef<'de> {
     const SIZE: Option<usize> = None;
 

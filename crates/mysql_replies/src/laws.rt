@@ -50,8 +50,8 @@ pub fn local_infile_round_trips()
     ensures plain { (p : LocalInfilePacket) → (local_infile.form tt).Spells p (local_infile.bytes p) [] }
 {}
 
-/// A count of columns is read back, whatever bytes follow: where a byte says whether definitions follow just where the flags
-/// ask for it.
+/// A column count is read back, whatever bytes follow, provided that it has the metadata byte if and only if the
+/// flags ask for it.
 #[tactic(auto, using(mysql_wire::proofs::Packets::packets, crate::proofs::PlainFits::plain))]
 pub fn column_count_round_trips()
     ensures spelled { (capabilities : SessionCapabilities) (c : ColumnCount) (rest : List ℕ) → column_count.fits capabilities c rest → (column_count.form capabilities).Spells c (column_count.bytes c ++ rest) rest }
@@ -70,21 +70,21 @@ pub fn equal_sql_states_hash_equally()
     ensures hash { (x y : SqlState) → IsTrue (⟦<crate::sql_state::SqlState as PartialEq>⟧.eq x y) → ⟦<crate::sql_state::SqlState as Hash>⟧.hash_input x ≡ ⟦<crate::sql_state::SqlState as Hash>⟧.hash_input y }
 {}
 
-/// An error is read back if nothing follows and the reader is passed the code, and whether there is a state.
+/// An error is read back if nothing follows and the reader is passed the code and whether there is a state.
 #[tactic(auto, using(mysql_wire::proofs::Packets::packets, crate::proofs::PlainFits::plain))]
 pub fn server_error_round_trips()
     ensures spelled { (context : ℕ × Bool) (e : ServerError) (rest : List ℕ) → server_error.fits context e rest → (server_error.form context).Spells e (server_error.bytes e ++ rest) rest }
     ensures plain { (has_state : Bool) (e : ServerError) → StateFits has_state (sql_state_of e) → (server_error.form (error_code e, has_state)).Spells e (server_error.bytes e) [] }
 {}
 
-/// An error in place of the greeting is read back if nothing follows.
+/// An error instead of the greeting is read back if nothing follows.
 #[tactic(auto, using(mysql_wire::proofs::Packets::packets, crate::proofs::GreetingErrors::greeting_errors))]
 pub fn greeting_error_round_trips()
     ensures spelled { (g : GreetingError) (rest : List ℕ) → greeting_error.fits tt g rest → (greeting_error.form tt).Spells g (greeting_error.bytes g ++ rest) rest }
     ensures plain { (g : GreetingError) → GreetingErrorFits g → (greeting_error.form tt).Spells g (greeting_error.bytes g) [] }
 {}
 
-/// Errors in place of the greeting are equal exactly where they are the same.
+/// Errors instead of the greeting compare equal exactly if they have the same value.
 #[tactic(auto, using(crate::proofs::GreetingErrors::greeting_errors))]
 pub fn equal_greeting_errors_are_the_same()
     ensures same { (x y : GreetingError) → IsTrue (⟦<crate::GreetingError<'static> as PartialEq>⟧.eq x y) ↔ (x ≡ y) }
@@ -97,12 +97,12 @@ pub fn progress_report_round_trips()
     ensures plain { (r : ProgressReport) (rest : List ℕ) → ProgressReportFits r → (progress_report.form tt).Spells r (progress_report.bytes r ++ rest) rest }
 {}
 
-/// An error or a progress report is read back.
+/// An error or a progress report is read back under the codec's condition, `err_packet.fits`.
 pub fn err_packet_round_trips()
     ensures spelled { (capabilities : CapabilityFlags) (p : ErrPacket) (rest : List ℕ) → err_packet.fits capabilities p rest → (err_packet.form capabilities).Spells p (err_packet.bytes p ++ rest) rest }
 {}
 
-/// The condition, in plain words, under which an error or a progress report is read back.
+/// `ErrPacketFits` states in plain words when an error or a progress report is read back.
 #[tactic(auto, using(crate::proofs::ErrPacketFits::err_packets))]
 pub fn err_packet_fits()
     ensures fits { (capabilities : CapabilityFlags) (p : ErrPacket) (rest : List ℕ) → ErrPacketFits capabilities p rest → err_packet.fits capabilities p rest }
@@ -115,13 +115,14 @@ pub fn session_state_info_round_trips()
     ensures plain { (i : SessionStateInfo) (rest : List ℕ) → length (data_bytes i) < 2 ^ 64 → (session_state_info.form tt).Spells i (session_state_info.bytes i ++ rest) rest }
 {}
 
-/// What a change is read as in the written layout, it is also read as in the layouts that servers send, except for GTIDs.
+/// Data that is read as a change in the written layout is read as the same change in the layouts that servers
+/// send, except for GTIDs.
 #[tactic(auto, using(crate::proofs::AsSent::as_sent))]
 pub fn session_state_change_as_sent()
     ensures value { (i : SessionStateInfo) (change : SessionStateChange) → is_gtids (data_type i) ≡ false → decoded i ≡ Ok (change, []) → decoded_as_sent i ≡ Ok (change, []) }
 {}
 
-/// An OK packet is read back as its kind, under the same flags, where nothing follows.
+/// An OK packet is read back as its kind, under the same flags, if nothing follows.
 pub fn ok_packet_round_trips()
     ensures common { (c : CapabilityFlags) (p : OkPacket) → OkPacketFits c p → (ok_packet {T = CommonOkPacket} 0 (common_ok_body c)).Spells (deserializer_of p) (common_bytes c p) [] }
     ensures terminator { (c : CapabilityFlags) (p : OkPacket) → TerminatorFits c p → (ok_packet {T = ResultSetTerminator} 0xfe (terminator_body c)).Spells (deserializer_of p) (terminator_bytes c p) [] }
@@ -129,13 +130,13 @@ pub fn ok_packet_round_trips()
     ensures stream_end { (c : CapabilityFlags) (p : OkPacket) → OldEofFits p → (ok_packet {T = NetworkStreamTerminator} 0xfe (old_eof_body c)).Spells (deserializer_of p) (eof_bytes p) [] }
 {}
 
-/// A change that is sent is decoded again.
+/// The bytes that are sent of a change are decoded as the same change.
 #[tactic(auto, using(crate::proofs::SentChangeAgain::sent_changes))]
 pub fn sent_change_round_trips()
     ensures decoded { (c : SessionStateChange) → SentIsShort c → IfSome (sent_info c) (λ i. decoded_as_sent i ≡ Ok (c, [])) }
 {}
 
-/// A state string has at most one list of entries.
+/// Bytes are the encoding of at most one list of entries of a state string.
 #[tactic(auto, using(mysql_wire::specs::Once::once))]
 pub fn state_string_once()
     ensures value { (xs ys : List SessionStateInfo) (bytes : List ℕ) → state_string.Spells xs bytes [] → state_string.Spells ys bytes [] → xs ≡ ys }
@@ -148,12 +149,12 @@ pub fn column_round_trips()
     ensures plain { (c : Column) (rest : List ℕ) → ColumnFits c → (column.form tt).Spells c (column.bytes c ++ rest) rest }
 {}
 
-/// A column that stays in its packet is read of the same bytes as a column, and is that column.
+/// A borrowed column is read like an owned one.
 pub fn borrowed_columns_read_columns()
     ensures read { (bytes : List ℕ) → (⟦<crate::column_ref::ColumnRef<'static> as MyDeserialize<'static>>⟧.form tt).reads bytes ≡ (column.form tt).reads bytes }
 {}
 
-/// Each packet states its size: the fixed fields of a column take 13 bytes, an SQL state 6, and nothing else has a constant size.
+/// The fixed fields of a column take 13 bytes, an SQL state 6, and no other packet has a constant size.
 pub fn each_packet_has_its_size() -> bool
     ensures value { IsTrue result }
 {
@@ -167,31 +168,31 @@ pub fn each_packet_has_its_size() -> bool
         && crate::SessionStateInfo::<'static>::SIZE.is_none()
 }
 
-/// Columns are equal exactly where they are the same.
+/// Columns compare equal exactly if they have the same value.
 #[tactic(auto, using(crate::proofs::EqualColumns::equal_columns))]
 pub fn equal_columns_are_the_same()
     ensures same { (x y : Column) → IsTrue (⟦<crate::column::Column as PartialEq>⟧.eq x y) ↔ (x ≡ y) }
 {}
 
-/// OK packets are equal exactly where they are the same.
+/// OK packets compare equal exactly if they have the same value.
 #[tactic(auto, using(crate::proofs::EqualReplies::equal_replies))]
 pub fn equal_ok_packets_are_the_same()
     ensures same { (x y : OkPacket) → IsTrue (⟦<crate::ok_packet::OkPacket<'static> as PartialEq>⟧.eq x y) ↔ (x ≡ y) }
 {}
 
-/// Entries of a state string are equal exactly where they are the same.
+/// Entries of a state string compare equal exactly if they have the same value.
 #[tactic(auto, using(crate::proofs::EqualReplies::equal_replies))]
 pub fn equal_session_state_infos_are_the_same()
     ensures same { (x y : SessionStateInfo) → IsTrue (⟦<crate::session_state_info::SessionStateInfo<'static> as PartialEq>⟧.eq x y) ↔ (x ≡ y) }
 {}
 
-/// Requests for a local file are equal exactly where they are the same.
+/// Requests for a local file compare equal exactly if they have the same value.
 #[tactic(auto, using(crate::proofs::EqualReplies::equal_replies))]
 pub fn equal_local_infiles_are_the_same()
     ensures same { (x y : LocalInfilePacket) → IsTrue (⟦<crate::local_infile::LocalInfilePacket<'static> as PartialEq>⟧.eq x y) ↔ (x ≡ y) }
 {}
 
-/// Errors and progress reports are equal exactly where they are the same.
+/// Errors and progress reports compare equal exactly if they have the same value.
 #[tactic(auto, using(crate::proofs::EqualReplies::equal_replies))]
 pub fn equal_err_packets_are_the_same()
     ensures packet { (x y : ErrPacket) → IsTrue (⟦<crate::err_packet::ErrPacket<'static> as PartialEq>⟧.eq x y) ↔ (x ≡ y) }

@@ -1,4 +1,4 @@
-//! The request for a file of the client's.
+//! The server's request for a file of the client.
 #![tactic(auto, using(mysql_wire::proofs::Packets::packets), unfolding(crate::specs::LocalInfile::local_infile))]
 
 ghost use Rattle.std.specs.Prelude.{◌≡◌, [], None, refl, IfOk, IsOk};
@@ -17,8 +17,8 @@ use std::borrow::{CowSlice, CowStr};
 /// The first byte of a request for a local file: `fb`.
 pub type LocalInfileHeader = ConstU8<InvalidLocalInfileHeader, 0xfb>;
 
-/// A server's request for a file of the client's (`Protocol::LOCAL_INFILE_Request`): the byte
-/// `fb`, and the file's name to the end of the packet.
+/// A server's request for a file of the client (`Protocol::LOCAL_INFILE_Request`): the byte `fb`, and the
+/// file's name to the end of the packet.
 ///
 /// A packet that begins with another byte is `InvalidData`, an empty one `UnexpectedEof`.
 ///
@@ -33,7 +33,7 @@ pub struct LocalInfilePacket<'a> {
 }
 
 impl<'a> LocalInfilePacket<'a> {
-    /// A request for the file of that name.
+    /// Creates a request for the file of this name.
     #[inline]
     pub fn new(file_name: CowSlice<'a, u8>) -> Self
         ensures value { result ≡ infile.request_for (cow_slice_items file_name.entry) }

@@ -11,10 +11,10 @@ use mysql_wire::{AnyWidth, FaultOf, MyDeserialize, ParseBuf};
 use std::borrow::CowSlice;
 use std::marker::Model;
 
-/// A server's request for a file of the client's, whose name stays in the packet: a [`LocalInfilePacket`] for as long as the
-/// packet lives.
+/// A server's request for a file of the client, whose name stays in the packet: a [`LocalInfilePacket`] for as
+/// long as the packet lives.
 ///
-/// It is read of the same bytes with the same faults, and in a clause it is that request.
+/// It is read from the same bytes with the same faults, and in a clause it is that request.
 ///
 /// ```
 /// let asked: LocalInfilePacket<'_> = ParseBuf::new(alloc, payload).parse(())?;
@@ -49,7 +49,7 @@ impl<'a> LocalInfilePacketRef<'a> {
     }
 }
 
-/// As a [`LocalInfilePacket`].
+/// Read like a [`LocalInfilePacket`].
 impl<'de> MyDeserialize<'de> for LocalInfilePacketRef<'de> {
     const SIZE: Option<usize> = None;
 

@@ -1,4 +1,4 @@
-//! The bodies of OK packets where the texts borrow from the packet, and how they end.
+//! The bodies of OK packets with borrowed texts, and their ends.
 
 ghost use Rattle.std.specs.Prelude.{false, ◌≡◌, [], OnErr};
 ghost use Rattle.mysql_wire.specs.Reading.{Answers};
@@ -54,8 +54,8 @@ impl<'a> OkPacketBodyRef<'a> {
     }
 }
 
-/// The end of an OK packet: an info and the session's changes, each empty where it is not sent. In a clause it is an
-/// `OkTail`.
+/// The end of an OK packet: the info and the session's changes, each empty if it is not sent. In a clause it is
+/// an `OkTail`.
 ///
 /// Servers send the info length-encoded with and without CLIENT_SESSION_TRACK (`net_send_ok` in MySQL's
 /// `sql/protocol_classic.cc`), where the page has `string<EOF>`.
@@ -73,7 +73,7 @@ impl<'a> Model for OkTailRef<'a> {
     ghost view = { λ t. tail_of t.info t.session_state_info };
 }
 
-/// No text.
+/// An empty text.
 #[inline(always)]
 pub(crate) fn none<'a>(buf: &ParseBuf<'a>) -> ParseBuf<'a>
     ensures value { result ≡ [] }
@@ -90,7 +90,7 @@ impl<'de> MyDeserialize<'de> for OkTailRef<'de> {
 
     ghost form = { λ ctx. ok_tail ctx.0 ctx.1 };
 
-    #[inline]
+    #[inline(always)]
     #[tactic(auto, using(mysql_wire::proofs::Tails::tails), unfolding(crate::specs::OkKind::ok_tail))]
     fn deserialize<'s>(
         ctx: (CapabilityFlags, StatusFlags),
@@ -128,8 +128,8 @@ impl<'de> MyDeserialize<'de> for OkTailRef<'de> {
     ghost size_is = { λ ctx. size-ok_tail ctx.0 ctx.1 };
 }
 
-/// Reads the end of a body: two bytes of status flags, a count of warnings of two bytes, both
-/// little-endian, and the tail.
+/// Reads the end of a body: two bytes of status flags and a warning count of two bytes, both little-endian, and
+/// the tail.
 #[inline(always)]
 #[tactic(auto, using(mysql_wire::proofs::Blocks::blocks), unfolding(crate::specs::OkKind::ok_end))]
 pub(crate) fn read_end<'s, 'de>(

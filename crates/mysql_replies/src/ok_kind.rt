@@ -11,29 +11,28 @@ use mysql_wire::{
     CapabilityFlags, Const, FaultOf, LeU16, LenEnc, ParseBuf, RawBytes, RawInt, StatusFlags,
 };
 
-/// The body of an OK packet: what follows the header, in the layout of its kind.
+/// The body of an OK packet: the fields after the header, in the layout of its kind.
 ///
 /// `parse_body` of each kind returns it, and an [`OkPacket`](crate::OkPacket) is created from it.
 #[derive(Clone, Debug, PartialEq, Eq, Drop)]
 pub struct OkPacketBody<'a> {
     /// The number of rows that the statement changed.
     pub(crate) affected_rows: u64,
-    /// The number that the last inserted row got, or 0.
+    /// The AUTO_INCREMENT value that the statement generated, or 0 (`last_insert_id`).
     pub(crate) last_insert_id: u64,
-    /// The state of the server.
+    /// The status flags of the server.
     pub(crate) status_flags: StatusFlags,
     /// The number of warnings.
     pub(crate) warnings: u16,
-    /// A text for people, or nothing.
+    /// A human-readable text, possibly empty.
     pub(crate) info: RawBytes<'a, LenEnc>,
-    /// The changes of the session's state, or nothing.
+    /// The changes of the session's state, possibly empty.
     pub(crate) session_state_info: RawBytes<'a, LenEnc>,
 }
 
 /// A kind of OK packet: its header, and the layout of its body.
 ///
-/// It is open: a kind of your own has a header of its own, and builds on the body of one of the
-/// four kinds here.
+/// Users may implement it: a kind of your own has its own header, and builds on the body of one of the four kinds here.
 pub trait OkPacketKind {
     ghost use Rattle.std.specs.Prelude.{ℕ};
     ghost use Rattle.mysql_wire.specs.Flags as flags;
@@ -71,7 +70,7 @@ pub trait OkPacketRefKind: OkPacketKind {
         ensures tail { OnErr result (IsTail buf.new buf.old) };
 }
 
-/// One of the protocol's kinds: their bodies are always borrowed.
+/// A kind of OK packet of the protocol, whose body is always read borrowed.
 pub trait ProtocolKind {
     ghost use Rattle.std.specs.Prelude.{ℕ, false, OnErr};
     ghost use Rattle.mysql_wire.specs.Flags as flags;
@@ -122,9 +121,9 @@ impl<T: ProtocolKind> OkPacketRefKind for T {
     }
 }
 
-/// The OK packet that ends no result set (`Protocol::OK_Packet`): header `00`, the affected rows
-/// and the insert id, each a length-encoded number, two bytes of status flags and two of warnings,
-/// the low ones first, and the tail.
+/// The OK packet that doesn't end a result set (`Protocol::OK_Packet`): header `00`, the affected rows and the
+/// insert id, each a length-encoded number, two bytes of status flags and two of warnings, little-endian, and
+/// the tail.
 ///
 /// ```
 /// let mut buf = ParseBuf::new(alloc, payload);
@@ -155,12 +154,12 @@ impl ProtocolKind for CommonOkPacket {
     }
 }
 
-/// The OK packet that ends a result set if the old end packet is deprecated: header `fe`. Its rows and insert id are read, and
-/// returned as 0.
+/// The OK packet that ends a result set under `CLIENT_DEPRECATE_EOF`: header `fe`. Its affected rows and insert
+/// id are read, and returned as 0.
 ///
 /// ```
 /// let end: OkPacketRefDeserializer<'_, ResultSetTerminator> = ParseBuf::new(alloc, payload).parse(
-///     agreed,
+/// agreed,
 /// )?;
 /// let status = end.into_inner().status_flags();
 /// Ok(status.contains(StatusFlags::SERVER_MORE_RESULTS_EXISTS))
@@ -188,12 +187,12 @@ impl ProtocolKind for ResultSetTerminator {
     }
 }
 
-/// The old end of a result (`Protocol::EOF_Packet`): header `fe`, then two bytes of warnings and
-/// two of status flags, the low ones first.
+/// The EOF packet, which ends a result without `CLIENT_DEPRECATE_EOF` (`Protocol::EOF_Packet`): header `fe`,
+/// two bytes of warnings and two of status flags, little-endian.
 ///
 /// ```
 /// let end: OkPacketRefDeserializer<'_, OldEofPacket> = ParseBuf::new(alloc, payload).parse(
-///     agreed,
+/// agreed,
 /// )?;
 /// Ok(end.into_inner().warnings())
 /// ```
@@ -226,7 +225,7 @@ impl ProtocolKind for OldEofPacket {
     }
 }
 
-/// The end of a stream of binlog events: as an [`OldEofPacket`].
+/// The end of a stream of binlog events: the layout of an [`OldEofPacket`].
 #[derive(Clone, Copy, Debug, PartialEq, Eq, Hash)]
 pub struct NetworkStreamTerminator;
 

@@ -54,7 +54,7 @@ impl Drop for OkPacket<'_> {
     }
 }
 
-/// The content, where it is not empty.
+/// Returns the content unless it is empty.
 #[inline(always)]
 fn unless_empty<'a>(content: RawBytes<'a, LenEnc>) -> Option<RawBytes<'a, LenEnc>>
     ensures value { result ≡ spec.unless_empty content.entry }
@@ -66,7 +66,7 @@ fn unless_empty<'a>(content: RawBytes<'a, LenEnc>) -> Option<RawBytes<'a, LenEnc
     }
 }
 
-/// The content, on memory of its own.
+/// Copies the content into memory of its own.
 fn owned<'a>(
     content: Option<RawBytes<'a, LenEnc>>,
     alloc: Global,
@@ -81,7 +81,7 @@ fn owned<'a>(
 }
 
 impl<'a> OkPacket<'a> {
-    /// The packet with these numbers, without info and state. An insert id of 0 is absent.
+    /// Creates a packet with these numbers, without info and state. An insert id of 0 is absent.
     pub fn new(
         affected_rows: u64,
         last_insert_id: u64,
@@ -104,7 +104,7 @@ impl<'a> OkPacket<'a> {
         }
     }
 
-    /// Sets the info, a text for people. An empty one is absent.
+    /// Sets the info, a human-readable text. An empty one is absent.
     pub fn with_info(self, info: CowSlice<'a, u8>) -> Self
         ensures value { result ≡ record self.entry { info = spec.unless_empty (cow_slice_items info.entry) } }
     {
@@ -113,10 +113,9 @@ impl<'a> OkPacket<'a> {
         packet
     }
 
-    /// Sets the state string: entries ([`SessionStateInfo`]), written one after another. An empty one is
-    /// absent.
+    /// Sets the state string: entries ([`SessionStateInfo`]), one after another. An empty one is absent.
     ///
-    /// It is sent where changes are tracked (`CLIENT_SESSION_TRACK`), and the status has `SERVER_SESSION_STATE_CHANGED`.
+    /// It is sent if changes are tracked (`CLIENT_SESSION_TRACK`) and the status has `SERVER_SESSION_STATE_CHANGED`.
     pub fn with_session_state_info(self, state: CowSlice<'a, u8>) -> Self
         ensures value { result ≡ record self.entry { session_state_info = spec.unless_empty (cow_slice_items state.entry) } }
     {
@@ -125,7 +124,7 @@ impl<'a> OkPacket<'a> {
         packet
     }
 
-    /// The packet with this body.
+    /// Creates a packet with this body.
     #[inline(always)]
     pub(crate) fn from_body(body: OkPacketBody<'a>) -> Self
         ensures value { result ≡ spec.packet_of body.entry }
@@ -152,7 +151,7 @@ impl<'a> OkPacket<'a> {
         self.affected_rows
     }
 
-    /// The number that the last inserted row got, where it got one.
+    /// The AUTO_INCREMENT value that the statement generated, if any (`last_insert_id`).
     #[inline]
     pub fn last_insert_id(&self) -> Option<u64>
         ensures value { result ≡ spec.last_insert_id self.now }
@@ -160,7 +159,7 @@ impl<'a> OkPacket<'a> {
         self.last_insert_id
     }
 
-    /// The state of the server.
+    /// The status flags of the server.
     #[inline]
     pub fn status_flags(&self) -> StatusFlags
         ensures value { result ≡ spec.status_flags self.now }
@@ -239,7 +238,7 @@ impl<'a> OkPacket<'a> {
         SessionStateChanges::new(ParseBuf::new(alloc, bytes))
     }
 
-    /// Copies info and state, so that the packet borrows nothing. Without both it needs no allocation.
+    /// Copies the info and the state, so that the packet borrows nothing. If both are absent, it needs no allocation.
     pub fn into_owned(self, alloc: Global) -> Result<OkPacket<'static>, AllocError>
         ensures value { IfOk result (λ owned. owned ≡ self.entry) }
         ensures no_memory { spec.info_bytes self.entry ≡ [] → spec.state_bytes self.entry ≡ [] → IsOk result }
@@ -301,7 +300,7 @@ pub(crate) fn read_header<'s, T: OkPacketKind>(buf: &mut ParseBuf<'_>) -> Result
 pub struct OkPacketDeserializer<'de, T>(OkPacket<'de>, PhantomData<T>);
 
 impl<'de, T> OkPacketDeserializer<'de, T> {
-    /// The packet.
+    /// Returns the packet.
     #[inline]
     pub fn into_inner(self) -> OkPacket<'de>
         ensures value { result ≡ spec.packet self.entry }

@@ -1,4 +1,4 @@
-//! OK packets, of each kind, whose texts stay in the packet.
+//! Borrowed OK packets, of each kind.
 
 ghost use Rattle.std.specs.Prelude.{◌≡◌, option_map};
 ghost use Rattle.mysql_replies.specs.OkPacket as spec;
@@ -33,7 +33,7 @@ impl<'a> Model for OkPacketRef<'a> {
     ghost view = { λ p. packet_of p.body };
 }
 
-/// The bytes, where there are any.
+/// Returns the bytes, if there are any.
 #[inline]
 fn unless_empty<'a>(content: &ParseBuf<'a>) -> Option<&'a [u8]>
     ensures value { option_map (λ bytes. bytes.now) result ≡ spec.unless_empty content.now }
@@ -52,7 +52,7 @@ impl<'a> OkPacketRef<'a> {
         self.body.affected_rows
     }
 
-    /// The number that the last inserted row got, where it got one.
+    /// The AUTO_INCREMENT value that the statement generated, if any (`last_insert_id`).
     #[inline]
     pub fn last_insert_id(&self) -> Option<u64>
         ensures value { result ≡ spec.last_insert_id self.now }
@@ -64,7 +64,7 @@ impl<'a> OkPacketRef<'a> {
         }
     }
 
-    /// The state of the server.
+    /// The status flags of the server.
     #[inline]
     pub fn status_flags(&self) -> StatusFlags
         ensures value { result ≡ spec.status_flags self.now }
@@ -96,8 +96,8 @@ impl<'a> OkPacketRef<'a> {
         unless_empty(&self.body.session_state_info)
     }
 
-    /// Iterates over the changes in the state string, in the layouts that servers send. Each borrows from the packet, and none
-    /// takes memory.
+    /// Iterates over the changes in the state string, in the layouts that servers send. Each borrows from the
+    /// packet and takes no memory.
     #[inline]
     pub fn session_state_changes(&self) -> SessionStateChangesRef<'a>
         ensures value { result ≡ spec.state_bytes self.now }
@@ -137,7 +137,7 @@ impl<'de, T> Model for OkPacketRefDeserializer<'de, T> {
 }
 
 impl<'de, T> OkPacketRefDeserializer<'de, T> {
-    /// The packet.
+    /// Returns the packet.
     #[inline]
     pub fn into_inner(self) -> OkPacketRef<'de>
         ensures value { result ≡ spec.packet self.entry }
@@ -156,7 +156,7 @@ impl<'de, T: OkPacketRefKind> MyDeserialize<'de> for OkPacketRefDeserializer<'de
 
     ghost form = { λ capabilities. spec.ok_packet T.HEADER (T.body capabilities) };
 
-    #[inline]
+    #[inline(always)]
     #[tactic(auto, unfolding(crate::specs::OkPacket::ok_packet))]
     fn deserialize<'s>(agreed: Self::Ctx, buf: &mut ParseBuf<'de>) -> Result<Self, FaultOf<'s>> {
         let mut rest = buf.rest();

@@ -1,4 +1,4 @@
-//! OK packets that are written, as a server sends them.
+//! OK packets as a server writes them.
 
 ghost use Rattle.std.specs.Prelude.{◌≡◌, length, option_map};
 ghost use Rattle.mysql_replies.specs.OkPacket.{bytes_or_none};
@@ -15,16 +15,18 @@ use mysql_wire::{
 use std::borrow::CowSlice;
 use std::marker::{Model, PhantomData};
 
-/// How a kind of OK packet is written. It is open, as [`OkPacketKind`] is: a kind of your own, with a header of its own, is
-/// written by `put` of the kind whose body it has.
+/// How a kind of OK packet is written.
+///
+/// Users may implement it, like [`OkPacketKind`]: a kind of your own has its own header, and its `put` calls
+/// `put` of the kind whose body it has.
 ///
 /// ```
 /// impl OkPacketLayout for Seventh {
-///     ghost bytes = { common_bytes_with };
+/// ghost bytes = { common_bytes_with };
 ///
-///     fn put<S: Sink>(header: u8, flags: CapabilityFlags, packet: &OkPacket<'_>, sink: &mut S) {
-///         CommonOkPacket::put(header, flags, packet, sink);
-///     }
+/// fn put<S: Sink>(header: u8, flags: CapabilityFlags, packet: &OkPacket<'_>, sink: &mut S) {
+///     CommonOkPacket::put(header, flags, packet, sink);
+/// }
 /// }
 /// ```
 pub trait OkPacketLayout: OkPacketKind {
@@ -32,30 +34,30 @@ pub trait OkPacketLayout: OkPacketKind {
     ghost use Rattle.mysql_wire.specs.Flags as flags;
     ghost use Rattle.mysql_replies.specs.declared.ok_packet.OkPacket as declared;
 
-    /// The defined bytes, by the header and what both sides can do.
+    /// The defined bytes, by the header and the capabilities of both sides.
     ghost bytes: { ℕ → flags.CapabilityFlags → declared.OkPacket → List ℕ };
 
-    /// Hands the parts over, after this header.
+    /// Passes the parts to a sink: this header, and the fields of the packet.
     fn put<S: Sink>(header: u8, capabilities: CapabilityFlags, packet: &OkPacket<'_>, sink: &mut S)
         requires { S.capacity sink.old (length (bytes header capabilities packet.now)) }
         ensures value { S.took sink.old (bytes header capabilities packet.now) sink.new };
 }
 
-/// An OK packet that is written as a packet of the kind `T`, for what both sides can do: the other direction of
+/// Writes an OK packet as the kind `T`, under the capabilities of both sides: the counterpart of
 /// [`OkPacketDeserializer`](crate::OkPacketDeserializer).
 ///
-/// | Bytes | Field, except for the old end |
+/// | Bytes | Field, except in an EOF packet |
 /// |---|---|
 /// | 1 | the header of the kind: `00`, or `fe` at the end of a result set |
 /// | length-encoded | affected rows; 0 at the end of a result set |
-/// | length-encoded | insert id, 0 where there is none; 0 at the end of a result set |
+/// | length-encoded | insert id, 0 if there is none; 0 at the end of a result set |
 /// | 2 | status flags, little-endian |
 /// | 2 | warnings, little-endian |
-/// | length-encoded | the info: where there is one, or the state follows |
-/// | length-encoded | the state: where `CLIENT_SESSION_TRACK` is agreed and the status has `SERVER_SESSION_STATE_CHANGED` |
+/// | length-encoded | the info: only if it isn't empty, or if the state follows |
+/// | length-encoded | the state: only if `CLIENT_SESSION_TRACK` is agreed on and the status has `SERVER_SESSION_STATE_CHANGED` |
 ///
-/// The old end (`Protocol::EOF_Packet`) is `fe`, the warnings and the status. Fields that the kind or the flags don't have
-/// aren't written. Any flag word and any packet can be written.
+/// An EOF packet (`Protocol::EOF_Packet`) is `fe`, the warnings and the status. Fields that the kind or the
+/// flags don't have aren't written. Any packet can be written, under any flags.
 ///
 /// ```
 /// let sent = OkPacketSerializer::<CommonOkPacket>::new(&packet, capabilities);
@@ -77,7 +79,7 @@ impl<'p, 'a, T> Model for OkPacketSerializer<'p, 'a, T> {
 }
 
 impl<'p, 'a, T> OkPacketSerializer<'p, 'a, T> {
-    /// The packet, for what both sides can do.
+    /// Creates a writer of this packet under the capabilities of both sides.
     #[inline]
     pub fn new(packet: &'p OkPacket<'a>, capabilities: CapabilityFlags) -> Self
         ensures value { result ≡ (packet.now, capabilities) }
@@ -99,7 +101,7 @@ impl<T: OkPacketLayout> Parts for OkPacketSerializer<'_, '_, T> {
     }
 }
 
-/// The content that is there, or an empty one.
+/// Returns the content, or an empty one.
 #[inline(always)]
 fn content_or_empty<'a>(content: Option<&'a [u8]>) -> RawBytes<'a, LenEnc>
     ensures value { result ≡ bytes_or_none (option_map (λ bytes. bytes.now) content.entry) }
@@ -187,7 +189,7 @@ impl OkPacketLayout for OldEofPacket {
     }
 }
 
-/// As an [`OldEofPacket`].
+/// Written like an [`OldEofPacket`].
 impl OkPacketLayout for NetworkStreamTerminator {
     ghost bytes = { λ header _ packet. sent.eof_bytes_with header packet };
 

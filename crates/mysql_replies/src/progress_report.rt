@@ -1,4 +1,4 @@
-//! How far a server is with a long statement.
+//! Progress of a long statement.
 #![tactic(auto, using(mysql_wire::proofs::Packets::packets), unfolding(crate::specs::ProgressReport::progress_report))]
 
 ghost use Rattle.std.specs.Prelude.{◌≡◌, [], None, Some, refl, IfOk, IsOk};
@@ -15,15 +15,16 @@ use std::alloc::{AllocError, Global};
 use std::borrow::{CowSlice, CowStr};
 use std::fmt;
 
-/// How far a MariaDB server is with a long statement, sent in an error packet.
+/// The progress of a long statement, which a MariaDB server sends in an error packet.
 ///
-/// Six bytes: a count of strings (ignored by clients: `cli_report_progress` in libmariadb; written as 1), the stage, the last
-/// stage, and the progress in thousandths of a percent (three bytes, little-endian). Then the stage's text, length-encoded.
+/// Six bytes: a count of strings (ignored by clients: `cli_report_progress` in libmariadb; written as 1), the
+/// stage, the last stage, and the progress in thousandths of a percent (three bytes, little-endian). Then the
+/// stage's text, length-encoded.
 ///
 /// ```
 /// let packet: ErrPacketRef<'_> = ParseBuf::new(alloc, payload).parse(agreed)?;
 /// if packet.is_error() {
-///     return Ok(None);
+/// return Ok(None);
 /// }
 /// let report = packet.progress_report();
 /// Ok(Some((report.stage(), report.progress())))
@@ -37,7 +38,7 @@ pub struct ProgressReport<'a> {
 }
 
 impl<'a> ProgressReport<'a> {
-    /// A report. Of `progress` the low 24 bits are written.
+    /// Creates a report. Only the low 24 bits of `progress` are written.
     #[inline]
     pub fn new(stage: u8, max_stage: u8, progress: u32, stage_info: CowSlice<'a, u8>) -> Self
         ensures value { result ≡ spec.report_of stage max_stage progress (cow_slice_items stage_info.entry) }
@@ -82,7 +83,7 @@ impl<'a> ProgressReport<'a> {
         self.stage_info.as_bytes()
     }
 
-    /// The stage's text as text, with U+FFFD for invalid UTF-8. Valid UTF-8 is borrowed.
+    /// The text of the stage, with U+FFFD for invalid UTF-8. Valid UTF-8 is borrowed.
     pub fn stage_info_str(&self, alloc: Global) -> Result<CowStr<'_>, AllocError>
         ensures text { GivesText (spec.stage_info self.now) result }
     {

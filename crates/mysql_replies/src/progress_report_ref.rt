@@ -1,4 +1,4 @@
-//! How far a server is with a long statement, where the report stays in its packet.
+//! Borrowed progress reports.
 #![tactic(auto, using(mysql_wire::proofs::Packets::packets), unfolding(crate::specs::ProgressReport::progress_report))]
 
 ghost use Rattle.std.specs.Prelude.{◌≡◌, None, refl};
@@ -13,7 +13,7 @@ use std::marker::Model;
 
 /// A progress report whose text stays in the packet: a [`ProgressReport`] for as long as the packet lives.
 ///
-/// It is read of the same bytes with the same faults, and in a clause it is that report.
+/// It is read from the same bytes with the same faults, and in a clause it is that report.
 ///
 /// ```
 /// let packet: ErrPacketRef<'_> = ParseBuf::new(alloc, payload).parse(agreed)?;
@@ -83,7 +83,7 @@ impl<'a> ProgressReportRef<'a> {
     }
 }
 
-/// As a [`ProgressReport`].
+/// Read like a [`ProgressReport`].
 impl<'de> MyDeserialize<'de> for ProgressReportRef<'de> {
     const SIZE: Option<usize> = None;
 

@@ -12,7 +12,7 @@ use mysql_wire::{MySerialize, SessionStateType};
 use std::alloc::{AllocError, Global};
 use std::borrow::CowSlice;
 
-/// The type of a change, none of one of another kind.
+/// The type of a change, or `None` for one of an unsupported kind.
 fn type_of(change: &SessionStateChange<'_>) -> Option<SessionStateType>
     ensures value { result ≡ spec.type_of change.now }
 {
@@ -58,13 +58,14 @@ fn data_of(
 }
 
 impl SessionStateInfo<'static> {
-    /// The entry of a change, on memory of its own; none of [`Unsupported`](SessionStateChange::Unsupported), which has no
-    /// type.
+    /// Creates the entry of a change, with data of its own, or returns `None` for
+    /// [`Unsupported`](SessionStateChange::Unsupported), which has no type.
     ///
-    /// Whether changes are tracked is sent as one byte, `1` or `0`, and GTIDs as the byte `00` and their text, length-encoded,
-    /// as servers do (`Session_state_change_tracker::store` and `Session_gtids_ctx_encoder_string` in MySQL's
-    /// `sql/session_tracker.cc`): [`decode_wire`](Self::decode_wire) reads them. The one byte, and an empty list of system
-    /// variables, take no memory.
+    /// Whether changes are tracked is sent as one byte, `1` or `0`, and GTIDs as the byte `00` and their text,
+    /// length-encoded, as servers do (`Session_state_change_tracker::store` and
+    /// `Session_gtids_ctx_encoder_string` in MySQL's `sql/session_tracker.cc`):
+    /// [`decode_wire`](Self::decode_wire) reads them. That one byte, and an empty list of system variables,
+    /// take no memory.
     pub fn from_change(
         alloc: Global,
         change: &SessionStateChange<'_>,

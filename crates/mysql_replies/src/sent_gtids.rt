@@ -1,4 +1,4 @@
-//! The data of a change of GTIDs, as servers send it.
+//! The data of a change of GTIDs, as servers send them.
 #![tactic(auto, using(mysql_wire::proofs::Packets::packets), unfolding(crate::specs::SentGtids::sent_gtids))]
 
 ghost use Rattle.std.specs.Prelude.{◌≡◌, None, refl};
@@ -14,7 +14,7 @@ use mysql_wire::{
 use std::borrow::CowSlice;
 use std::marker::Model;
 
-/// The encoding of a set of GTIDs: `00`, its text.
+/// The encoding of a set of GTIDs: `00`, text.
 pub type GtidsEncoding = ConstU8<InvalidGtidsEncoding, 0x00>;
 
 /// A set of GTIDs as servers send it: the byte `00`, the number of the encoding, and the text, length-encoded
@@ -26,7 +26,7 @@ pub(crate) struct SentGtids<'a> {
 }
 
 impl<'a> SentGtids<'a> {
-    /// The set of this text.
+    /// Creates a set of this text.
     pub(crate) fn new(text: &'a [u8]) -> Self
         ensures value { result ≡ spec.sent_text text.now }
     {

@@ -16,14 +16,14 @@ use std::alloc::{AllocError, Global};
 use std::borrow::{CowSlice, CowStr};
 use std::fmt;
 
-/// An error that a server reports: its code, its SQL state where one was sent, its message.
+/// An error that a server reports: its code, its SQL state if one was sent, and its message.
 ///
-/// The code is in the packet that the error is part of: it is passed to the reader, and isn't written.
+/// The code is a field of the packet around the error: it is passed to the reader, and isn't written.
 ///
 /// ```
 /// match packet.to_packet() {
-///     ErrPacket::Error(error) => Ok(error.into_owned(alloc)?),
-///     ErrPacket::Progress(_) => Err(Error::Unknown("a report in place of an error")),
+/// ErrPacket::Error(error) => Ok(error.into_owned(alloc)?),
+/// ErrPacket::Progress(_) => Err(Error::Unknown("a report in place of an error")),
 /// }
 /// ```
 #[derive(Clone, Debug, PartialEq, Drop)]
@@ -34,7 +34,7 @@ pub struct ServerError<'a> {
 }
 
 impl<'a> ServerError<'a> {
-    /// An error of this code, state and message.
+    /// Creates an error of this code, state and message.
     #[inline]
     pub fn new(code: u16, state: Option<SqlState>, msg: CowSlice<'a, u8>) -> Self
         ensures value { result ≡ spec.error_of code state (cow_slice_items msg.entry) }
@@ -54,7 +54,7 @@ impl<'a> ServerError<'a> {
         self.code
     }
 
-    /// The SQL state, where one was sent.
+    /// The SQL state, if one was sent.
     #[inline]
     pub fn sql_state_ref(&self) -> Option<&SqlState>
         ensures value { option_map (λ s. s.now) result ≡ spec.sql_state_of self.now }

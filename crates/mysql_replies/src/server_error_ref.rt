@@ -1,4 +1,4 @@
-//! An error that a server reports and that stays in its packet.
+//! A borrowed error that a server reports.
 #![tactic(auto, using(mysql_wire::proofs::Packets::packets), unfolding(crate::specs::ServerError::server_error))]
 
 ghost use Rattle.std.specs.Prelude.{◌≡◌, None, refl, option_map, ⊤};
@@ -18,7 +18,7 @@ use std::marker::Model;
 
 /// An error whose SQL state and message stay in the packet: a [`ServerError`] for as long as the packet lives.
 ///
-/// It is read of the same bytes with the same faults, and in a clause it is that error.
+/// It is read from the same bytes with the same faults, and in a clause it is that error.
 ///
 /// ```
 /// let packet: ErrPacketRef<'_> = ParseBuf::new(alloc, payload).parse(agreed)?;
@@ -49,7 +49,7 @@ impl<'a> ServerErrorRef<'a> {
         self.code
     }
 
-    /// The five bytes of the SQL state, where one was sent.
+    /// The five bytes of the SQL state, if one was sent.
     #[inline]
     pub fn sql_state(&self) -> Option<&'a [u8]>
         ensures value { option_map (λ s. s.now) result ≡ option_map state_bytes (spec.sql_state_of self.now) }
@@ -112,7 +112,7 @@ impl Debug for ServerErrorRef<'_> {
     }
 }
 
-/// As a [`ServerError`].
+/// Read like a [`ServerError`].
 impl<'de> MyDeserialize<'de> for ServerErrorRef<'de> {
     const SIZE: Option<usize> = None;
 

@@ -4,8 +4,8 @@ use mysql_wire::{CapabilityFlags, MariadbCapabilities};
 
 /// The capabilities that both sides of a session have agreed on.
 ///
-/// MySQL's flags and MariaDB's extended ones are two words, in different places of the handshake and the response. A session
-/// with MySQL has no extended ones.
+/// MySQL's flags and MariaDB's extended capabilities are two words, in different fields of the handshake and
+/// the response. A session with MySQL has no extended capabilities.
 ///
 /// ```
 /// let packet: ColumnCount = ParseBuf::new(alloc, payload).parse(agreed)?;
@@ -15,6 +15,6 @@ use mysql_wire::{CapabilityFlags, MariadbCapabilities};
 pub struct SessionCapabilities {
     /// MySQL's flags, which MariaDB has too.
     pub mysql: CapabilityFlags,
-    /// MariaDB's own.
+    /// MariaDB's extended capabilities.
     pub mariadb: MariadbCapabilities,
 }

@@ -1,4 +1,4 @@
-//! The session's changes that an OK packet carries, one after another.
+//! The session state changes in an OK packet.
 #![tactic(auto, using(mysql_wire::proofs::Packets::packets), unfolding(crate::specs::SessionStateInfo::session_state_info))]
 
 ghost use Rattle.std.specs.Prelude.{◌≡◌, ◌≢◌, ◌<◌, length, [], IfSome, ℕ, List, ⊤};
@@ -27,7 +27,8 @@ fn skip_entry(buf: &mut ParseBuf<'_>)
     }
 }
 
-/// The next entry of a state string, or its fault, after which the next one is given too. Each takes a byte at least.
+/// Returns the next entry of a state string, or its fault, after which the next entries follow. Each takes at
+/// least one byte.
 #[tactic(auto, using(mysql_wire::proofs::Packets::packets, crate::proofs::AsSent::entries_shorter))]
 pub(crate) fn next_entry<'a>(
     entries: &mut ParseBuf<'a>,
@@ -47,10 +48,11 @@ pub(crate) fn next_entry<'a>(
     }
 }
 
-/// The changes of a state string: each is the change as [`SessionStateInfo::decode_wire`](crate::SessionStateInfo::decode_wire)
-/// reads it, or its own fault. The next ones are given after a fault too, unless the state string is cut.
+/// An iterator over the changes of a state string: each item is the change as
+/// [`SessionStateInfo::decode_wire`](crate::SessionStateInfo::decode_wire) reads it, or its fault. After a
+/// fault the next changes follow, unless the state string is incomplete.
 ///
-/// In a clause it is the list of the bytes that are left.
+/// In a clause it is the list of the remaining bytes.
 #[derive(Drop)]
 pub struct SessionStateChanges<'a> {
     entries: ParseBuf<'a>,
@@ -63,7 +65,7 @@ impl<'a> Model for SessionStateChanges<'a> {
 }
 
 impl<'a> SessionStateChanges<'a> {
-    /// The changes of these entries.
+    /// Creates an iterator over the changes of these entries.
     pub(crate) fn new(entries: ParseBuf<'a>) -> Self
         ensures { result ≡ entries.entry }
     {

@@ -14,7 +14,7 @@ use std::marker::Model;
 /// [`SessionStateInfoRef::decode_wire`](crate::SessionStateInfoRef::decode_wire) reads it, or its fault. After a fault the next
 /// changes follow, unless the state string is incomplete.
 ///
-/// In a clause it is the list of the bytes that are left.
+/// In a clause it is the list of the remaining bytes.
 #[derive(Drop)]
 pub struct SessionStateChangesRef<'a> {
     entries: ParseBuf<'a>,
@@ -27,7 +27,7 @@ impl<'a> Model for SessionStateChangesRef<'a> {
 }
 
 impl<'a> SessionStateChangesRef<'a> {
-    /// The changes of these entries.
+    /// Creates an iterator over the changes of these entries.
     pub(crate) fn new(entries: ParseBuf<'a>) -> Self
         ensures { result ≡ entries.entry }
     {

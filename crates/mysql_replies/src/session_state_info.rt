@@ -19,8 +19,7 @@ use mysql_wire::{
 use std::alloc::{AllocError, Global};
 use std::borrow::CowSlice;
 
-/// One change of a session's state, as an OK packet carries it: its type in one byte, and its data,
-/// length-encoded.
+/// One change of a session's state in an OK packet: its type in one byte, and its data, length-encoded.
 ///
 /// A byte that is no [`SessionStateType`] is `InvalidData`.
 ///
@@ -35,7 +34,7 @@ pub struct SessionStateInfo<'a> {
 }
 
 impl<'a> SessionStateInfo<'a> {
-    /// An entry of that type, with that data.
+    /// Creates an entry of this type, with this data.
     pub fn new(data_type: SessionStateType, content: CowSlice<'a, u8>) -> Self
         ensures value { result ≡ info_of data_type (cow_slice_items content.entry) }
     {
@@ -61,10 +60,11 @@ impl<'a> SessionStateInfo<'a> {
         self.content.as_bytes()
     }
 
-    /// The change that the data begins with; bytes after it are dropped.
+    /// Reads the change at the front of the data; bytes after it are dropped.
     ///
-    /// The fault is that of reading the data as a change of this type. Only a list of system variables takes memory. Servers
-    /// send state changes and GTIDs in other layouts: [`decode_wire`](Self::decode_wire) reads them.
+    /// The fault is that of reading the data as a change of this type. Only a list of system variables takes
+    /// memory. Servers send state changes and GTIDs in other layouts, which [`decode_wire`](Self::decode_wire)
+    /// reads.
     pub fn decode(&self, alloc: Global) -> Result<SessionStateChange<'_>, Fault>
         ensures value { Answers (lists_variables (spec.data_type self.now) (spec.data_bytes self.now)) result [] (spec.decoded self.now) }
         ensures spelled { IfOk result (λ change. (rest : List ℕ) × (session_state_change (spec.data_type self.now)).Spells change (spec.data_bytes self.now) rest) }
@@ -73,12 +73,12 @@ impl<'a> SessionStateInfo<'a> {
         data.parse(self.data_type.0)
     }
 
-    /// The change, in the layouts that servers send.
+    /// Reads the change in the layouts that servers send.
     ///
-    /// A state change (`SESSION_TRACK_STATE_CHANGE`) is one byte, `1` for true, or the layout of [`decode`](Self::decode).
-    /// GTIDs (`SESSION_TRACK_GTIDS`) are the byte `00`, their encoding, and the text, length-encoded: bytes after it are
-    /// dropped, another encoding is `InvalidData`, and incomplete data are `UnexpectedEof`. Other types are read like `decode`,
-    /// with the same faults.
+    /// A state change (`SESSION_TRACK_STATE_CHANGE`) is one byte, `1` for true, or the layout of
+    /// [`decode`](Self::decode). GTIDs (`SESSION_TRACK_GTIDS`) are the byte `00`, their encoding, and the text,
+    /// length-encoded: bytes after it are dropped, another encoding is `InvalidData`, and incomplete data are
+    /// `UnexpectedEof`. Other types are read like `decode`, with the same faults.
     pub fn decode_wire(&self, alloc: Global) -> Result<SessionStateChange<'_>, Fault>
         ensures value { Answers (lists_variables (spec.data_type self.now) (spec.data_bytes self.now)) result [] (changes.decoded_as_sent self.now) }
     {

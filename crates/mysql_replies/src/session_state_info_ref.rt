@@ -20,7 +20,7 @@ use std::marker::Model;
 
 /// A change of the session's state in an OK packet: a [`SessionStateInfo`] that borrows from the packet, and takes no memory.
 ///
-/// It is read of the same bytes with the same faults, and in a clause it is that entry.
+/// It is read from the same bytes with the same faults, and in a clause it is that entry.
 #[derive(Drop)]
 pub struct SessionStateInfoRef<'a> {
     pub(crate) data_type: Const<SessionStateType, u8>,
@@ -51,10 +51,10 @@ impl<'a> SessionStateInfoRef<'a> {
         data_bytes.eat_all()
     }
 
-    /// The change that the data begins with; bytes after it are dropped. It takes no memory.
+    /// Reads the change at the front of the data; bytes after it are dropped. It takes no memory.
     ///
-    /// The fault is that of reading the data as a change of this type. Servers send state changes and GTIDs in other layouts:
-    /// [`decode_wire`](Self::decode_wire) reads them.
+    /// The fault is that of reading the data as a change of this type. Servers send state changes and GTIDs in
+    /// other layouts, which [`decode_wire`](Self::decode_wire) reads.
     pub fn decode(&self) -> Result<SessionStateChangeRef<'a>, Fault>
         ensures value { Answers false result [] (spec.decoded self.now) }
         ensures spelled { IfOk result (λ change. (rest : List ℕ) × (session_state_change (spec.data_type self.now)).Spells change (spec.data_bytes self.now) rest) }
@@ -63,7 +63,7 @@ impl<'a> SessionStateInfoRef<'a> {
         bytes.parse(self.data_type.0)
     }
 
-    /// The change, in the layouts that servers send, as [`SessionStateInfo::decode_wire`] reads it. It takes no memory.
+    /// Reads the change in the layouts that servers send, like [`SessionStateInfo::decode_wire`]. It takes no memory.
     pub fn decode_wire(&self) -> Result<SessionStateChangeRef<'a>, Fault>
         ensures value { Answers false result [] (changes.decoded_as_sent self.now) }
     {
@@ -101,7 +101,7 @@ pub(crate) fn read_as_sent_ref<'a>(
     change
 }
 
-/// As a [`SessionStateInfo`].
+/// Read like a [`SessionStateInfo`].
 impl<'de> MyDeserialize<'de> for SessionStateInfoRef<'de> {
     const SIZE: Option<usize> = None;
 

@@ -13,10 +13,10 @@ use mysql_wire::{ConstU8, FaultOf, Fixed, MyDeserialize, ParseBuf, Parts, Sink, 
 use std::alloc::{AllocError, Global};
 use std::borrow::CowStr;
 
-/// The byte in front of an SQL state: `#`.
+/// The byte before an SQL state: `#`.
 pub type SqlStateMarker = ConstU8<InvalidSqlStateMarker, 35>;
 
-/// The SQL state of an error: the byte `#` and five bytes, usually ASCII such as `HY000`.
+/// The SQL state of an error: the byte `#` and five bytes, usually ASCII, such as `HY000`.
 ///
 /// Fewer than six bytes are `UnexpectedEof`, another first byte is `InvalidData`.
 #[derive(Clone, Copy, Debug, PartialEq, Eq, Hash)]
@@ -26,7 +26,7 @@ pub struct SqlState {
 }
 
 impl SqlState {
-    /// The state of these five bytes.
+    /// Creates a state of these five bytes.
     #[inline]
     pub fn new(state: [u8; 5]) -> Self
         ensures value { result ≡ spec.state_of state }

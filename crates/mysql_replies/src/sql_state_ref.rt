@@ -1,4 +1,4 @@
-//! The SQL state of an error that stays in its packet.
+//! The borrowed SQL state of an error.
 #![tactic(auto, using(mysql_wire::proofs::Packets::packets, crate::proofs::BytesExact::exact_bytes), unfolding(crate::specs::SqlState::sql_state))]
 
 ghost use Rattle.std.specs.Prelude.{◌≡◌, Some, ⊤};
@@ -14,9 +14,9 @@ use std::fmt;
 use std::fmt::Debug;
 use std::marker::Model;
 
-/// An SQL state that stays in its packet: a [`SqlState`] whose five bytes are borrowed.
+/// A borrowed SQL state: a [`SqlState`] whose five bytes stay in the packet.
 ///
-/// It is read of the same bytes with the same faults, and in a clause it is that state.
+/// It is read from the same bytes with the same faults, and in a clause it is that state.
 #[derive(Drop)]
 pub struct SqlStateRef<'a> {
     state: &'a [u8; 5],
@@ -38,7 +38,7 @@ impl<'a> SqlStateRef<'a> {
         state
     }
 
-    /// The state itself.
+    /// Converts to a [`SqlState`].
     #[inline]
     pub fn to_state(&self) -> SqlState
         ensures value { result ≡ self.now }
@@ -81,7 +81,7 @@ impl Debug for SqlStateRef<'_> {
     }
 }
 
-/// As a [`SqlState`].
+/// Read like a [`SqlState`].
 impl<'de> MyDeserialize<'de> for SqlStateRef<'de> {
     const SIZE: Option<usize> = Some(6);
 

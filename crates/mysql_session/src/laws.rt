@@ -43,7 +43,7 @@ pub fn session_ends_round_trips()
     ensures plain_variables { (xs : List SystemVariable) → All SystemVariableFits xs → (system_variables.form tt).Spells xs (system_variables.bytes xs) [] }
 {}
 
-/// System variables are read back under this condition, if nothing follows: their lengths fit in eight bytes.
+/// System variables are read back if nothing follows, and the lengths of names and values fit in eight bytes.
 #[tactic(auto, using(crate::proofs::SystemVariablesFit::variables_fit))]
 pub fn system_variables_fit()
     ensures fits { (vs : List SystemVariable) → All SystemVariableFits vs → system_variables.fits tt vs [] }
@@ -63,13 +63,13 @@ pub fn borrowed_changes_read_changes()
     ensures variables { (bytes : List ℕ) → (⟦<crate::system_variables_ref::SystemVariablesRef<'static> as MyDeserialize<'static>>⟧.form tt).reads bytes ≡ (system_variables.form tt).reads bytes }
 {}
 
-/// No bytes are read as a change of another kind.
+/// Reading never returns a change of an unsupported kind.
 #[tactic(auto, unfolding(crate::specs::SessionStateChange::session_state_change))]
 pub fn no_change_is_unsupported()
     ensures never { (kind : SessionStateType) (u : Unsupported) (bytes rest : List ℕ) → (session_state_change kind).Spells (change.Unsupported u) bytes rest → ⊥ }
 {}
 
-/// Equal parts hash equally, whether they borrow their bytes or own them.
+/// Equal parts hash equally, borrowed or owned.
 pub fn equal_parts_hash_equally()
     ensures schema { (x y : Schema) → IsTrue (⟦<crate::Schema<'static> as PartialEq>⟧.eq x y) → ⟦<crate::Schema<'static> as Hash>⟧.hash_input x ≡ ⟦<crate::Schema<'static> as Hash>⟧.hash_input y }
     ensures gtids { (x y : Gtids) → IsTrue (⟦<crate::Gtids<'static> as PartialEq>⟧.eq x y) → ⟦<crate::Gtids<'static> as Hash>⟧.hash_input x ≡ ⟦<crate::Gtids<'static> as Hash>⟧.hash_input y }
@@ -88,14 +88,14 @@ pub fn each_packet_has_its_size() -> bool
         && crate::SystemVariables::SIZE.is_none()
 }
 
-/// System variables, and lists of them, compare equal exactly if they are the same.
+/// System variables, and lists of them, compare equal exactly if they have the same value.
 #[tactic(auto, using(crate::proofs::EqualChanges::equal_changes))]
 pub fn equal_system_variables_are_the_same()
     ensures one { (x y : SystemVariable) → IsTrue (⟦<crate::SystemVariable<'static> as PartialEq>⟧.eq x y) ↔ (x ≡ y) }
     ensures list { (xs ys : List SystemVariable) → IsTrue (⟦<crate::SystemVariables<'static> as PartialEq>⟧.eq xs ys) ↔ (xs ≡ ys) }
 {}
 
-/// The parts of a change are equal exactly where they are the same, whether they borrow their bytes or own them.
+/// The parts of a change compare equal exactly if they have the same value, borrowed or owned.
 #[tactic(auto, using(crate::proofs::EqualChanges::equal_changes))]
 pub fn equal_parts_are_the_same()
     ensures schema { (x y : Schema) → IsTrue (⟦<crate::Schema<'static> as PartialEq>⟧.eq x y) ↔ (x ≡ y) }
@@ -105,7 +105,7 @@ pub fn equal_parts_are_the_same()
     ensures unsupported { (x y : Unsupported) → IsTrue (⟦<crate::Unsupported<'static> as PartialEq>⟧.eq x y) ↔ (x ≡ y) }
 {}
 
-/// Changes are equal exactly where they are the same.
+/// Changes compare equal exactly if they have the same value.
 #[tactic(auto, using(crate::proofs::EqualChanges::equal_changes))]
 pub fn equal_changes_are_the_same()
     ensures same { (x y : SessionStateChange) → IsTrue (⟦<crate::SessionStateChange<'static> as PartialEq>⟧.eq x y) ↔ (x ≡ y) }

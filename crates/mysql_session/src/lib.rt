@@ -1,4 +1,4 @@
-//! Changes of the session's state, which a server reports in OK packets.
+//! Changes of a session's state, which servers report in OK packets.
 #![tactic(auto)]
 
 pub mod laws;

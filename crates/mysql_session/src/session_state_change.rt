@@ -14,9 +14,9 @@ use mysql_wire::{
 };
 use std::alloc::{AllocError, Global};
 
-/// A change of a session's state, as the data of one entry after an OK packet gives it.
+/// A change of a session's state: the data of an entry in the state string of an OK packet.
 ///
-/// Reading is passed the entry's [`SessionStateType`], and never gives `Unsupported`.
+/// The reader is passed the entry's [`SessionStateType`], and never returns `Unsupported`.
 ///
 /// ```
 /// let mut buf = ParseBuf::new(alloc, payload);
@@ -36,7 +36,7 @@ pub enum SessionStateChange<'a> {
     SystemVariables(SystemVariables<'a>),
     /// GTIDs (`SESSION_TRACK_GTIDS`).
     Gtids(Gtids<'a>),
-    /// Statements that would start the transaction again (`SESSION_TRACK_TRANSACTION_CHARACTERISTICS`).
+    /// Statements that would restart the transaction (`SESSION_TRACK_TRANSACTION_CHARACTERISTICS`).
     TransactionCharacteristics(TransactionCharacteristics<'a>),
     /// The state of the transaction (`SESSION_TRACK_TRANSACTION_STATE`).
     TransactionState(TransactionState<'a>),

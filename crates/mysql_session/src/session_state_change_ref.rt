@@ -29,17 +29,17 @@ pub enum ChangeRef<'a> {
     SystemVariables(SystemVariablesRef<'a>),
     /// GTIDs, in the server's text form (`SESSION_TRACK_GTIDS`).
     Gtids(&'a [u8]),
-    /// The statements that would start the transaction again (`SESSION_TRACK_TRANSACTION_CHARACTERISTICS`).
+    /// The statements that would restart the transaction (`SESSION_TRACK_TRANSACTION_CHARACTERISTICS`).
     TransactionCharacteristics(&'a [u8]),
-    /// The state of the transaction, a character for each thing that it tells (`SESSION_TRACK_TRANSACTION_STATE`).
+    /// The state of the transaction, one character for each property (`SESSION_TRACK_TRANSACTION_STATE`).
     TransactionState(&'a [u8]),
 }
 
 /// A change of a session's state that stays in its packet: a [`SessionStateChange`] for as long as the packet lives,
 /// without memory.
 ///
-/// It is read of the same bytes with the same faults except for `Memory`, and in a clause it is that change. Reading is passed
-/// the entry's [`SessionStateType`](mysql_wire::SessionStateType).
+/// It is read from the same bytes with the same faults except for `Memory`, and in a clause it is that change.
+/// The reader is passed the entry's [`SessionStateType`](mysql_wire::SessionStateType).
 #[derive(Drop)]
 pub struct SessionStateChangeRef<'a>(ChangeRef<'a>);
 
@@ -50,7 +50,7 @@ impl<'a> Model for SessionStateChangeRef<'a> {
 }
 
 impl<'a> SessionStateChangeRef<'a> {
-    /// The change of this.
+    /// Creates a change of this content.
     #[inline]
     pub fn new(change: ChangeRef<'a>) -> Self
         ensures value { result ≡ change_of change.entry }
@@ -66,7 +66,7 @@ impl<'a> SessionStateChangeRef<'a> {
         &self.0
     }
 
-    /// Converts to the content.
+    /// Returns the content.
     #[inline]
     pub fn into_change(self) -> ChangeRef<'a>
         ensures value { change_of result ≡ self.entry }

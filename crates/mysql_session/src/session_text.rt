@@ -12,50 +12,50 @@ use std::alloc::{AllocError, Global};
 use std::borrow::{CowSlice, CowStr};
 use std::marker::PhantomData;
 
-/// A byte string of a session change: `N` names what it tells, and `R` is its form.
+/// A byte string of a session change: the marker `N` names its meaning, and `R` is its form.
 ///
-/// It is written once for all of them: [`Schema`], [`Gtids`], [`TransactionCharacteristics`],
-/// [`TransactionState`] and [`Unsupported`].
+/// [`Schema`], [`Gtids`], [`TransactionCharacteristics`], [`TransactionState`] and [`Unsupported`] are types of
+/// this form.
 #[derive(Drop)]
 #[derive_where(Clone, PartialEq, Eq, Hash, Debug)]
 pub struct SessionText<'a, N, R>(RawBytes<'a, R>, PhantomData<N>);
 
-/// Names [`Schema`].
+/// The marker of [`Schema`].
 pub struct SchemaName;
 
 /// The name of the default schema that was set (`SESSION_TRACK_SCHEMA`): a length-encoded string.
 pub type Schema<'a> = SessionText<'a, SchemaName, LenEnc>;
 
-/// Names [`Gtids`].
+/// The marker of [`Gtids`].
 pub struct GtidsText;
 
 /// The GTIDs of the transaction (`SESSION_TRACK_GTIDS`), in the server's text form: the rest of the data.
 pub type Gtids<'a> = SessionText<'a, GtidsText, EofBytes>;
 
-/// Names [`TransactionCharacteristics`].
+/// The marker of [`TransactionCharacteristics`].
 pub struct TransactionCharacteristicsText;
 
-/// The statements that would start the transaction again
-/// (`SESSION_TRACK_TRANSACTION_CHARACTERISTICS`): a length-encoded string.
+/// The statements that would restart the transaction (`SESSION_TRACK_TRANSACTION_CHARACTERISTICS`): a
+/// length-encoded string.
 pub type TransactionCharacteristics<'a> = SessionText<'a, TransactionCharacteristicsText, LenEnc>;
 
-/// Names [`TransactionState`].
+/// The marker of [`TransactionState`].
 pub struct TransactionStateText;
 
-/// The state of the transaction (`SESSION_TRACK_TRANSACTION_STATE`), a character for each thing
-/// that it tells: a length-encoded string.
+/// The state of the transaction (`SESSION_TRACK_TRANSACTION_STATE`), one character for each property: a
+/// length-encoded string.
 pub type TransactionState<'a> = SessionText<'a, TransactionStateText, LenEnc>;
 
-/// Names [`Unsupported`].
+/// The marker of [`Unsupported`].
 pub struct UnsupportedText;
 
-/// A change of a kind that has no type of its own: a length-encoded string.
+/// A change of a kind without a type of its own: a length-encoded string.
 ///
-/// No reader of [`SessionStateChange`](crate::SessionStateChange) makes it.
+/// No reader of [`SessionStateChange`](crate::SessionStateChange) returns it.
 pub type Unsupported<'a> = SessionText<'a, UnsupportedText, LenEnc>;
 
 impl<'a, N, R> SessionText<'a, N, R> {
-    /// The text of these bytes.
+    /// Creates a text of these bytes.
     #[inline]
     pub fn new(bytes: CowSlice<'a, u8>) -> Self
         ensures value { result ≡ text_of (cow_slice_items bytes.entry) }

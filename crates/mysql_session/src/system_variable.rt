@@ -34,7 +34,7 @@ impl Drop for SystemVariable<'_> {
 }
 
 impl<'a> SystemVariable<'a> {
-    /// The variable of this name, with this value.
+    /// Creates a variable of this name and value.
     #[inline]
     pub fn new(name: CowSlice<'a, u8>, value: CowSlice<'a, u8>) -> Self
         ensures value { result ≡ spec.variable_of (cow_slice_items name.entry) (cow_slice_items value.entry) }

@@ -13,7 +13,7 @@ use std::marker::Model;
 
 /// A system variable whose name and value stay in the packet: a [`SystemVariable`] for as long as the packet lives.
 ///
-/// It is read of the same bytes with the same faults, and in a clause it is that variable.
+/// It is read from the same bytes with the same faults, and in a clause it is that variable.
 #[derive(Drop)]
 pub struct SystemVariableRef<'a> {
     name: &'a [u8],
@@ -55,7 +55,7 @@ impl<'a> SystemVariableRef<'a> {
     }
 }
 
-/// As a [`SystemVariable`].
+/// Read like a [`SystemVariable`].
 impl<'de> MyDeserialize<'de> for SystemVariableRef<'de> {
     const SIZE: Option<usize> = None;
 

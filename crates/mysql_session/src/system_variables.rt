@@ -29,7 +29,7 @@ impl<'a> Model for SystemVariables<'a> {
 }
 
 impl<'a> SystemVariables<'a> {
-    /// These variables.
+    /// Creates a list of these variables.
     #[inline]
     pub fn new(variables: Vec<SystemVariable<'a>>) -> Self
         ensures value { result ≡ variables.entry.items }
@@ -45,7 +45,7 @@ impl<'a> SystemVariables<'a> {
         self.0.as_slice()
     }
 
-    /// The variables, in the `Vec` that holds them.
+    /// Returns the variables, in the `Vec` that holds them.
     #[inline]
     pub fn into_inner(self) -> Vec<SystemVariable<'a>>
         ensures value { result.items ≡ self.entry }

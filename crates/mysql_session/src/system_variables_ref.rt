@@ -14,11 +14,11 @@ use mysql_wire::{AnyWidth, Fault, FaultOf, MyDeserialize, ParseBuf};
 use std::alloc::{AllocError, Global};
 use std::marker::Model;
 
-/// The system variables that were assigned (`SESSION_TRACK_SYSTEM_VARIABLES`): a [`SystemVariables`] that borrows from the
-/// packet, and takes no memory.
+/// The system variables that were assigned values (`SESSION_TRACK_SYSTEM_VARIABLES`): a [`SystemVariables`]
+/// that borrows from the packet, and takes no memory.
 ///
-/// An iterator over the variables. All of them are read when it is created, so none of them fails later. In a clause it is the
-/// list of the remaining variables.
+/// An iterator over the variables. All of them are read when it is created, so none of them fails later. In a
+/// clause it is the list of the remaining variables.
 #[derive(Drop)]
 pub struct SystemVariablesRef<'a> {
     variables: ParseBuf<'a>,
@@ -49,7 +49,7 @@ fn read_variables<'s>(variables: ParseBuf<'_>) -> Result<(), FaultOf<'s>>
     Ok(())
 }
 
-/// Takes the first variable off the front, where one is left.
+/// Takes the first variable off the front, if one is left.
 #[tactic(auto, using(crate::proofs::VariablesRead::next_variables))]
 fn next_variable<'a>(variables: &mut ParseBuf<'a>) -> Option<SystemVariableRef<'a>>
     requires { AreVariables variables.old }
@@ -64,7 +64,7 @@ fn next_variable<'a>(variables: &mut ParseBuf<'a>) -> Option<SystemVariableRef<'
 }
 
 impl<'a> SystemVariablesRef<'a> {
-    /// Iterates over the variables from the first one on.
+    /// Returns an iterator over the remaining variables.
     #[inline]
     pub fn iter(&self) -> SystemVariablesRef<'a>
         ensures value { result ≡ self.now }

@@ -11,8 +11,8 @@ use Rattle.mysql_replies.specs.OkPacket.{affected_rows, last_insert_id, status_f
 use Rattle.mysql_replies.specs.ProgressReport.{progress, stage, max_stage, stage_info}
 use Rattle.mysql_replies.specs.ServerError.{error_code, sql_state_of, message}
 use Rattle.mysql_replies.specs.SqlState.{state_bytes}
-use Rattle.mysql_prepared.specs.declared.stmt.StmtPacket.{StmtPacket}
-use Rattle.mysql_prepared.specs.Stmt.{statement_id, num_columns, num_params, warning_count}
+use Rattle.mysql_stmt.specs.declared.stmt.StmtPacket.{StmtPacket}
+use Rattle.mysql_stmt.specs.Stmt.{statement_id, num_columns, num_params, warning_count}
 use Rattle.mysql_show.specs.Fields.{Said, said, Number, Bytes, Flag, OptionalNumber, OptionalBytes}
 
 abbrev pub error_fields : ServerError → List Said

@@ -7,7 +7,7 @@ use crate::field::Field;
 use mysql_replies::ColumnRef;
 use mysql_wire::Flags;
 
-/// The names of a column.
+/// The names of a column, as fields.
 pub fn column_names<'p>(column: &ColumnRef<'p>) -> [Field<'p>; 5]
     ensures value { result ≡ spec.column_names column.now }
 {
@@ -20,7 +20,7 @@ pub fn column_names<'p>(column: &ColumnRef<'p>) -> [Field<'p>; 5]
     ]
 }
 
-/// The numbers of a column, which follow its names.
+/// The numbers of a column, as fields; they follow the names.
 pub fn column_numbers<'p>(column: &ColumnRef<'p>) -> [Field<'p>; 5]
     ensures value { result ≡ spec.column_numbers column.now }
 {

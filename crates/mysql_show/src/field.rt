@@ -14,17 +14,17 @@ use std::marker::Model;
 pub(crate) enum Shown<'a> {
     /// A number.
     Number(u64),
-    /// Bytes: in JSON a text where they are UTF-8.
+    /// Bytes; in JSON a string if they are UTF-8.
     Bytes(&'a [u8]),
-    /// Bytes that are shown in digits alone.
+    /// Bytes that are only shown as hexadecimal digits.
     Digits(&'a [u8]),
     /// A word.
     Word(&'a str),
-    /// Whether it is so.
+    /// A flag.
     Flag(bool),
     /// A value of a row or a parameter.
     Value(ValueRef<'a>),
-    /// A date and a time with an offset from UTC, of a parameter or an attribute.
+    /// A date and a time with an offset from UTC, in a parameter or an attribute.
     DateTimeWithOffset(DateTimeWithOffset),
     /// A number, if the packet has one.
     OptionalNumber(Option<u64>),
@@ -32,13 +32,13 @@ pub(crate) enum Shown<'a> {
     OptionalBytes(Option<&'a [u8]>),
 }
 
-/// A field: its name, and what it holds.
+/// A field: its name and its value.
 ///
-/// A packet has many of one name where it is `attribute`, `attribute_value`, `parameter`, `value`, `variable`, `variable_value`
-/// or `expected`.
+/// A packet may have several fields with the name `attribute`, `attribute_value`, `parameter`, `value`,
+/// `variable`, `variable_value` or `expected`.
 #[derive(Drop)]
 pub struct Field<'a> {
-    /// Its name.
+    /// The name.
     pub(crate) name: &'static str,
     /// The value.
     pub(crate) shown: Shown<'a>,
@@ -53,7 +53,7 @@ impl<'a> Model for Field<'a> {
 }
 
 impl<'a> Field<'a> {
-    /// A number.
+    /// Creates a field with a number.
     pub fn number(name: &'static str, number: u64) -> Self
         ensures value { result ≡ spec.said name.now (spec.Number number) }
     {
@@ -63,7 +63,7 @@ impl<'a> Field<'a> {
         }
     }
 
-    /// Bytes.
+    /// Creates a field with bytes.
     pub fn bytes(name: &'static str, bytes: &'a [u8]) -> Self
         ensures value { result ≡ spec.said name.now (spec.Bytes bytes.now) }
     {
@@ -73,7 +73,7 @@ impl<'a> Field<'a> {
         }
     }
 
-    /// Bytes that are shown in digits alone.
+    /// Creates a field with bytes that are only shown as hexadecimal digits.
     pub fn digits(name: &'static str, bytes: &'a [u8]) -> Self
         ensures value { result ≡ spec.said name.now (spec.Digits bytes.now) }
     {
@@ -83,7 +83,7 @@ impl<'a> Field<'a> {
         }
     }
 
-    /// A word.
+    /// Creates a field with a word.
     pub fn word(name: &'static str, word: &'a str) -> Self
         ensures value { result ≡ spec.said name.now (spec.Word word.now) }
     {
@@ -93,7 +93,7 @@ impl<'a> Field<'a> {
         }
     }
 
-    /// Whether it is so.
+    /// Creates a field with a flag.
     pub fn flag(name: &'static str, flag: bool) -> Self
         ensures value { result ≡ spec.said name.now (spec.Flag flag) }
     {
@@ -103,7 +103,7 @@ impl<'a> Field<'a> {
         }
     }
 
-    /// A value of a row or a parameter.
+    /// Creates a field with a value of a row or a parameter.
     pub fn value(name: &'static str, value: ValueRef<'a>) -> Self
         ensures value { result ≡ spec.said name.now (spec.Value (ref_content value.entry)) }
     {
@@ -113,7 +113,7 @@ impl<'a> Field<'a> {
         }
     }
 
-    /// A value of a parameter or an attribute.
+    /// Creates a field with a value of a parameter or an attribute.
     pub fn param(name: &'static str, value: ParamValue<'a>) -> Self
         ensures value { result ≡ spec.said name.now (spec.param_held (param_content value.entry)) }
     {
@@ -126,7 +126,7 @@ impl<'a> Field<'a> {
         }
     }
 
-    /// A number, or nothing.
+    /// Creates a field with a number, or without a value.
     pub fn optional_number(name: &'static str, number: Option<u64>) -> Self
         ensures value { result ≡ spec.said name.now (spec.OptionalNumber number) }
     {
@@ -136,7 +136,7 @@ impl<'a> Field<'a> {
         }
     }
 
-    /// Bytes, or nothing.
+    /// Creates a field with bytes, or without a value.
     pub fn optional_bytes(name: &'static str, bytes: Option<&'a [u8]>) -> Self
         ensures value { result ≡ spec.said name.now (spec.OptionalBytes (option_map (λ b. b.now) bytes.entry)) }
     {

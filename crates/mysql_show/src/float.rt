@@ -1,9 +1,9 @@
-//! Floats of the protocol, which are given by their bits.
+//! Floats, which the protocol sends as their bits.
 
 ghost use Rattle.std.specs.Prelude.{◌≡◌};
 ghost use Rattle.mysql_show.specs.Floats.{double_in, float_in};
 
-/// The number with these bits, which may be infinite, unless they are no number's.
+/// Returns the number with these bits, which may be infinite, or `None` if they are not a number.
 #[tactic(auto, using(std::proofs::lemmas::Float::not_nan_f64_bits))]
 pub(crate) fn double_of(bits: u64) -> Option<f64>
     ensures value { result ≡ double_in bits }
@@ -15,7 +15,7 @@ pub(crate) fn double_of(bits: u64) -> Option<f64>
     }
 }
 
-/// The digits of a float of four bytes.
+/// Returns the float of four bytes with these bits, which may be infinite, or `None` if they are not a number.
 #[tactic(auto, using(std::proofs::lemmas::Float::not_nan_f32_bits))]
 pub(crate) fn float_of(bits: u32) -> Option<f32>
     ensures value { result ≡ float_in bits }

@@ -18,11 +18,11 @@ use serde_json::{Map, Value, put};
 use std::alloc::{AllocError, Global};
 use std::str;
 
-/// Appends a line with an object that has these fields, the head's first. Those with the name of a list are items of one array; of
-/// others each is a member.
+/// Appends a line with an object of these fields, the head's first. Fields that may occur several times are
+/// items of one array; each other field is a member.
 ///
-/// Bytes are a string if they are UTF-8, otherwise an object with their digits: `{"hex": "ff"}`. A number that JSON doesn't
-/// have is null.
+/// Bytes are a string if they are UTF-8, otherwise an object with their hexadecimal digits: `{"hex": "ff"}`. A
+/// number that JSON can't represent is null.
 #[tactic(auto, using(crate::proofs::Objects::no_float_in), unfolding(crate::specs::FieldObject::object_of))]
 pub fn append_object(
     alloc: Global,
@@ -42,7 +42,7 @@ pub fn append_object(
     out.push_str("\n")
 }
 
-/// The object of these fields.
+/// Returns the object of these fields.
 #[tactic(auto, using(crate::proofs::Texts::views), unfolding(crate::specs::FieldObject::object_of))]
 fn object_of(alloc: Global, head: &[Field<'_>], fields: &[Field<'_>]) -> Result<Value, AllocError>
     ensures ok { IfOk result (λ value. view value ≡ spec.object_of head.now fields.now) }
@@ -80,7 +80,7 @@ fn is_named(field: &Field<'_>, name: &str) -> bool
     field.name == name
 }
 
-/// Whether it is an item of a list: a packet has as many of that name as there are.
+/// Whether a field is an item of a list: a packet may have several fields of this name.
 fn is_item(field: &Field<'_>) -> bool
     ensures { result ≡ spec.is_item field.now }
 {
@@ -158,7 +158,7 @@ fn value_of(alloc: Global, shown: &Shown<'_>) -> Result<Value, AllocError>
     }
 }
 
-/// Bytes as a string if they are UTF-8, otherwise as an object with their digits.
+/// Returns bytes as a string if they are UTF-8, otherwise as an object with their hexadecimal digits.
 #[tactic(auto, using(crate::proofs::Texts::texts))]
 fn bytes_value(alloc: Global, bytes: &[u8]) -> Result<Value, AllocError>
     ensures ok { IfOk result (λ value. view value ≡ spec.bytes_data bytes.now) }
@@ -169,7 +169,7 @@ fn bytes_value(alloc: Global, bytes: &[u8]) -> Result<Value, AllocError>
     }
 }
 
-/// An object with the bytes' digits.
+/// Returns an object with the bytes' hexadecimal digits.
 fn digits_value(alloc: Global, bytes: &[u8]) -> Result<Value, AllocError>
     ensures ok { IfOk result (λ value. view value ≡ spec.digits_data bytes.now) }
 {
@@ -179,7 +179,7 @@ fn digits_value(alloc: Global, bytes: &[u8]) -> Result<Value, AllocError>
     Ok(Value::Object(object))
 }
 
-/// The value of a column or a parameter. A number that JSON has none for is null.
+/// Returns the value of a column or a parameter. A number that JSON can't represent is null.
 fn column_value(alloc: Global, value: &ValueRef<'_>) -> Result<Value, AllocError>
     ensures ok { IfOk result (λ json. view json ≡ spec.value_data (ref_content value.now)) }
 {

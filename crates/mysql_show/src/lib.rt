@@ -1,4 +1,4 @@
-//! Shows packets: the fields of each record, and how they are written, as lines and as JSON objects.
+//! Shows packets: the fields of each record, written as lines and as JSON objects.
 #![tactic(auto)]
 
 mod columns;

@@ -1,4 +1,4 @@
-//! The fields of packets before the commands, and of a change of user. What a client proves itself by is not among them.
+//! The fields of the packets of the connection phase, and of a change of user. Authentication data is not among them.
 
 ghost use Rattle.std.specs.Prelude.{◌≡◌, ◌++◌, IfOk};
 ghost use Rattle.mysql_show.specs.Logins as spec;
@@ -10,7 +10,7 @@ use mysql_auth::{
 use mysql_wire::Flags;
 use std::alloc::{AllocError, Global};
 
-/// The versions that a greeting says: of the protocol, and the server's as it is.
+/// The versions in a greeting, as fields: that of the protocol, and the server's as text.
 pub fn version_fields<'p>(greeting: &HandshakePacketRef<'p>) -> [Field<'p>; 2]
     ensures value { result ≡ spec.version_fields greeting.now }
 {
@@ -54,7 +54,7 @@ pub fn ssl_request_fields<'p>(request: &SslRequest) -> [Field<'p>; 4]
     ]
 }
 
-/// The fields of a login, without its scramble.
+/// The fields of a login, without its authentication response.
 pub fn login_fields<'p>(
     alloc: Global,
     login: &HandshakeResponseRef<'p>,
@@ -86,7 +86,7 @@ fn login_head<'p>(login: &HandshakeResponseRef<'p>) -> [Field<'p>; 7]
     ]
 }
 
-/// The fields of a switch of the plugin, or of a request for the next factor.
+/// The fields of a request for another authentication plugin, or for the next factor.
 pub fn plugin_fields<'p, T, const HEADER: u8>(
     request: &PluginRequestRef<'p, T, HEADER>,
 ) -> [Field<'p>; 2]

@@ -5,7 +5,7 @@ ghost use Rattle.mysql_show.specs.CommandName.{name_of};
 
 use mysql_wire::ServerCommand;
 
-/// The name of a command, as the protocol's pages have it.
+/// The name of a command, as in the protocol's documentation.
 pub fn command_name(command: ServerCommand) -> &'static str
     ensures { result.now ≡ name_of command }
 {

@@ -1,4 +1,4 @@
-//! Output: writes a text to a writer that may take a part of it.
+//! Output: writes a text to a writer that may accept only a part of it.
 
 ghost use Rattle.std.specs.Prelude.{◌≡◌, ◌≢◌, ◌==◌, Some, None, IfOk, IfErr, if◌then◌else◌};
 ghost use Rattle.std.specs.IoError.{error_kind};
@@ -7,9 +7,9 @@ ghost use Rattle.mysql_show.specs.Output.{IsFront, IsTaken};
 
 use std::io::{ErrorKind, Result, Write};
 
-/// Writes the text, as far as the writer takes it, and returns whether that was all of it.
+/// Writes the text, as far as the writer accepts it, and returns whether all of it was written.
 ///
-/// The library's `write_all` says nothing of what was written before a failure. This loop writes a front of the text.
+/// The library's `write_all` does not say how much was written before a failure. This loop writes a prefix of the text.
 pub fn write_front<W: Write>(writer: &mut W, text: &[u8]) -> bool
     ensures front { IsFront result text.now (W.contents writer.old) (W.contents writer.new) }
 {
@@ -26,14 +26,16 @@ pub fn write_front<W: Write>(writer: &mut W, text: &[u8]) -> bool
     false
 }
 
-/// Writes once, and returns the number of bytes that the writer took, 0 if it was interrupted. `None` is a failed write.
+/// Writes once, and returns the number of bytes that the writer accepted, 0 if it was interrupted, or `None` if
+/// the write failed.
 fn write_some<W: Write>(writer: &mut W, text: &[u8]) -> Option<usize>
     ensures taken { IsTaken result text.now (W.contents writer.old) (W.contents writer.new) }
 {
     count_of(writer.write(text))
 }
 
-/// The number of bytes that a write took: one that took none, or failed, is `None`, and one that was interrupted is repeated.
+/// Returns the number of bytes that a write accepted. A write that accepted none, or failed, is `None`; one
+/// that was interrupted is repeated.
 fn count_of(written: Result<usize>) -> Option<usize>
     ensures count { IfOk written (λ count. result ≡ (if count == 0 then None else Some count)) }
     ensures interrupted { IfErr written (λ e. error_kind e ≡ kind.Interrupted → result ≡ Some 0) }

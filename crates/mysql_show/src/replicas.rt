@@ -1,4 +1,4 @@
-//! The fields of what replicas send.
+//! The fields of the commands of replicas.
 
 ghost use Rattle.std.specs.Prelude.{◌≡◌};
 ghost use Rattle.mysql_show.specs.Replicas as spec;

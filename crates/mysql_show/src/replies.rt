@@ -4,10 +4,10 @@ ghost use Rattle.std.specs.Prelude.{◌≡◌};
 ghost use Rattle.mysql_show.specs.Replies as spec;
 
 use crate::field::Field;
-use mysql_prepared::StmtPacket;
 use mysql_replies::{
     ColumnCount, LocalInfilePacketRef, OkPacketRef, ProgressReportRef, ServerErrorRef,
 };
+use mysql_stmt::StmtPacket;
 use mysql_wire::Flags;
 
 /// The fields of an error: its code, its SQL state and its message.
@@ -21,7 +21,7 @@ pub fn error_fields<'p>(error: &ServerErrorRef<'p>) -> [Field<'p>; 3]
     ]
 }
 
-/// The fields of a report of progress.
+/// The fields of a progress report.
 pub fn report_fields<'p>(report: &ProgressReportRef<'p>) -> [Field<'p>; 4]
     ensures value { result ≡ spec.report_fields report.now }
 {
@@ -33,7 +33,7 @@ pub fn report_fields<'p>(report: &ProgressReportRef<'p>) -> [Field<'p>; 4]
     ]
 }
 
-/// The fields of a count of columns.
+/// The fields of a column count.
 pub fn count_fields<'p>(count: &ColumnCount) -> [Field<'p>; 2]
     ensures value { result ≡ spec.count_fields count.now }
 {
@@ -68,7 +68,7 @@ pub fn end_fields<'p>(end: &OkPacketRef<'p>) -> [Field<'p>; 2]
 
 /// The fields of the OK packet at the end of a result, except for the changes of the session.
 ///
-/// Its numbers of rows and of the last inserted one are passed over, as clients do (`read_ok_ex` in MySQL's sql-common/client.cc).
+/// Its affected rows and insert id are skipped, as clients do (`read_ok_ex` in MySQL's sql-common/client.cc).
 pub fn terminator_fields<'p>(end: &OkPacketRef<'p>) -> [Field<'p>; 3]
     ensures value { result ≡ spec.terminator_fields end.now }
 {

@@ -16,7 +16,7 @@ use std::alloc::{AllocError, Global};
 /// Appends a line for each field: `name: value`, with bytes as `x` and digits, a flag as `yes` or `no`, and `none` for an
 /// absent value.
 ///
-/// A float has the digits that it has in JSON.
+/// A float has the same digits as in JSON.
 pub fn append_lines(alloc: Global, out: &mut String, fields: &[Field<'_>]) -> Result<(), AllocError>
     ensures ok { OnOk result (have_float fields.now ≡ false → string_bytes out.new ≡ string_bytes out.old ++ spec.lines_of fields.now) }
     ensures lines { OnOk result (spec.AppendsLines fields.now (string_bytes out.old) (string_bytes out.new)) }
@@ -70,7 +70,7 @@ fn shown_text(alloc: Global, shown: &Shown<'_>) -> Result<String, AllocError>
     }
 }
 
-/// An x and the digits of bytes.
+/// Returns an `x` and the hexadecimal digits of bytes.
 fn prefixed(alloc: Global, bytes: &[u8]) -> Result<String, AllocError>
     ensures text { IfOk result (λ text. string_bytes text ≡ spec.prefixed bytes.now) }
 {
@@ -101,7 +101,7 @@ fn value_text(alloc: Global, value: &ValueRef<'_>) -> Result<String, AllocError>
     }
 }
 
-/// A number as JSON has it: `null` where it is infinite.
+/// Returns a number as in JSON: `null` if it is infinite.
 fn number_text(alloc: Global, number: f64) -> Result<String, AllocError>
     ensures text { IfOk result (λ text. floats.IsFloatText (Some number) (string_bytes text)) }
 {

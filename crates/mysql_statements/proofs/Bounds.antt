@@ -3,10 +3,10 @@ use Rattle.std.proofs.Common.{◌≡◌, ℕ, zero, suc, ◌+◌, ◌-◌, ◌<�
 use Rattle.std.proofs.lemmas.List.{length-append, length-map, length-replicate}
 use Rattle.std.proofs.lemmas.Bool.{leb-true, ltb-true, and_parts}
 use Rattle.mysql_wire.specs.Reading.{Reading}
-use Rattle.mysql_prepared.specs.BindFront.{BindFront}
-use Rattle.mysql_prepared.specs.ExecuteRead.{given_types}
-use Rattle.mysql_prepared.specs.SentTypes.{NamedType, under_types}
-use Rattle.mysql_prepared.specs.declared.execute_view.BoundParam.{BoundParam}
+use Rattle.mysql_stmt.specs.BindFront.{BindFront}
+use Rattle.mysql_stmt.specs.ExecuteRead.{given_types}
+use Rattle.mysql_stmt.specs.SentTypes.{NamedType, under_types}
+use Rattle.mysql_stmt.specs.declared.execute_view.BoundParam.{BoundParam}
 use Rattle.mysql_conversation.specs.Agreements.{Agreed}
 use Rattle.mysql_conversation.specs.declared.packet_kind.PacketKind.{PacketKind}
 use Rattle.mysql_conversation.specs.declared.packet_kind.PacketKind.TheVariants as kind

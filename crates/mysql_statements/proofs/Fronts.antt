@@ -4,14 +4,14 @@ use Rattle.mysql_wire.specs.Each.{each}
 use Rattle.mysql_wire.specs.Flags.{CapabilityFlags}
 use Rattle.mysql_wire.specs.Reading.{then_read, then_read-ok, done-value}
 use Rattle.mysql_values.specs.declared.param_type.ParamType.{ParamType}
-use Rattle.mysql_prepared.specs.Attributes.{Attribute, values}
-use Rattle.mysql_prepared.specs.BindFront.{BindFront}
-use Rattle.mysql_prepared.specs.Bitmap.{cell}
-use Rattle.mysql_prepared.specs.ExecuteHead.{cursor_flags, execute_head}
-use Rattle.mysql_prepared.specs.declared.execute_head.ComStmtExecuteHead.{ComStmtExecuteHead}
-use Rattle.mysql_prepared.specs.ExecuteRead.{BoundType, TypedParam, execution, execution_front, given_types, in_force, param_form, typed_param}
-use Rattle.mysql_prepared.specs.SentTypes.{NamedType}
-use Rattle.mysql_prepared.specs.declared.execute_view.BoundParam.{BoundParam}
+use Rattle.mysql_stmt.specs.Attributes.{Attribute, values}
+use Rattle.mysql_stmt.specs.BindFront.{BindFront}
+use Rattle.mysql_stmt.specs.Bitmap.{cell}
+use Rattle.mysql_stmt.specs.ExecuteHead.{cursor_flags, execute_head}
+use Rattle.mysql_stmt.specs.declared.execute_head.ComStmtExecuteHead.{ComStmtExecuteHead}
+use Rattle.mysql_stmt.specs.ExecuteRead.{BoundType, TypedParam, execution, execution_front, given_types, in_force, param_form, typed_param}
+use Rattle.mysql_stmt.specs.SentTypes.{NamedType}
+use Rattle.mysql_stmt.specs.declared.execute_view.BoundParam.{BoundParam}
 use Rattle.mysql_statements.specs.Kept.{Kept}
 use Rattle.mysql_statements.specs.Statement.{without_data}
 use Rattle.mysql_statements.specs.Binding.{bound_by, single_front, with_bound, with_execution}

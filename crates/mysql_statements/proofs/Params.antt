@@ -2,7 +2,7 @@
 use Rattle.std.proofs.Common.{◌≡◌, ℕ, zero, suc, ◌+◌, ◌<◌, ◌≤◌, List, [], ◌∷◌, ◌++◌, length, get_or, set, take, drop, map, refl, sym, ap, arith}
 use Rattle.std.proofs.lemmas.List.{get_or_default}
 use Rattle.std.proofs.lemmas.List.Edits.{map_over_more}
-use Rattle.mysql_prepared.specs.declared.execute_view.BoundParam.{BoundParam}
+use Rattle.mysql_stmt.specs.declared.execute_view.BoundParam.{BoundParam}
 use Rattle.mysql_statements.specs.Statement.{at, without_data}
 
 at_read : (k : ℕ) (f : BoundParam → BoundParam) (ps : List BoundParam) (p : BoundParam) → k < length ps → p ≡ get_or ps k p → at k f ps ≡ set ps k (f p)

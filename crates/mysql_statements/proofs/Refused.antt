@@ -3,8 +3,8 @@ use Rattle.std.proofs.Common.{◌≡◌, ℕ, None, false, refl}
 use Rattle.mysql_wire.specs.Reading.{Reading, Faults}
 use Rattle.mysql_wire.specs.declared.fault.FaultOf.{FaultOf}
 use Rattle.mysql_replies.specs.declared.extended_column.ExtendedColumn.{ExtendedColumn}
-use Rattle.mysql_prepared.specs.declared.long_data.ComStmtSendLongData.{ComStmtSendLongData}
-use Rattle.mysql_prepared.specs.declared.stmt.StmtPacket.{StmtPacket}
+use Rattle.mysql_stmt.specs.declared.long_data.ComStmtSendLongData.{ComStmtSendLongData}
+use Rattle.mysql_stmt.specs.declared.stmt.StmtPacket.{StmtPacket}
 use Rattle.mysql_conversation.proofs.Faults.{nothing_found}
 use Rattle.mysql_statements.specs.Packets.{number_in, prepared_in, column_in, data_in}
 

@@ -6,11 +6,11 @@ use Rattle.mysql_wire.specs.Form.{Form, ◌>>=◌, either, give}
 use Rattle.mysql_wire.specs.Int.{byte, le_u16, le_u32}
 use Rattle.mysql_wire.specs.Reading.{Reading}
 use Rattle.mysql_wire.specs.declared.fault.FaultOf.{FaultOf}
-use Rattle.mysql_prepared.specs.BindFront.{BindFront, nothing_bound}
-use Rattle.mysql_prepared.specs.ExecuteHead.{cursor_flags, execute_head}
-use Rattle.mysql_prepared.specs.ExecuteRead.{execution_front, given_types}
-use Rattle.mysql_prepared.specs.SentTypes.{NamedType, types}
-use Rattle.mysql_prepared.specs.declared.execute_view.BoundParam.{BoundParam}
+use Rattle.mysql_stmt.specs.BindFront.{BindFront, nothing_bound}
+use Rattle.mysql_stmt.specs.ExecuteHead.{cursor_flags, execute_head}
+use Rattle.mysql_stmt.specs.ExecuteRead.{execution_front, given_types}
+use Rattle.mysql_stmt.specs.SentTypes.{NamedType, types}
+use Rattle.mysql_stmt.specs.declared.execute_view.BoundParam.{BoundParam}
 use Rattle.mysql_statements.specs.Kept.{Kept}
 use Rattle.mysql_statements.specs.Statement.{without_data}
 use Rattle.mysql_statements.specs.declared.layout.Layout.{Layout}

@@ -1,6 +1,6 @@
 -- What a table keeps of a prepared statement.
 use Rattle.std.specs.Prelude.{ℕ, Bool, List}
-use Rattle.mysql_prepared.specs.declared.execute_view.BoundParam.{BoundParam}
+use Rattle.mysql_stmt.specs.declared.execute_view.BoundParam.{BoundParam}
 use Rattle.mysql_statements.specs.declared.row_column.RowColumn.{RowColumn}
 
 pub record Kept : Type 0 where

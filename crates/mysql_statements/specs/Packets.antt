@@ -9,10 +9,10 @@ use Rattle.mysql_replies.specs.Column.{column_type, flags}
 use Rattle.mysql_replies.specs.ExtendedColumn.{extended_column, column_of}
 use Rattle.mysql_replies.specs.declared.column.Column.{Column}
 use Rattle.mysql_replies.specs.declared.extended_column.ExtendedColumn.{ExtendedColumn}
-use Rattle.mysql_prepared.specs.LongData.{long_data, stmt_id, param_index}
-use Rattle.mysql_prepared.specs.Stmt.{stmt, statement_id}
-use Rattle.mysql_prepared.specs.declared.long_data.ComStmtSendLongData.{ComStmtSendLongData}
-use Rattle.mysql_prepared.specs.declared.stmt.StmtPacket.{StmtPacket}
+use Rattle.mysql_stmt.specs.LongData.{long_data, stmt_id, param_index}
+use Rattle.mysql_stmt.specs.Stmt.{stmt, statement_id}
+use Rattle.mysql_stmt.specs.declared.long_data.ComStmtSendLongData.{ComStmtSendLongData}
+use Rattle.mysql_stmt.specs.declared.stmt.StmtPacket.{StmtPacket}
 use Rattle.mysql_conversation.specs.Agreements.{Agreed}
 use Rattle.mysql_statements.specs.declared.row_column.RowColumn.{RowColumn}
 

@@ -3,7 +3,7 @@ use Rattle.std.specs.Prelude.{ℕ, zero, suc, ◌+◌, ◌-◌, ◌==◌, Bool, 
 use Rattle.mysql_wire.specs.declared.codes.column_type.ColumnType.TheVariants.{MYSQL_TYPE_NULL}
 use Rattle.mysql_values.specs.ParamType.{typed}
 use Rattle.mysql_values.specs.declared.param_type.ParamType.{ParamType}
-use Rattle.mysql_prepared.specs.declared.execute_view.BoundParam.{BoundParam}
+use Rattle.mysql_stmt.specs.declared.execute_view.BoundParam.{BoundParam}
 use Rattle.mysql_statements.specs.declared.row_column.RowColumn.{RowColumn}
 use Rattle.mysql_statements.specs.Kept.{Kept}
 

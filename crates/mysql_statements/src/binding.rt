@@ -1,14 +1,14 @@
-//! The types that executions give their parameters.
+//! The parameter types that executions send.
 
 ghost use Rattle.std.specs.Prelude.{◌≡◌, length, false};
 ghost use Rattle.mysql_wire.specs.Reading.{Answers};
 ghost use Rattle.mysql_statements.specs.Binding as spec;
 
 use crate::layout::Layout;
-use mysql_prepared::{BoundParam, ComStmtExecuteHead, ExecuteParamsBytes, SentParamTypes};
+use mysql_stmt::{BoundParam, ComStmtExecuteHead, ExecuteParamsBytes, SentParamTypes};
 use mysql_wire::{CapabilityFlags, FaultOf, LeU16, LeU32, ParseBuf, RawInt};
 
-/// Sets the parameters' types that a `COM_STMT_EXECUTE` sends, and returns whether it sends any.
+/// Sets the types that a `COM_STMT_EXECUTE` sends for the parameters, and returns whether it sends any.
 fn bind_single(
     capabilities: CapabilityFlags,
     params: &mut [BoundParam],
@@ -31,7 +31,7 @@ fn bind_single(
     }
 }
 
-/// The types that a bulk execution of `count` parameters sends, if it sends any.
+/// Reads the types that a bulk execution of `count` parameters sends, if it sends any.
 fn read_bulk<'s, 'a>(
     count: usize,
     buf: &mut ParseBuf<'a>,
@@ -48,7 +48,7 @@ fn read_bulk<'s, 'a>(
     Ok(Some(SentParamTypes::read(false, count, buf)?))
 }
 
-/// Sets the parameters' types that a bulk execution sends, and returns whether it sends any.
+/// Sets the types that a bulk execution sends for the parameters, and returns whether it sends any.
 fn bind_bulk(params: &mut [BoundParam], payload: ParseBuf<'_>) -> bool
     ensures is_bound { result ≡ (spec.bound_by params.old ((spec.bulk_front (length params.old)).reads payload.entry)).is_bound }
     ensures params { params.new ≡ (spec.bound_by params.old ((spec.bulk_front (length params.old)).reads payload.entry)).params }
@@ -64,8 +64,8 @@ fn bind_bulk(params: &mut [BoundParam], payload: ParseBuf<'_>) -> bool
     }
 }
 
-/// Sets the parameters' types that an execution sends, and returns whether it sends any. An execution that is malformed before
-/// its values sets none.
+/// Sets the types that an execution sends for the parameters, and returns whether it sends any. An execution
+/// that is malformed before its values sets none.
 pub(crate) fn bind(layout: Layout, params: &mut [BoundParam], payload: ParseBuf<'_>) -> bool
     ensures is_bound { result ≡ (spec.bound_by params.old ((spec.front_of layout (length params.old)).reads payload.entry)).is_bound }
     ensures params { params.new ≡ (spec.bound_by params.old ((spec.front_of layout (length params.old)).reads payload.entry)).params }

@@ -1,4 +1,4 @@
-//! The table of prepared statements that whoever watches a connection keeps.
+//! The table of the prepared statements of an observed connection.
 #![tactic(auto)]
 
 mod binding;

@@ -1,26 +1,26 @@
-//! How much is kept.
+//! Limits for statements and pipelined commands.
 
-/// How much is kept of statements at most.
+/// The limits for prepared statements.
 ///
 /// ```
 /// let limits = StatementLimits {
-///     statements: 100,
-///     types: 10_000, // of parameters and columns, of all statements
+/// statements: 100,
+/// types: 10_000, // of parameters and columns, of all statements
 /// };
 /// let pipelined = PipelinedLimits {
-///     commands: 16,
-///     bytes: 1 << 16, // of one command
+/// commands: 16,
+/// bytes: 1 << 16, // of one command
 /// };
 /// (
-///     Statements::new(alloc, limits),
-///     PipelinedCommands::new(alloc, pipelined),
+/// Statements::new(alloc, limits),
+/// PipelinedCommands::new(alloc, pipelined),
 /// )
 /// ```
 #[derive(Clone, Copy, Debug, PartialEq, Eq)]
 pub struct StatementLimits {
-    /// The number of statements.
+    /// The maximum number of statements.
     pub statements: usize,
-    /// The number of types of their parameters and columns in all.
+    /// The maximum total number of types of their parameters and columns.
     pub types: usize,
 }
 
@@ -42,8 +42,8 @@ pub struct StatementLimits {
 /// ```
 #[derive(Clone, Copy, Debug, PartialEq, Eq)]
 pub struct PipelinedLimits {
-    /// The number of commands.
+    /// The maximum number of commands.
     pub commands: usize,
-    /// The maximum length of each in bytes.
+    /// The maximum length of a command in bytes.
     pub bytes: usize,
 }

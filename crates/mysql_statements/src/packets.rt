@@ -6,12 +6,12 @@ ghost use Rattle.mysql_wire.specs.Reading.{Answers};
 ghost use Rattle.mysql_statements.specs.Packets as spec;
 
 use crate::row_column::RowColumn;
-use mysql_prepared::{ComStmtSendLongDataRef, StmtPacket};
 use mysql_replies::{ColumnRef, ExtendedColumnRef, SessionCapabilities};
+use mysql_stmt::{ComStmtSendLongDataRef, StmtPacket};
 use mysql_wire::{ColumnFlags, FaultOf, Flags, LeU32, ParseBuf, RawInt};
 use std::alloc::Global;
 
-/// The number of a statement after the first byte.
+/// Reads the number of a statement after the first byte.
 fn read_number<'s>(buf: &mut ParseBuf<'_>) -> Result<u32, FaultOf<'s>>
     ensures value { Answers false result buf.new (spec.numbered.reads buf.old) }
 {
@@ -20,7 +20,7 @@ fn read_number<'s>(buf: &mut ParseBuf<'_>) -> Result<u32, FaultOf<'s>>
     Ok(id.0)
 }
 
-/// The number of a statement, after the first byte of a command.
+/// Returns the number of a statement, after the first byte of a command.
 #[tactic(auto, using(crate::proofs::Refused::faults), unfolding(crate::specs::Packets::number_at))]
 pub(crate) fn number_at(alloc: Global, payload: &[u8]) -> Option<u32>
     ensures { result ≡ spec.number_at payload.now }
@@ -33,7 +33,7 @@ pub(crate) fn number_at(alloc: Global, payload: &[u8]) -> Option<u32>
     }
 }
 
-/// The number of a statement that is prepared.
+/// Returns the number of a prepared statement, from the answer to its preparation.
 #[tactic(auto, using(crate::proofs::Refused::faults), unfolding(crate::specs::Packets::prepared_at))]
 pub(crate) fn prepared_at(alloc: Global, payload: &[u8]) -> Option<u32>
     ensures { result ≡ spec.prepared_at payload.now }
@@ -46,7 +46,7 @@ pub(crate) fn prepared_at(alloc: Global, payload: &[u8]) -> Option<u32>
     }
 }
 
-/// The properties of a column that are kept.
+/// Returns the properties of a column that are kept.
 fn row_column(column: &ColumnRef<'_>) -> RowColumn
     ensures { result ≡ spec.row_column column.now }
 {
@@ -56,7 +56,7 @@ fn row_column(column: &ColumnRef<'_>) -> RowColumn
     }
 }
 
-/// A column, or a parameter, by its definition.
+/// Returns the kept properties of a column or a parameter, from its definition.
 #[tactic(auto, using(crate::proofs::Refused::faults), unfolding(crate::specs::Packets::column_at))]
 pub(crate) fn column_at(
     alloc: Global,
@@ -73,7 +73,7 @@ pub(crate) fn column_at(
     }
 }
 
-/// The number of a statement, and its parameter whose data is sent ahead.
+/// Returns the number of a statement, and the index of the parameter whose data is sent ahead.
 #[tactic(auto, using(crate::proofs::Refused::faults), unfolding(crate::specs::Packets::data_at))]
 pub(crate) fn data_at(alloc: Global, payload: &[u8]) -> Option<(u32, u16)>
     ensures { result ≡ spec.data_at payload.now }

@@ -1,4 +1,4 @@
-//! A command that came early.
+//! A pipelined command.
 
 ghost use Rattle.std.specs.Prelude.{◌≡◌, IfOk};
 ghost use Rattle.mysql_statements.specs.PipelinedCommands as spec;
@@ -22,7 +22,7 @@ impl Model for PipelinedCommand {
 }
 
 impl PipelinedCommand {
-    /// A copy of the payload, with that number.
+    /// Creates a copy of the payload, with this number.
     pub(crate) fn copied(alloc: Global, number: u64, payload: &[u8]) -> Result<Self, AllocError>
         ensures value { IfOk result (λ c. c ≡ spec.command number payload.now) }
     {
@@ -30,7 +30,7 @@ impl PipelinedCommand {
         Ok(PipelinedCommand { number, payload })
     }
 
-    /// The number of its exchange.
+    /// The number of the command's exchange.
     pub fn number(&self) -> u64
         ensures value { result ≡ spec.number self.now }
     {

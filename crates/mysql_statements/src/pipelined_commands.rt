@@ -1,4 +1,4 @@
-//! Commands that came early, and wait.
+//! Waiting pipelined commands.
 
 ghost use Rattle.std.specs.Prelude.{◌≡◌, IfOk, OnErr, IfSome, IfNone, IsTrue};
 ghost use Rattle.mysql_statements.specs.PipelinedCommands as spec;
@@ -11,10 +11,10 @@ use std::marker::Model;
 
 /// Commands that precede the answers to earlier ones, until the server reaches them.
 ///
-/// A table of [`Statements`](crate::Statements) is passed the packets of a conversation in its order: a pipelined command is
-/// kept here, and is passed on when the server reaches its exchange.
+/// A table of [`Statements`](crate::Statements) takes the packets of a conversation in order: a pipelined
+/// command is kept here, and passed on when the server reaches its exchange.
 ///
-/// At most as many are kept as the limits say, and no memory is taken before the first.
+/// The limits bound how many are kept, and no memory is taken before the first.
 ///
 /// ```
 /// let limits = StatementLimits {
@@ -46,7 +46,7 @@ impl Model for PipelinedCommands {
 }
 
 impl PipelinedCommands {
-    /// One in which no command waits.
+    /// Creates an empty list with these limits.
     pub fn new(alloc: Global, limits: PipelinedLimits) -> Self
         ensures value { result ≡ spec.none_waits limits }
     {
@@ -57,15 +57,17 @@ impl PipelinedCommands {
         }
     }
 
-    /// The number of commands that wait.
+    /// The number of waiting commands.
     pub fn len(&self) -> usize
         ensures value { result ≡ spec.waiting self.now }
     {
         self.commands.len()
     }
 
-    /// Keeps a pipelined command, with the number of its exchange. If the limit is reached, or it is too long, it isn't kept,
-    /// and the result is `false`. `Memory` if the copy can't be allocated.
+    /// Keeps a pipelined command, with the number of its exchange.
+    ///
+    /// If the limit is reached, or the command is too long, it isn't kept, and the result is `false`. The error
+    /// is `AllocError` if the copy can't be allocated.
     pub fn hold(&mut self, number: u64, payload: &[u8]) -> Result<bool, AllocError>
         ensures held { IfOk result (λ is_held. (is_held ≡ spec.has_place self.old payload.now) × (self.new ≡ spec.held number payload.now self.old)) }
         ensures asked { OnErr result (IsTrue (spec.has_place self.old payload.now)) }
@@ -81,15 +83,15 @@ impl PipelinedCommands {
         Ok(true)
     }
 
-    /// Forgets the commands that wait.
+    /// Drops the waiting commands.
     pub fn clear(&mut self)
         ensures { self.new ≡ spec.none_waits self.old.limits }
     {
         self.commands = VecDeque::new(self.alloc);
     }
 
-    /// Returns the first command that waits, if the server has reached the exchange with that number: the command's own, or a
-    /// later one.
+    /// Returns the first waiting command, if the server has reached the exchange with this number: the
+    /// command's own, or a later one.
     pub fn serve(&mut self, number: u64) -> Option<PipelinedCommand>
         ensures some { IfSome result (λ command. spec.Serves number self.old command self.new) }
         ensures none { IfNone result ((self.new ≡ self.old) × spec.FirstIsLater number self.old.commands) }

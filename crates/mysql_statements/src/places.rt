@@ -25,7 +25,7 @@ pub(crate) fn place_of(statements: &[Statement], id: u32) -> Option<usize>
     None
 }
 
-/// The statement of that number.
+/// Returns the statement of this number.
 #[tactic(auto, using(crate::proofs::Numbers::places))]
 pub(crate) fn find(statements: &[Statement], id: u32) -> Option<&Statement>
     ensures some { IfSome result (λ s. spec.find id statements.now ≡ Some s.now) }
@@ -56,7 +56,7 @@ pub(crate) fn define_param(statements: &mut [Statement], id: u32, left: usize, c
     }
 }
 
-/// The definition of a column.
+/// Takes the definition of a column.
 #[tactic(auto, using(crate::proofs::Numbers::places))]
 pub(crate) fn define_column(
     statements: &mut [Statement],
@@ -73,7 +73,7 @@ pub(crate) fn define_column(
     Ok(())
 }
 
-/// A result of a given number of columns, whose definitions follow or not.
+/// Begins a result of a given number of columns, whose definitions follow or not.
 #[tactic(auto, using(crate::proofs::Numbers::places))]
 pub(crate) fn begin_result(statements: &mut [Statement], id: u32, width: u64, follow: bool)
     ensures { statements.new ≡ spec.change id (statement.with_result width follow) statements.old }
@@ -83,7 +83,7 @@ pub(crate) fn begin_result(statements: &mut [Statement], id: u32, width: u64, fo
     }
 }
 
-/// An execution.
+/// Takes an execution.
 #[tactic(auto, using(crate::proofs::Numbers::places))]
 pub(crate) fn execute(
     statements: &mut [Statement],
@@ -99,7 +99,7 @@ pub(crate) fn execute(
     }
 }
 
-/// Data of a parameter is sent ahead.
+/// Records that data of a parameter is sent ahead.
 #[tactic(auto, using(crate::proofs::Numbers::places))]
 pub(crate) fn send_ahead(statements: &mut [Statement], id: u32, param: usize)
     ensures { statements.new ≡ spec.change id (statement.with_data param) statements.old }
@@ -109,7 +109,7 @@ pub(crate) fn send_ahead(statements: &mut [Statement], id: u32, param: usize)
     }
 }
 
-/// The data that was sent ahead is gone.
+/// Drops the data that was sent ahead.
 #[tactic(auto, using(crate::proofs::Numbers::places))]
 pub(crate) fn drop_data(statements: &mut [Statement], id: u32)
     ensures { statements.new ≡ spec.change id statement.with_no_data statements.old }
@@ -119,7 +119,7 @@ pub(crate) fn drop_data(statements: &mut [Statement], id: u32)
     }
 }
 
-/// The number of types that may still be kept.
+/// Returns the number of types that may still be kept.
 #[tactic(auto, using(crate::proofs::Numbers::counts))]
 fn left_of(limit: usize, statements: &[Statement]) -> Option<usize>
     ensures some { IfSome result (λ left. left + spec.held statements.now ≡ limit) }
@@ -132,7 +132,7 @@ fn left_of(limit: usize, statements: &[Statement]) -> Option<usize>
     Some(left)
 }
 
-/// Whether this many more types may be kept. It visits each statement.
+/// Whether this number of types may still be kept. It visits each statement.
 pub(crate) fn has_capacity(limit: usize, statements: &[Statement], wanted: u64) -> bool
     ensures { result ≡ spec.has_capacity limit statements.now wanted }
 {

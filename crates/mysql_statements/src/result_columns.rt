@@ -1,4 +1,4 @@
-//! The columns of the result that came last.
+//! The columns of the last result.
 
 ghost use Rattle.std.specs.Prelude.{◌≡◌, IfSome, IfNone, OnOk, OnErr, IsTrue, Some, None, true, false};
 ghost use Rattle.mysql_conversation.specs.declared.packet_kind.PacketKind.TheVariants as kinds;
@@ -11,10 +11,11 @@ use mysql_replies::SessionCapabilities;
 use std::alloc::{AllocError, Global};
 use std::marker::Model;
 
-/// The type and the sign of each column of the result that came last, by its own definitions: values of a row of text are converted by them.
+/// The type and the sign of each column of the last result, from its own definitions, to convert the values of
+/// text rows.
 ///
-/// It is passed each packet of the server, in order ([`take`](Self::take)). Definitions in the answer to a preparation belong
-/// to no result. At most as many columns are kept as the limit says.
+/// It takes each packet of the server, in order ([`take`](Self::take)). Definitions in the answer to a
+/// preparation belong to no result. The limit bounds how many columns are kept.
 ///
 /// ```
 /// columns.take(agreed, kind, payload)?;
@@ -37,7 +38,7 @@ impl Model for ResultColumns {
 }
 
 impl ResultColumns {
-    /// Creates one before the first result. Of a result with more than `limit` columns none is kept.
+    /// Creates an empty list before the first result. If a result has more than `limit` columns, none is kept.
     pub fn new(alloc: Global, limit: usize) -> Self
         ensures value { result ≡ spec.unknown limit }
     {
@@ -49,7 +50,7 @@ impl ResultColumns {
         }
     }
 
-    /// Returns the columns, in order, if all of their definitions came and are kept.
+    /// Returns the columns, in order, if all of their definitions have come and are kept.
     pub fn columns(&self) -> Option<&[RowColumn]>
         ensures some { IfSome result (λ columns. spec.known self.now ≡ Some columns.now) }
         ensures none { IfNone result (spec.known self.now ≡ None) }
@@ -68,7 +69,7 @@ impl ResultColumns {
         self.columns.clear();
     }
 
-    /// Takes a packet of this kind, the server's next one.
+    /// Takes the server's next packet, of this kind.
     ///
     /// If there is no memory for a column, no column of the result is known.
     #[inline]
@@ -97,7 +98,7 @@ impl ResultColumns {
         }
     }
 
-    /// A result of a given number of columns, whose definitions follow or not.
+    /// Begins a result of a given number of columns, whose definitions follow or not.
     #[inline(never)]
     fn begin(&mut self, count: u64, follow: bool)
         ensures { self.new ≡ spec.begun count follow self.old }

@@ -3,7 +3,7 @@
 ghost use Rattle.std.specs.Prelude.{◌≡◌};
 ghost use Rattle.mysql_statements.specs.Statement as spec;
 
-use mysql_prepared::TypedColumn;
+use mysql_stmt::TypedColumn;
 use mysql_values::ParamType;
 use mysql_wire::{ColumnType, Flags, StmtExecuteParamFlags};
 
@@ -14,9 +14,9 @@ use mysql_wire::{ColumnType, Flags, StmtExecuteParamFlags};
 /// ```
 #[derive(Clone, Copy, Debug, PartialEq, Eq)]
 pub struct RowColumn {
-    /// The type.
+    /// The type of the column.
     pub column_type: ColumnType,
-    /// Whether its numbers have no sign.
+    /// Whether the numbers are unsigned.
     pub is_unsigned: bool,
 }
 

@@ -7,13 +7,13 @@ ghost use Rattle.mysql_statements.specs.Statement as spec;
 use crate::binding::bind;
 use crate::layout::Layout;
 use crate::row_column::RowColumn;
-use mysql_prepared::BoundParam;
+use mysql_stmt::BoundParam;
 use mysql_values::ParamType;
 use mysql_wire::{ColumnType, Flags, ParseBuf, StmtExecuteParamFlags};
 use std::alloc::{AllocError, Global};
 use std::marker::Model;
 
-/// A parameter of which nothing is known.
+/// A parameter whose type is unknown.
 fn untyped() -> BoundParam
     ensures { result ≡ spec.untyped }
 {
@@ -37,7 +37,7 @@ fn untyped_params(alloc: Global, count: u16) -> Result<Vec<BoundParam>, AllocErr
     vec![in alloc; untyped(); usize::from(count)]
 }
 
-/// The type of a parameter, where `left` are left.
+/// Sets the type of the parameter that `left` others follow.
 #[tactic(auto, using(crate::proofs::Params::params))]
 fn set_type(params: &mut [BoundParam], left: usize, param_type: ParamType)
     ensures { params.new ≡ spec.at (length params.old - left) (spec.with_type param_type) params.old }
@@ -48,7 +48,7 @@ fn set_type(params: &mut [BoundParam], left: usize, param_type: ParamType)
     }
 }
 
-/// The data of a parameter is sent ahead.
+/// Records that the data of a parameter is sent ahead.
 #[tactic(auto, using(crate::proofs::Params::params))]
 fn mark_sent(params: &mut [BoundParam], place: usize)
     ensures { params.new ≡ spec.at place spec.sent_ahead params.old }
@@ -58,7 +58,7 @@ fn mark_sent(params: &mut [BoundParam], place: usize)
     }
 }
 
-/// Data that was sent ahead is gone.
+/// Drops the data that was sent ahead.
 #[tactic(auto, using(crate::proofs::Params::params))]
 fn drop_data(params: &mut [BoundParam])
     ensures { params.new ≡ map spec.without_data params.old }
@@ -102,36 +102,40 @@ impl Statement {
         })
     }
 
-    /// The number that the server gave it.
+    /// The number that the server gave the statement.
     pub fn id(&self) -> u32
         ensures value { result ≡ spec.id self.now }
     {
         self.id
     }
 
-    /// Its parameters, for [`ExecuteParamsView`](mysql_prepared::ExecuteParamsView): each with the type that the last execution with types gave
-    /// it, and before the first with that of its definition; and whether its data was sent ahead.
+    /// The parameters, for [`ExecuteParamsView`](mysql_stmt::ExecuteParamsView).
+    ///
+    /// Each has the type that the last execution with types sent, before the first such execution that of its
+    /// definition, and whether its data was sent ahead.
     pub fn params(&self) -> &[BoundParam]
         ensures value { result.now ≡ spec.params self.now }
     {
         self.params.as_slice()
     }
 
-    /// Whether an execution gave the parameters their types. Before that, one that sends none can't be read.
+    /// Whether an execution has sent the types of the parameters. Before that, an execution without types can't
+    /// be read.
     pub fn is_bound(&self) -> bool
         ensures value { result ≡ spec.is_bound self.now }
     {
         self.is_bound
     }
 
-    /// The number of columns of its last result; before the first result, that of its preparation.
+    /// The number of columns of the last result, or before the first result, of the preparation.
     pub fn width(&self) -> u64
         ensures value { result ≡ spec.width self.now }
     {
         self.width
     }
 
-    /// These columns, for [`BinaryRowView`](mysql_prepared::BinaryRowView), where all of their definitions came and are kept.
+    /// The columns of the last result, for [`BinaryRowView`](mysql_stmt::BinaryRowView), if all of their
+    /// definitions have come and are kept.
     pub fn columns(&self) -> Option<&[RowColumn]>
         ensures some { IfSome result (λ columns. spec.columns self.now ≡ Some columns.now) }
         ensures none { IfNone result (spec.columns self.now ≡ None) }
@@ -143,7 +147,7 @@ impl Statement {
         }
     }
 
-    /// The rest of `types` types after its own.
+    /// The number of types that are left of `types` after those of the statement.
     pub(crate) fn left_of(&self, types: usize) -> Option<usize>
         ensures some { IfSome result (λ left. left + spec.types self.now ≡ types) }
         ensures none { IfNone result (types < spec.types self.now) }
@@ -160,7 +164,7 @@ impl Statement {
         set_type(&mut self.params, left, column.param_type());
     }
 
-    /// The definition of a column.
+    /// Takes the definition of a column.
     pub(crate) fn define_column(&mut self, column: RowColumn) -> Result<(), AllocError>
         ensures ok { OnOk result (self.new ≡ spec.with_column column self.old) }
         ensures err { OnErr result (self.new ≡ self.old) }
@@ -179,14 +183,15 @@ impl Statement {
         }
     }
 
-    /// Data of a parameter was sent ahead.
+    /// Records that data of a parameter was sent ahead.
     pub(crate) fn send_ahead(&mut self, place: usize)
         ensures { self.new ≡ spec.with_data place self.old }
     {
         mark_sent(&mut self.params, place);
     }
 
-    /// An execution: it gives the parameters types, or leaves them theirs, and uses up the data that was sent ahead.
+    /// Takes an execution, which sets the types of the parameters, or leaves them, and uses up the data that
+    /// was sent ahead.
     pub(crate) fn execute(&mut self, alloc: Global, layout: Layout, payload: &[u8])
         ensures { self.new ≡ binding.with_execution layout payload.now self.old }
     {
@@ -196,7 +201,7 @@ impl Statement {
         drop_data(&mut self.params);
     }
 
-    /// The data that was sent ahead is gone.
+    /// Drops the data that was sent ahead.
     pub(crate) fn drop_data(&mut self)
         ensures { self.new ≡ spec.with_no_data self.old }
     {

@@ -1,4 +1,4 @@
-//! The table.
+//! The table of prepared statements.
 
 ghost use Rattle.std.specs.Prelude.{◌≡◌, ◌+◌, ◌&&◌, IfSome, IfNone, OnOk, OnErr, IsTrue, Some, None, true, false, is_some};
 ghost use Rattle.mysql_statements.specs.Table as spec;
@@ -17,31 +17,31 @@ use crate::task::Task;
 use std::alloc::{AllocError, Global};
 use std::marker::Model;
 
-/// The prepared statements of a connection, as whoever watches it keeps them, so that each binary row and each execution can be read.
+/// The prepared statements of an observed connection, with the types by which binary rows and executions are read.
 ///
-/// It is passed each packet of the conversation, in its order ([`take`](Self::take)). An execution is read under the parameters
-/// of its [`statement`](Self::statement), before that packet is taken, and a binary row under
+/// Pass it each packet of the conversation, in order ([`take`](Self::take)). An execution is read under the
+/// parameters of its [`statement`](Self::statement), before that packet is taken, and a binary row under
 /// [`columns_of_rows`](Self::columns_of_rows). A pipelined command is taken when the server reaches it:
 /// [`PipelinedCommands`](crate::PipelinedCommands).
 ///
-/// At most as much is kept as the limits say, and no memory is taken before the first statement. A statement that isn't kept is
-/// unknown; the others are known. Lookup is linear.
+/// The limits bound what is kept, and no memory is taken before the first statement. A statement that isn't
+/// kept is unknown; the others are known. Lookup is linear.
 ///
-/// In a clause it is the limits, the known statements, the number of the one that was prepared last, and the task of the
-/// current exchange.
+/// In a clause it is the limits, the known statements, the number of the statement that was prepared last, and
+/// the task of the current exchange.
 ///
 /// ```
 /// let limits = StatementLimits {
-///     statements: 100,
-///     types: 10_000, // of parameters and columns, of all statements
+/// statements: 100,
+/// types: 10_000, // of parameters and columns, of all statements
 /// };
 /// let pipelined = PipelinedLimits {
-///     commands: 16,
-///     bytes: 1 << 16, // of one command
+/// commands: 16,
+/// bytes: 1 << 16, // of one command
 /// };
 /// (
-///     Statements::new(alloc, limits),
-///     PipelinedCommands::new(alloc, pipelined),
+/// Statements::new(alloc, limits),
+/// PipelinedCommands::new(alloc, pipelined),
 /// )
 /// ```
 #[derive(Drop)]
@@ -62,7 +62,7 @@ impl Model for Statements {
 }
 
 impl Statements {
-    /// One that knows of no statement.
+    /// Creates a table without statements, with these limits.
     pub fn new(alloc: Global, limits: StatementLimits) -> Self
         ensures value { result ≡ spec.empty limits }
         ensures within { bounds.IsWithin result }
@@ -92,7 +92,7 @@ impl Statements {
         }
     }
 
-    /// Returns the statement with that number; `ffffffff` is the one that was prepared last.
+    /// Returns the statement of this number; `ffffffff` is the one that was prepared last.
     pub fn statement(&self, id: u32) -> Option<&Statement>
         ensures some { IfSome result (λ s. spec.statement_of id self.now ≡ Some s.now) }
         ensures none { IfNone result (spec.statement_of id self.now ≡ None) }
@@ -111,21 +111,21 @@ impl Statements {
         }
     }
 
-    /// The current exchange has no task.
+    /// Records that the current exchange has no task.
     pub(crate) fn turn_away(&mut self)
         ensures { self.new ≡ spec.otherwise self.old }
     {
         self.task = Task::Other;
     }
 
-    /// A statement is to be prepared.
+    /// Records that a statement is to be prepared.
     pub(crate) fn begin_prepare(&mut self)
         ensures { self.new ≡ spec.preparing self.old }
     {
         self.task = Task::Prepare;
     }
 
-    /// It could not be done.
+    /// Records that the task failed.
     pub(crate) fn fail(&mut self)
         ensures { self.new ≡ spec.failed self.old }
     {
@@ -135,7 +135,7 @@ impl Statements {
         self.task = Task::Other;
     }
 
-    /// Whether a statement more has a place, with `wanted` types.
+    /// Whether the limits allow another statement, with `wanted` types.
     fn has_place(&self, wanted: u64) -> bool
         ensures { result ≡ spec.has_place self.now.limits self.now.statements wanted }
     {
@@ -195,7 +195,7 @@ impl Statements {
         }
     }
 
-    /// The definition of a parameter or a column of a statement that is prepared.
+    /// Takes the definition of a parameter or a column of a statement that is prepared.
     fn define_prepared(
         &mut self,
         id: u32,
@@ -222,7 +222,7 @@ impl Statements {
         Ok(())
     }
 
-    /// A statement is executed.
+    /// Records that a statement is executed.
     pub(crate) fn execute(&mut self, id: u32, layout: Layout, payload: &[u8])
         ensures { self.new ≡ spec.executed layout payload.now id self.old }
     {
@@ -233,7 +233,7 @@ impl Statements {
         }
     }
 
-    /// Rows of a statement's cursor are asked for.
+    /// Records that rows of a statement's cursor are requested.
     pub(crate) fn fetch(&mut self, id: u32)
         ensures { self.new ≡ spec.fetched id self.old }
     {
@@ -243,7 +243,7 @@ impl Statements {
         };
     }
 
-    /// A result of an execution, of `width` columns, whose definitions follow or not.
+    /// Takes a result of an execution, of `width` columns, whose definitions follow or not.
     pub(crate) fn count(&mut self, width: u64, follow: bool)
         ensures { self.new ≡ spec.counted width follow self.old }
     {
@@ -259,7 +259,7 @@ impl Statements {
         self.task = Task::Execution(id, left);
     }
 
-    /// Data of a parameter is sent ahead of an execution.
+    /// Records that data of a parameter is sent ahead of an execution.
     pub(crate) fn send_ahead(&mut self, id: u32, param: usize)
         ensures { self.new ≡ spec.sent_ahead id param self.old }
     {
@@ -269,7 +269,7 @@ impl Statements {
         }
     }
 
-    /// A statement loses the data that was sent ahead.
+    /// Drops a statement's data that was sent ahead.
     pub(crate) fn reset(&mut self, id: u32)
         ensures { self.new ≡ spec.reset id self.old }
     {
@@ -279,7 +279,7 @@ impl Statements {
         }
     }
 
-    /// A statement is gone.
+    /// Removes a statement.
     pub(crate) fn close(&mut self, id: u32)
         ensures { self.new ≡ spec.closed id self.old }
     {
@@ -293,7 +293,8 @@ impl Statements {
         }
     }
 
-    /// Forgets all statements, as where packets were not seen. A change of the user and a reset of the connection do so too.
+    /// Removes all statements, for example after a loss of packets. A change of user and a reset of the
+    /// connection do so too.
     pub fn clear(&mut self)
         ensures { self.new ≡ spec.cleared self.old }
     {

@@ -17,21 +17,22 @@ use mysql_wire::command_code::{
 use std::alloc::AllocError;
 
 impl Statements {
-    /// Takes the next packet of a conversation, of the kind that it has there, and keeps what it says about statements.
+    /// Takes the next packet of a conversation, with its kind, and updates the table.
     ///
-    /// | Packet | What is kept |
+    /// | Packet | Update |
     /// |---|---|
     /// | a prepared statement, and the definitions that follow | its parameters and columns, with their types |
-    /// | `COM_STMT_EXECUTE`, `COM_STMT_BULK_EXECUTE` | the types of the parameters, where it sends types; the data that was sent ahead is used up |
-    /// | `COM_STMT_SEND_LONG_DATA` | that the data of a parameter is sent ahead, until an execution or `COM_STMT_RESET` |
-    /// | a count of columns, and the definitions that follow | the columns of the statement that is executed; those that it had, where no definitions follow |
-    /// | `COM_STMT_CLOSE` | that statement no longer |
-    /// | `COM_CHANGE_USER`, `COM_RESET_CONNECTION` | no statement |
+    /// | `COM_STMT_EXECUTE`, `COM_STMT_BULK_EXECUTE` | the types of the parameters, if it sends types; the data that was sent ahead is used up |
+    /// | `COM_STMT_SEND_LONG_DATA` | the data of a parameter is sent ahead, until an execution or `COM_STMT_RESET` |
+    /// | a count of columns, and the definitions that follow | the columns of the executed statement; if no definitions follow, they are unchanged |
+    /// | `COM_STMT_CLOSE` | the statement is removed |
+    /// | `COM_CHANGE_USER`, `COM_RESET_CONNECTION` | all statements are removed |
     ///
-    /// Other packets change nothing. In a statement's number `ffffffff` is the statement that was prepared last.
+    /// Other packets change nothing. The statement number `ffffffff` means the statement that was prepared last.
     ///
-    /// `AllocError` if a statement, or a column of the current result, can't be allocated. The packet is taken all the same,
-    /// but that statement, or the columns of that result, are unknown; the others are known.
+    /// The error is `AllocError` if a statement, or a column of the current result, can't be allocated. The
+    /// packet is taken nevertheless, but that statement, or the columns of that result, are unknown; the others
+    /// are known.
     pub fn take(
         &mut self,
         agreed: SessionCapabilities,
@@ -84,7 +85,7 @@ impl Statements {
         }
     }
 
-    /// A command, by its first byte.
+    /// Takes a command.
     fn ask(&mut self, agreed: SessionCapabilities, code: u8, payload: &[u8])
         ensures { self.new ≡ spec.asked agreed code payload.now self.old }
     {
@@ -104,7 +105,7 @@ impl Statements {
         }
     }
 
-    /// A command that is of one statement.
+    /// Takes a command about one statement.
     fn ask_one(&mut self, agreed: SessionCapabilities, code: u8, payload: &[u8])
         ensures { self.new ≡ spec.asked_one agreed code payload.now (packets.number_at payload.now) self.old }
     {

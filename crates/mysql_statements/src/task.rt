@@ -1,14 +1,14 @@
 //! The task of the current exchange.
 
-/// What the current exchange does with statements.
+/// The effect of the current exchange on statements.
 #[derive(Clone, Copy, Debug, PartialEq, Eq)]
 pub(crate) enum Task {
-    /// Nothing.
+    /// None.
     Other,
-    /// It is to prepare one.
+    /// It prepares a statement.
     Prepare,
-    /// The definitions of the statement with that number follow: first of its parameters, and then of its columns.
+    /// The definitions of the statement of this number follow: first of its parameters, then of its columns.
     Definitions(u32, usize, u64),
-    /// It executes the statement with that number, and this many definitions of columns are to be kept.
+    /// It executes the statement of this number, and this number of column definitions is to be kept.
     Execution(u32, u64),
 }

@@ -1,4 +1,4 @@
-//! Values of a binary row, each put into its cell where it is read.
+//! Values of a binary row, each read directly into its cell.
 
 ghost use Rattle.std.specs.Prelude.{◌≡◌, ◌+◌, ◌<◌, ◌≤◌, ◌++◌, ◌∷◌, [], Some, vec_len, vec_capacity, Ok, IfErr, OnOk, OnErr};
 ghost use Rattle.mysql_wire.specs.Reading.{Answers};
@@ -13,7 +13,7 @@ use crate::value_kind::ValueKind;
 use bitflags::Flags;
 use mysql_wire::{ColumnFlags, ColumnType, FaultOf, ParseBuf};
 
-/// Puts a value after the others.
+/// Appends a value to the cells.
 #[inline(always)]
 fn put(value: Value, cells: &mut Vec<Option<Value>>)
     requires { vec_len cells.old < vec_capacity cells.old }
@@ -24,7 +24,7 @@ fn put(value: Value, cells: &mut Vec<Option<Value>>)
     cells.push_reserved(Some(value));
 }
 
-/// A value in the form of the type, by a call.
+/// Reads a value in the form of the type, by a call.
 #[inline(never)]
 fn read_other<'s>(
     column_type: ColumnType,
@@ -36,10 +36,10 @@ fn read_other<'s>(
     read_kind(ValueKind::of(column_type), is_unsigned, buf)
 }
 
-/// Puts a value of the type, by a call.
+/// Appends a value of the type, by a call.
 ///
-/// A function of its own, with a buffer of its own: the caller's buffer stays in registers, and no memory is cleared for the other
-/// types.
+/// This is a function of its own, with a buffer of its own: the caller's buffer stays in registers, and no
+/// memory is cleared for the other types.
 #[inline(always)]
 fn put_other<'s>(
     column_type: ColumnType,
@@ -61,8 +61,8 @@ fn put_other<'s>(
     Ok(())
 }
 
-/// Reads a value of the given type. The most frequent types have an arm of their own, so that a value's parts are written
-/// directly to its cell instead of being assembled and taken apart again.
+/// Reads a value of the given type. The most frequent types have arms of their own, so that a value's parts are
+/// written directly to its cell instead of being assembled and taken apart again.
 // One match on the type: the compiler would otherwise match its kind as well.
 #[inline(always)]
 fn put_value<'s>(

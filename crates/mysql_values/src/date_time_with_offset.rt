@@ -1,4 +1,4 @@
-//! A date and a time with their offset from UTC, as parameters have them.
+//! Dates and times with an offset from UTC, as parameters have them.
 #![tactic(auto, using(mysql_wire::proofs::Packets::packets), unfolding(crate::specs::DateTimeWithOffset::date_with_offset))]
 
 ghost use Rattle.std.specs.Prelude.{◌≡◌};
@@ -11,7 +11,7 @@ use mysql_wire::{
 };
 use thiserror::Error;
 
-/// The length of a date with an offset is not 13.
+/// The length byte of a date with an offset is not 13.
 #[derive(Clone, Copy, Debug, Default, PartialEq, Eq, Hash, Error)]
 #[error("Invalid temporal length")]
 pub struct InvalidOffsetDateLength;

@@ -6,7 +6,7 @@ use crate::value::Value;
 use std::str;
 use thiserror::Error;
 
-/// A value that does not convert to the type that was asked for: the value itself, unchanged.
+/// A value that does not convert to the requested type: the value itself, unchanged.
 ///
 /// ```
 /// u64::from_value_opt(value)
@@ -26,18 +26,18 @@ pub trait FromValue: Sized {
     /// Whether a value converts to this one.
     ghost Converts: { Value → Self → Type 0 };
 
-    /// Converts a value, or hands it back where it is none of this type.
+    /// Converts a value, or returns it unchanged in the error.
     fn from_value_opt(value: Value) -> Result<Self, FromValueError>
         ensures ok { IfOk result (λ converted. Converts value converted) }
         ensures err { IfErr result (λ refusal. (refusal.0 ≡ value) × ((x : Self) → Converts value x → ⊥)) };
 
     ghost use Rattle.mysql_values.specs.ByContent.{GoesByContent};
 
-    /// Conversion depends only on a value's content, so a clone converts exactly if the value does.
+    /// Conversion depends only on a value's content: a clone converts exactly if the value does.
     ghost by_content: { GoesByContent Converts };
 }
 
-/// Every value, as it is.
+/// Any value, unchanged.
 impl FromValue for Value {
     ghost Converts = { λ value converted. value ≡ converted };
 
@@ -50,7 +50,7 @@ impl FromValue for Value {
     ghost by_content = { value_by_content };
 }
 
-/// A number in range, or bytes that write one in decimal, with an optional `+` or `-`.
+/// An integer in range, or bytes that spell one in decimal, with an optional `+` or `-`.
 impl FromValue for i64 {
     ghost use Rattle.mysql_values.specs.FromValue.{AsI64};
 
@@ -75,7 +75,7 @@ impl FromValue for i64 {
     ghost by_content = { i64_by_content };
 }
 
-/// A number in range, or bytes that write one in decimal, with an optional `+`.
+/// An integer in range, or bytes that spell one in decimal, with an optional `+`.
 impl FromValue for u64 {
     ghost use Rattle.mysql_values.specs.FromValue.{AsU64};
 
@@ -100,7 +100,7 @@ impl FromValue for u64 {
     ghost by_content = { u64_by_content };
 }
 
-/// Bytes, as they are.
+/// Bytes, unchanged.
 impl FromValue for Vec<u8> {
     ghost use Rattle.mysql_values.specs.FromValue.{AsBytes};
 
@@ -118,7 +118,7 @@ impl FromValue for Vec<u8> {
     ghost by_content = { bytes_by_content };
 }
 
-/// Bytes that are UTF-8.
+/// Bytes that are valid UTF-8.
 impl FromValue for String {
     ghost use Rattle.mysql_values.specs.FromValue.{AsText};
 
@@ -139,7 +139,7 @@ impl FromValue for String {
     ghost by_content = { text_by_content };
 }
 
-/// NULL is None; another value is what it is as `T`.
+/// NULL converts to `None`, any other value as it converts to `T`.
 impl<T: FromValue> FromValue for Option<T> {
     ghost use Rattle.mysql_values.specs.FromValue.{AsOption};
 
@@ -159,7 +159,7 @@ impl<T: FromValue> FromValue for Option<T> {
 
 ghost use Rattle.mysql_values.specs.Numeral.{WritesSigned, WritesUnsigned};
 
-/// The number that the bytes write.
+/// Returns the number that the bytes spell.
 pub(crate) fn parse_i64(bytes: &[u8]) -> Option<i64>
     ensures { MatchOption result ((x : ℤ) → WritesSigned bytes.now x → ⊥) (WritesSigned bytes.now) }
 {
@@ -169,7 +169,7 @@ pub(crate) fn parse_i64(bytes: &[u8]) -> Option<i64>
     }
 }
 
-/// The number that the bytes write.
+/// Returns the number that the bytes spell.
 pub(crate) fn parse_u64(bytes: &[u8]) -> Option<u64>
     ensures { MatchOption result ((n : ℕ) → WritesUnsigned bytes.now n → ⊥) (WritesUnsigned bytes.now) }
 {

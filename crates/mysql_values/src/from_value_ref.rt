@@ -1,4 +1,4 @@
-//! Conversions of values whose bytes stay where they are.
+//! Conversions of values whose bytes are borrowed.
 
 ghost use Rattle.std.specs.Prelude.{◌≡◌, IfOk, IfErr};
 ghost use Rattle.mysql_values.specs.ValueRef.{ref_content};
@@ -8,7 +8,7 @@ use crate::value_ref::ValueRef;
 use std::str;
 use thiserror::Error;
 
-/// A value that does not convert to the type that was asked for: the value itself, unchanged.
+/// A value that does not convert to the requested type: the value itself, unchanged.
 #[derive(Clone, Copy, Debug, PartialEq, Error)]
 #[error("FromValueError")]
 pub struct FromValueRefError<'a>(pub ValueRef<'a>);
@@ -28,13 +28,13 @@ pub trait FromValueRef<'a>: Sized {
     /// Whether a value with this content converts to this one.
     ghost Converts: { Content → Self → Type 0 };
 
-    /// Converts a value, or hands it back where it is none of this type.
+    /// Converts a value, or returns it unchanged in the error.
     fn from_value_ref_opt(value: ValueRef<'a>) -> Result<Self, FromValueRefError<'a>>
         ensures ok { IfOk result (λ converted. Converts (ref_content value.entry) converted) }
         ensures err { IfErr result (λ refusal. (refusal.0 ≡ value.entry) × ((x : Self) → Converts (ref_content value.entry) x → ⊥)) };
 }
 
-/// Every value, as it is.
+/// Any value, unchanged.
 impl<'a> FromValueRef<'a> for ValueRef<'a> {
     ghost use Rattle.std.specs.Prelude.{◌≡◌};
     ghost use Rattle.mysql_values.specs.ValueRef.{ref_content};
@@ -46,7 +46,7 @@ impl<'a> FromValueRef<'a> for ValueRef<'a> {
     }
 }
 
-/// A number in range, or bytes that write one in decimal, with an optional `+` or `-`.
+/// An integer in range, or bytes that spell one in decimal, with an optional `+` or `-`.
 impl<'a> FromValueRef<'a> for i64 {
     ghost use Rattle.mysql_values.specs.FromValueRef.{ContentAsI64};
 
@@ -67,7 +67,7 @@ impl<'a> FromValueRef<'a> for i64 {
     }
 }
 
-/// A number in range, or bytes that write one in decimal, with an optional `+`.
+/// An integer in range, or bytes that spell one in decimal, with an optional `+`.
 impl<'a> FromValueRef<'a> for u64 {
     ghost use Rattle.mysql_values.specs.FromValueRef.{ContentAsU64};
 
@@ -88,7 +88,7 @@ impl<'a> FromValueRef<'a> for u64 {
     }
 }
 
-/// Bytes, where they are.
+/// Bytes, borrowed.
 impl<'a> FromValueRef<'a> for &'a [u8] {
     ghost use Rattle.mysql_values.specs.FromValueRef.{ContentAsBytes};
 
@@ -102,7 +102,7 @@ impl<'a> FromValueRef<'a> for &'a [u8] {
     }
 }
 
-/// Bytes that are UTF-8, where they are.
+/// Bytes that are valid UTF-8, borrowed.
 impl<'a> FromValueRef<'a> for &'a str {
     ghost use Rattle.mysql_values.specs.FromValueRef.{ContentAsText};
 
@@ -119,7 +119,7 @@ impl<'a> FromValueRef<'a> for &'a str {
     }
 }
 
-/// NULL is None; another value is what it is as `T`.
+/// NULL converts to `None`, any other value as it converts to `T`.
 impl<'a, T: FromValueRef<'a>> FromValueRef<'a> for Option<T> {
     ghost use Rattle.mysql_values.specs.FromValueRef.{ContentAsOption};
 

@@ -34,8 +34,8 @@ pub fn bin_has_its_size()
     ensures { (content : Content) → length (bin content) ≡ bin_size content }
 {}
 
-/// A value is read back under the type that it has in a request, and under each other type with the same encoding, whatever
-/// bytes follow.
+/// A value is read back under the type that it is sent as, and under any other type with the same encoding,
+/// whatever bytes follow.
 pub fn value_round_trips()
     ensures agrees { (column_type : ColumnType) (is_unsigned : Bool) (content : Content) →
         ReadsBack column_type is_unsigned content → Agrees column_type is_unsigned content }
@@ -47,14 +47,14 @@ pub fn value_round_trips()
         (bin_value column_type is_unsigned).reads (bin content ++ rest) ≡ Ok (content, rest) }
 {}
 
-/// A value whose numbers have their widths, as those of every [`Value`](crate::Value) have, agrees with the type that it
-/// is sent as; but a negative span of no time is read without its sign.
+/// A value whose numbers fit their widths, as in every [`Value`](crate::Value), agrees with the type that it is
+/// sent as; however, a negative time span of zero is read without its sign.
 pub fn sent_value_agrees()
     ensures { (content : Content) → IsInRange content → Agrees (sent_type content) (is_uint content) content }
 {}
 
-/// A value that fits a type is read back under it, whatever bytes follow: an integer as a signed one, except under an unsigned
-/// type of eight bytes.
+/// A value that fits a type is read back under it, whatever bytes follow: an integer as a signed one, except
+/// under an unsigned type of eight bytes.
 pub fn value_under_a_type_round_trips()
     ensures read { (t : ParamType) (content : Content) (bytes : List ℕ) → IsInRange content → spelled t content ≡ Some bytes → ReadsUnder t content bytes }
     ensures none { (t : ParamType) → spelled t NULL ≡ Some [] }
@@ -66,26 +66,26 @@ pub fn a_parameter_under_its_type_round_trips()
     ensures none { (t : ParamType) → param_spelled t (Plain NULL) ≡ Some [] }
 {}
 
-/// A date with an offset is equal to another exactly where all its numbers are, its offset too.
+/// Dates with an offset are equal exactly if all their numbers are, including the offset.
 pub fn equal_dates_with_offset_are_the_same()
     ensures same { (x y : DateTimeWithOffset) → IsTrue (⟦<crate::date_time_with_offset::DateTimeWithOffset as PartialEq>⟧.eq x y) ↔ (x ≡ y) }
 {}
 
-/// Values are equal exactly where they hold the same: the same kind, with the same bytes or numbers, and floats with the
-/// same bits.
+/// Values are equal exactly if they have the same kind, with the same bytes or numbers, and floats with the same bits.
 #[tactic(auto, using(crate::proofs::ContentEq::equal_values))]
 pub fn equal_values_hold_the_same()
     ensures same { (a b : Value) → IsTrue (⟦<crate::value::Value as PartialEq>⟧.eq a b) ↔ (content_of a ≡ content_of b) }
     ensures compared { (a b : Value) → ⟦<crate::value::Value as PartialEq>⟧.eq a b ≡ content_eq (content_of a) (content_of b) }
 {}
 
-/// Borrowed values are equal exactly where they hold the same, as values are.
+/// Borrowed values are equal exactly if they have the same kind, with the same bytes or numbers, and floats
+/// with the same bits.
 #[tactic(auto, using(crate::proofs::RefEq::equal_value_refs))]
 pub fn equal_value_refs_hold_the_same()
     ensures same { (a b : ValueRef) → IsTrue (⟦<crate::value_ref::ValueRef<'static> as PartialEq>⟧.eq a b) ↔ (ref_content a ≡ ref_content b) }
 {}
 
-/// A borrowed value converts where the value itself does, to the same number, bytes or text.
+/// A borrowed value converts exactly if the owned value does, to the same number, bytes or text.
 #[tactic(auto, using(crate::proofs::RefEq::converts_alike))]
 pub fn borrowed_values_convert_alike()
     ensures signed { (v : Value) (x : ℤ) → AsI64 v x ↔ ContentAsI64 (content_of v) x }
@@ -94,8 +94,8 @@ pub fn borrowed_values_convert_alike()
     ensures text { (v : Value) (text : String Global) → AsText v text → ContentAsText (content_of v) (string_vec text).items }
 {}
 
-/// Reading a value takes memory only for a string of at least one byte: under a type of strings, or in text where the first
-/// byte is not that of NULL.
+/// Reading a value takes memory only for a nonempty string: under a string type, or in text if the first byte
+/// is not `fb` (NULL).
 #[tactic(auto, using(crate::proofs::Memory::memory))]
 pub fn strings_alone_take_memory()
     ensures binary { (column : ColumnType × ColumnFlags) (bytes : List ℕ) → IsTrue (reads_bytes ((value_in_column column).reads bytes)) → IsTrue (is_string column.0) }

@@ -12,7 +12,7 @@ use mysql_wire::{
 
 /// The type of a parameter, as executions and bulk requests send it: a column type, and whether it is `UNSIGNED`.
 ///
-/// In the bytes it is the code of the column type, and a byte of flags.
+/// It is encoded as the code of the column type and a byte of flags.
 ///
 /// ```
 /// let code = digits.parse::<u8>().unwrap_or(253);
@@ -33,7 +33,7 @@ impl ParamType {
     ghost use Rattle.mysql_values.specs.Value.{content_of};
     ghost use Rattle.mysql_values.specs.ValueRef.{ref_content};
 
-    /// The type that is `UNSIGNED` or not.
+    /// Creates a type, `UNSIGNED` or not.
     #[inline(always)]
     fn typed(column_type: ColumnType, is_unsigned: bool) -> Self
         ensures value { result ≡ typed column_type is_unsigned }
@@ -46,7 +46,7 @@ impl ParamType {
         ParamType { column_type, flags }
     }
 
-    /// The type that a value is sent as.
+    /// Returns the type that a value is sent as.
     #[inline]
     pub fn from_value(value: &Value) -> Self
         ensures value { result ≡ type_of (content_of value.now) }
@@ -54,7 +54,7 @@ impl ParamType {
         ParamType::typed(value.sent_type(), value.is_uint())
     }
 
-    /// The type that a borrowed value is sent as.
+    /// Returns the type that a borrowed value is sent as.
     #[inline]
     pub fn from_value_ref(value: &ValueRef<'_>) -> Self
         ensures value { result ≡ type_of (ref_content value.now) }
@@ -62,7 +62,7 @@ impl ParamType {
         ParamType::typed(value.sent_type(), value.is_uint())
     }
 
-    /// The type with its flags.
+    /// Creates a parameter type of a column type and flags.
     pub fn new(column_type: ColumnType, flags: StmtExecuteParamFlags) -> Self
         ensures value { result ≡ type_with_flags column_type flags }
     {
@@ -86,7 +86,7 @@ impl ParamType {
     }
 }
 
-/// Two bytes: fewer are `UnexpectedEof`, and another code than a column type's is `InvalidData`.
+/// Two bytes: fewer are `UnexpectedEof`, and a code that isn't a column type's is `InvalidData`.
 impl<'de> MyDeserialize<'de> for ParamType {
     const SIZE: Option<usize> = Some(2);
 

@@ -14,10 +14,10 @@ use crate::value_ref::ValueRef;
 use crate::value_ref_reader::read_kind_ref;
 use mysql_wire::{ColumnType, FaultOf, Flags, ParseBuf, StmtExecuteParamFlags};
 
-/// The value of a parameter or an attribute, of an execution or a query.
+/// The value of a parameter or an attribute of an execution or a query.
 #[derive(Clone, Copy, Debug, PartialEq)]
 pub enum ParamValue<'a> {
-    /// A value as rows have it.
+    /// A value, as in rows.
     Value(ValueRef<'a>),
     /// A date and a time with an offset from UTC, which only parameters and attributes have.
     DateTimeWithOffset(DateTimeWithOffset),
@@ -64,7 +64,7 @@ fn read_date_time<'s, 'de>(buf: &mut ParseBuf<'de>) -> Result<ParamValue<'de>, F
     Ok(ParamValue::Value(date))
 }
 
-/// Reads one from a buffer of its own: the caller's then stays in registers.
+/// Reads one from a buffer of its own, so that the caller's stays in registers.
 #[inline(always)]
 fn read_date_time_apart<'s, 'de>(buf: &mut ParseBuf<'de>) -> Result<ParamValue<'de>, FaultOf<'s>>
     ensures value { Answers false (spec.param_contents result) buf.new (spec.date_time_param.reads buf.old) }
@@ -90,11 +90,13 @@ fn read_other<'s, 'de>(
     Ok(ParamValue::Value(value))
 }
 
-/// Reads a value of a parameter or an attribute by its type. It takes no memory, and the bytes of the value stay in the packet.
+/// Reads a value of a parameter or an attribute by its type. It takes no memory, and the value borrows its
+/// bytes from the packet.
 ///
-/// A type is read as `get_ps_param_len` (`sql/protocol_classic.cc`) does: integers of 1, 2, 4 and 8 bytes and floats of 4 and 8; dates
-/// and times after their length; NULL without bytes; every other type as a length-encoded string. Missing bytes are
-/// `UnexpectedEof`, and a length that no date has is `InvalidData`. On an error the buffer is unchanged.
+/// Types are read as by `get_ps_param_len` (`sql/protocol_classic.cc`): integers of 1, 2, 4 and 8 bytes and
+/// floats of 4 and 8; dates and times after their length; NULL without bytes; every other type as a
+/// length-encoded string. Missing bytes are `UnexpectedEof`, and an invalid length of a date or time is
+/// `InvalidData`. On an error the buffer is unchanged.
 #[inline(always)]
 pub fn read_param_value<'s, 'de>(
     param_type: ParamType,

@@ -23,7 +23,7 @@ pub enum Params {
     Positional(Vec<Value>),
 }
 
-/// Why parameters give no values.
+/// Why parameters can't be converted to a list of values.
 ///
 /// ```
 /// params.into_values(alloc, Some(names))
@@ -114,7 +114,7 @@ ghost use Rattle.mysql_values.specs.declared.value.Value.{Value};
 ghost use Rattle.mysql_values.specs.Value.{content_of, contents_of};
 ghost use Rattle.mysql_values.specs.Params.{value_of, values_of_names, RefusesName, RefusesNames};
 
-/// A copy of the value of a name.
+/// Copies the value of a name.
 fn value_of_name(
     alloc: Global,
     values: &IndexMap<Vec<u8>, Value>,

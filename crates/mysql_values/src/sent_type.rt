@@ -10,7 +10,8 @@ use crate::value_ref::ValueRef;
 use mysql_wire::ColumnType;
 
 impl Value {
-    /// The column type that it is sent as, which has a flag for unsigned numbers: see [`is_uint`](Self::is_uint).
+    /// Returns the column type that the value is sent as; unsigned numbers also have a flag: see
+    /// [`is_uint`](Self::is_uint).
     #[inline]
     pub fn sent_type(&self) -> ColumnType
         ensures { result ≡ sent.sent_type (content_of self.now) }
@@ -26,7 +27,7 @@ impl Value {
         }
     }
 
-    /// Whether it is an unsigned number.
+    /// Whether the value is an unsigned number.
     #[inline]
     pub fn is_uint(&self) -> bool
         ensures { result ≡ sent.is_uint (content_of self.now) }
@@ -36,7 +37,7 @@ impl Value {
 }
 
 impl ValueRef<'_> {
-    /// The column type that it is sent as, as [`Value::sent_type`] is.
+    /// Returns the column type that the value is sent as, like [`Value::sent_type`].
     #[inline]
     pub fn sent_type(&self) -> ColumnType
         ensures { result ≡ sent.sent_type (ref_content self.now) }
@@ -52,7 +53,7 @@ impl ValueRef<'_> {
         }
     }
 
-    /// Whether it is an unsigned number.
+    /// Whether the value is an unsigned number.
     #[inline]
     pub fn is_uint(&self) -> bool
         ensures { result ≡ sent.is_uint (ref_content self.now) }

@@ -1,16 +1,16 @@
 //! The sides of a connection, and the two protocols of rows.
 
-/// The side of a connection that makes a bitmap of NULLs.
+/// The side of a connection that writes a NULL bitmap.
 pub trait SerializationSide {
     ghost use Rattle.std.specs.Prelude.{ℕ};
 
     ghost BIT_OFFSET: { ℕ };
 
-    /// The place of the first value's bit.
+    /// The position of the first value's bit.
     const BIT_OFFSET: usize;
 }
 
-/// A client, as in `COM_STMT_EXECUTE`: the first value has the first bit.
+/// The client, as in `COM_STMT_EXECUTE`: the bitmap begins with the bit of the first value.
 #[derive(Clone, Copy, Debug)]
 pub struct ClientSide;
 
@@ -20,7 +20,7 @@ impl SerializationSide for ClientSide {
     const BIT_OFFSET: usize = 0;
 }
 
-/// A server, as in `ProtocolBinary::ResultsetRow`: the bitmap has two bits before that of the first value.
+/// The server, as in `ProtocolBinary::ResultsetRow`: the bitmap has two bits before that of the first value.
 #[derive(Clone, Copy, Debug)]
 pub struct ServerSide;
 
@@ -30,10 +30,10 @@ impl SerializationSide for ServerSide {
     const BIT_OFFSET: usize = 2;
 }
 
-/// `ProtocolText::ResultsetRow`: each value is text.
+/// The text protocol (`ProtocolText::ResultsetRow`): each value is text.
 #[derive(Clone, Copy, Debug)]
 pub struct Text;
 
-/// `ProtocolBinary::ResultsetRow`: each value is in the binary form of its column's type.
+/// The binary protocol (`ProtocolBinary::ResultsetRow`): each value is in the binary form of its column's type.
 #[derive(Clone, Copy, Debug)]
 pub struct Binary;

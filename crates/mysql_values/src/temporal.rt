@@ -1,4 +1,4 @@
-//! Dates and times, as the binary protocol writes them.
+//! Dates and times in the binary protocol.
 
 ghost use Rattle.std.specs.Prelude.{false, ◌≡◌, ◌≤◌, ◌+◌, ◌==◌, ℕ, Ok, length};
 
@@ -7,7 +7,7 @@ use mysql_wire::{
     RawInt,
 };
 
-/// A day of the calendar.
+/// A calendar date.
 #[derive(Clone, Copy, Debug, PartialEq, Eq)]
 pub struct Day {
     pub year: u16,
@@ -15,7 +15,7 @@ pub struct Day {
     pub day: u8,
 }
 
-/// The time on a clock.
+/// A time of day.
 #[derive(Clone, Copy, Debug, PartialEq, Eq)]
 pub struct Clock {
     pub hour: u8,
@@ -23,7 +23,7 @@ pub struct Clock {
     pub second: u8,
 }
 
-/// A day and the time on it (`ProtocolBinary::MYSQL_TYPE_DATETIME`).
+/// A date and a time of day (`ProtocolBinary::MYSQL_TYPE_DATETIME`).
 #[derive(Clone, Copy, Debug, PartialEq, Eq)]
 pub struct DateTime {
     pub day: Day,
@@ -31,7 +31,7 @@ pub struct DateTime {
     pub micros: u32,
 }
 
-/// A span of time with its sign (`ProtocolBinary::MYSQL_TYPE_TIME`).
+/// A time span with a sign (`ProtocolBinary::MYSQL_TYPE_TIME`).
 #[derive(Clone, Copy, Debug, PartialEq, Eq)]
 pub struct TimeSpan {
     pub is_negative: bool,
@@ -43,7 +43,7 @@ pub struct TimeSpan {
 impl Day {
     ghost use Rattle.mysql_values.specs.Temporal.{is_zero_day};
 
-    /// The day of a date.
+    /// Creates a calendar date.
     #[inline]
     pub fn new(year: u16, month: u8, day: u8) -> Self
         ensures { result ≡ record { year = year; month = month; day = day } }
@@ -61,7 +61,7 @@ impl Day {
 impl Clock {
     ghost use Rattle.mysql_values.specs.Temporal.{is_midnight};
 
-    /// The time of a day.
+    /// Creates a time of day.
     #[inline]
     pub fn new(hour: u8, minute: u8, second: u8) -> Self
         ensures { result ≡ record { hour = hour; minute = minute; second = second } }
@@ -83,7 +83,7 @@ impl Clock {
 impl DateTime {
     ghost use Rattle.mysql_values.specs.Temporal.{date_time_size};
 
-    /// A date with its time and microseconds.
+    /// Creates a date with a time of day and microseconds.
     #[inline]
     pub fn new(day: Day, clock: Clock, micros: u32) -> Self
         ensures { result ≡ record { day = day; clock = clock; micros = micros } }
@@ -111,7 +111,7 @@ impl DateTime {
 impl TimeSpan {
     ghost use Rattle.mysql_values.specs.Temporal.{time_span_size};
 
-    /// A time span: its sign, days, time and microseconds.
+    /// Creates a time span of a sign, days, time and microseconds.
     #[inline]
     pub fn new(is_negative: bool, days: u32, clock: Clock, micros: u32) -> Self
         ensures { result ≡ record { is_negative = is_negative; days = days; clock = clock; micros = micros } }
@@ -201,7 +201,7 @@ impl MySerialize for TimeSpan {
 ghost use Rattle.mysql_wire.specs.Int.{raw_int, byte, le_u32};
 ghost use Rattle.mysql_values.specs.Temporal.{day, clock};
 
-/// Takes a day off the front. Its bytes are there.
+/// Takes a date off the front. Its bytes must remain in the buffer.
 #[inline(always)]
 #[tactic(auto, using(crate::proofs::There::there))]
 fn eat_day(buf: &mut ParseBuf<'_>) -> Day
@@ -213,7 +213,7 @@ fn eat_day(buf: &mut ParseBuf<'_>) -> Day
     Day::new(u16::from_le_bytes([low, high]), month, day)
 }
 
-/// Takes the time on a clock off the front. Its bytes are there.
+/// Takes a time of day off the front. Its bytes must remain in the buffer.
 #[inline(always)]
 #[tactic(auto, using(crate::proofs::There::there))]
 fn eat_clock(buf: &mut ParseBuf<'_>) -> Clock
@@ -225,7 +225,7 @@ fn eat_clock(buf: &mut ParseBuf<'_>) -> Clock
     Clock::new(hour, minute, second)
 }
 
-/// Takes a number of four bytes off the front. They are there.
+/// Takes a number of four bytes off the front. They must remain in the buffer.
 #[inline(always)]
 #[tactic(auto, using(crate::proofs::There::there))]
 fn eat_u32(buf: &mut ParseBuf<'_>) -> u32
@@ -236,7 +236,7 @@ fn eat_u32(buf: &mut ParseBuf<'_>) -> u32
     u32::from_le_bytes(buf.eat_array())
 }
 
-/// Takes a byte off the front, which is there: a span is negative where it is 1.
+/// Takes a byte off the front, which must remain in the buffer: 1 means a negative span.
 #[inline(always)]
 #[tactic(auto, using(crate::proofs::There::there))]
 fn eat_sign(buf: &mut ParseBuf<'_>) -> bool
@@ -266,7 +266,7 @@ impl<'de> MyDeserialize<'de> for Day {
     ghost size_is = { λ _. size-day };
 }
 
-/// A day takes four bytes.
+/// A calendar date takes four bytes.
 pub fn day_size() -> Option<usize>
     ensures { result ≡ Some 4 }
 {
@@ -291,7 +291,7 @@ impl<'de> MyDeserialize<'de> for Clock {
     ghost size_is = { λ _. size-clock };
 }
 
-/// The time on a clock takes three bytes.
+/// A time of day takes three bytes.
 pub fn clock_size() -> Option<usize>
     ensures { result ≡ Some 3 }
 {
@@ -359,7 +359,7 @@ impl<'de> MyDeserialize<'de> for TimeSpan {
     ghost size_is = { λ _. size-time_span };
 }
 
-/// Neither a day with its time nor a span of time has a constant size.
+/// Neither a date with a time nor a time span has a constant size.
 pub fn no_date_or_time_has_a_constant_size() -> (Option<usize>, Option<usize>)
     ensures { result ≡ record { 0 = None; 1 = None } }
 {

@@ -1,4 +1,4 @@
-//! Values as they are encoded under a type.
+//! Values encoded under a given type.
 
 ghost use Rattle.std.specs.Prelude.{◌≡◌, ◌*◌, ◌^◌, ◌≤◌, ◌<◌, length, IfSome, Some, Option, ℕ, None, pos};
 ghost use Rattle.std.specs.Option.{option_map};
@@ -13,12 +13,12 @@ use crate::value_kind::ValueKind;
 use crate::value_ref::ValueRef;
 use mysql_wire::{Buffer, Flags, IntRepr, LeU16, LeU32, MySerialize, StmtExecuteParamFlags};
 
-/// A value as it is encoded under the type of a parameter or of a column, in the width of that type.
+/// A value encoded under the type of a parameter or a column, in the width of that type.
 ///
 /// ```
 /// let small = ParamType::new(
-///     ColumnType::MYSQL_TYPE_SHORT,
-///     StmtExecuteParamFlags::from_bits_retain(0),
+/// ColumnType::MYSQL_TYPE_SHORT,
+/// StmtExecuteParamFlags::from_bits_retain(0),
 /// );
 /// TypedValue::new(small, value).is_some()
 /// ```
@@ -43,7 +43,7 @@ const SHORT: u32 = 1 << 15;
 
 const LONG: u32 = 1 << 31;
 
-/// The bits of a number that is not negative, where the type has it.
+/// Returns the bits of a nonnegative number, if the type can hold it.
 fn natural_bits(half: u32, is_unsigned: bool, number: u64) -> Option<u64>
     ensures value { result ≡ number_bits half is_unsigned (pos number) }
 {
@@ -52,7 +52,7 @@ fn natural_bits(half: u32, is_unsigned: bool, number: u64) -> Option<u64>
     if number < end { Some(number) } else { None }
 }
 
-/// The bits of a number in two's complement, where the type has it.
+/// Returns the bits of a number in two's complement, if the type can hold it.
 fn signed_bits(half: u32, is_unsigned: bool, number: i64) -> Option<u64>
     ensures value { result ≡ number_bits half is_unsigned number }
 {
@@ -67,7 +67,7 @@ fn signed_bits(half: u32, is_unsigned: bool, number: i64) -> Option<u64>
     Some(2 * half - below)
 }
 
-/// The bits of a value that is a number, where the type has it.
+/// Returns the bits of a value that is a number, if the type can hold it.
 fn bits_of(half: u32, is_unsigned: bool, value: &ValueRef<'_>) -> Option<u64>
     requires { half ≤ 2 ^ 31 }
     ensures value { result ≡ content_bits half is_unsigned (ref_content value.now) }
@@ -81,8 +81,10 @@ fn bits_of(half: u32, is_unsigned: bool, value: &ValueRef<'_>) -> Option<u64>
 }
 
 impl<'a> TypedValue<'a> {
-    /// Encodes the value under the type, if it fits: an integer in the range of the type, in its width; a float of four bytes
-    /// under FLOAT, and one of eight under DOUBLE; a date, without a time of day under DATE; a time span under TIME; bytes
+    /// Encodes a value under a type, or returns `None` if it doesn't fit.
+    ///
+    /// These fit: an integer in the range of the type, in its width; a float of four bytes under FLOAT, and one
+    /// of eight under DOUBLE; a date, under DATE only without a time of day; a time span under TIME; bytes
     /// under each string type; NULL under any type.
     pub fn new(param_type: ParamType, value: ValueRef<'a>) -> Option<Self>
         ensures variant { result ≡ typed_under param_type value.entry }
@@ -92,10 +94,11 @@ impl<'a> TypedValue<'a> {
         TypedValue::of_kind(ValueKind::of(param_type.column_type()), is_unsigned, value)
     }
 
-    /// Encodes the value of a parameter or an attribute under its type, if it fits.
+    /// Encodes the value of a parameter or an attribute under its type, or returns `None` if it doesn't fit.
     ///
     /// Like [`new`](Self::new), but `INT24`, `YEAR` and the reserved types are strings
-    /// ([`read_param_value`](crate::read_param_value)), and a date with an offset fits `DATETIME` and `TIMESTAMP`.
+    /// ([`read_param_value`](crate::read_param_value)), and a date with an offset fits `DATETIME` and
+    /// `TIMESTAMP`.
     pub fn of_param(param_type: ParamType, value: ParamValue<'a>) -> Option<Self>
         ensures variant { result ≡ param_typed param_type value.entry }
         ensures value { option_map typed_bytes result ≡ param_spelled param_type (param_content value.entry) }

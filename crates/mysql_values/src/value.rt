@@ -9,7 +9,7 @@ use std::alloc::AllocError;
 use std::fmt;
 use std::fmt::Debug;
 
-/// A value that a statement is executed with, or that a row holds.
+/// A parameter of a statement, or a value of a row.
 ///
 /// Floats are compared by their bits. Cloning a nonempty string allocates; cloning anything else doesn't.
 ///
@@ -21,9 +21,9 @@ use std::fmt::Debug;
 /// ```
 #[derive(PartialEq, Drop)]
 pub enum Value {
-    /// No value.
+    /// SQL NULL.
     NULL,
-    /// Bytes: of a string, a blob, a decimal number, or any value of a text row.
+    /// The bytes of a string, a blob or a decimal number, or of any value of a text row.
     Bytes(Vec<u8>),
     /// A signed number.
     Int(i64),

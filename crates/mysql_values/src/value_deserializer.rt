@@ -23,7 +23,7 @@ pub struct TextValue;
 #[derive(Clone, Copy, Debug)]
 pub struct BinValue;
 
-/// A value that is read in the form `T`.
+/// A value that is read in the form `T`: [`TextValue`] or [`BinValue`].
 #[derive(Drop)]
 #[derive_where(Debug)]
 pub struct ValueDeserializer<T>(pub Value, PhantomData<T>);
@@ -46,7 +46,7 @@ impl<T> ValueDeserializer<T> {
     }
 }
 
-/// No value is the byte 0xfb; another is a length-encoded string, whatever its column's type.
+/// NULL is the byte `fb`; any other value is a length-encoded string, whatever its column's type.
 impl<'de> MyDeserialize<'de> for ValueDeserializer<TextValue> {
     const SIZE: Option<usize> = None;
 
@@ -75,7 +75,7 @@ impl<'de> MyDeserialize<'de> for ValueDeserializer<TextValue> {
 ghost use Rattle.mysql_values.specs.Value.{contents};
 ghost use Rattle.mysql_values.specs.ValueDeserializer.{reads_bytes, string_value, short_integer, long_integer, value_of_kind};
 
-/// The content of a length-encoded string, on memory of its own, which an empty one does not need.
+/// Reads a length-encoded string into memory of its own; an empty one takes none.
 #[tactic(auto, using(mysql_wire::proofs::Tails::tails))]
 #[inline(always)]
 pub(crate) fn read_string<'s>(buf: &mut ParseBuf<'_>) -> Result<Value, FaultOf<'s>>
@@ -90,7 +90,7 @@ pub(crate) fn read_string<'s>(buf: &mut ParseBuf<'_>) -> Result<Value, FaultOf<'
     Ok(Value::Bytes(bytes))
 }
 
-/// An integer of four bytes, with a sign unless the column has none.
+/// An integer of four bytes, signed unless the column is unsigned.
 #[tactic(auto, unfolding(mysql_wire::specs::Int::raw))]
 #[inline(always)]
 pub(crate) fn read_long<'s>(is_unsigned: bool, buf: &mut ParseBuf<'_>) -> Result<Value, FaultOf<'s>>
@@ -123,7 +123,7 @@ pub(crate) fn read_longlong<'s>(
     })
 }
 
-/// A value of the kind. A string of at least one byte alone takes memory.
+/// Reads a value of the kind. Only a nonempty string takes memory.
 #[inline(always)]
 pub(crate) fn read_kind<'s>(
     kind: ValueKind,
@@ -142,7 +142,7 @@ pub(crate) fn read_kind<'s>(
 
 /// A value in the form of its column's type: see `ProtocolBinary::ResultsetRow`.
 ///
-/// A type without values is `InvalidData`, as is a date or time of a length that the protocol doesn't have.
+/// A type without values and an invalid length of a date or time are `InvalidData`.
 impl<'de> MyDeserialize<'de> for ValueDeserializer<BinValue> {
     const SIZE: Option<usize> = None;
 
@@ -171,7 +171,7 @@ impl<'de> MyDeserialize<'de> for ValueDeserializer<BinValue> {
     ghost size_is = { λ _. refl };
 }
 
-/// No value has a constant size, neither in text nor in its binary form.
+/// Values have no constant size, neither in text nor in binary form.
 pub fn no_value_has_a_constant_size() -> (Option<usize>, Option<usize>)
     ensures { result ≡ record { 0 = None; 1 = None } }
 {

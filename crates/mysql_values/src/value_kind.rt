@@ -1,4 +1,4 @@
-//! The kinds of values that column types have.
+//! The kinds of values, by column type.
 
 ghost use Rattle.std.specs.Prelude.{◌≡◌};
 ghost use Rattle.mysql_values.specs.ValueKind.{kind_of, matches_type};
@@ -7,7 +7,7 @@ ghost use Rattle.mysql_values.specs.ValueRef.{ref_content};
 use crate::value_ref::ValueRef;
 use mysql_wire::ColumnType;
 
-/// The kind of values of a column type.
+/// The kind of a column type's values.
 #[derive(Clone, Copy, Debug, PartialEq, Eq)]
 pub enum ValueKind {
     /// Strings of bytes.
@@ -28,15 +28,15 @@ pub enum ValueKind {
     Date,
     /// Dates with a time of day.
     DateTime,
-    /// Spans of time.
+    /// Time spans.
     Time,
-    /// NULL alone.
+    /// Only NULL.
     Null,
-    /// No value has the type.
+    /// The type has no values.
     Unsupported,
 }
 
-/// The types whose values are strings, as a pattern: of a [`ColumnType`].
+/// A pattern of the [`ColumnType`]s whose values are strings.
 #[macro_export]
 macro_rules! string_type {
     () => {
@@ -87,7 +87,8 @@ impl ValueKind {
         }
     }
 
-    /// Whether a value is NULL, or of this kind, which is not one of integers. A date alone has no time of day.
+    /// Whether a value is NULL or of this kind, if the kind isn't one of integers. A value of the kind `Date`
+    /// has no time of day.
     #[inline(always)]
     pub fn matches_type(self, value: &ValueRef<'_>) -> bool
         ensures value { result ≡ matches_type self (ref_content value.now) }

@@ -1,4 +1,4 @@
-//! Values whose bytes stay where they are.
+//! Values whose bytes are borrowed.
 
 ghost use Rattle.std.specs.Prelude.{◌≡◌, IfOk, IfErr, IsTrue};
 
@@ -16,9 +16,9 @@ use std::alloc::{AllocError, Global};
 /// ```
 #[derive(Clone, Copy, PartialEq, Debug)]
 pub enum ValueRef<'a> {
-    /// No value.
+    /// SQL NULL.
     NULL,
-    /// Bytes: of a string, a blob, a decimal number, or any value of a text row.
+    /// The bytes of a string, a blob or a decimal number, or of any value of a text row.
     Bytes(&'a [u8]),
     /// A signed number.
     Int(i64),
@@ -67,7 +67,7 @@ impl ValueRef<'_> {
     ghost use Rattle.mysql_values.specs.Value.{content_of};
     ghost use Rattle.mysql_values.specs.ValueDeserializer.{has_bytes};
 
-    /// Copies the value to an owned one. Only nonempty bytes take memory.
+    /// Copies the value into an owned one. Only nonempty bytes take memory.
     pub fn to_value(&self, alloc: Global) -> Result<Value, AllocError>
         ensures value { IfOk result (λ value. content_of value ≡ ref_content self.now) }
         ensures memory { IfErr result (λ _. IsTrue (has_bytes (ref_content self.now))) }
@@ -108,7 +108,7 @@ impl Value {
     ghost use Rattle.mysql_values.specs.Value.{content_of};
     ghost use Rattle.mysql_values.specs.ValueRef.{ref_content};
 
-    /// The value with its bytes where they are.
+    /// Returns the value with borrowed bytes.
     #[inline]
     pub fn as_ref(&self) -> ValueRef<'_>
         ensures value { ref_content result ≡ content_of self.now }

@@ -23,7 +23,8 @@ fn string_ref<'s, 'de>(buf: &mut ParseBuf<'de>) -> Result<ValueRef<'de>, FaultOf
     Ok(ValueRef::Bytes(content.eat_all()))
 }
 
-/// Reads a value of a text row, which takes no memory: fb, or a length-encoded string. On an error the buffer is unchanged.
+/// Reads a value of a text row: the byte `fb`, or a length-encoded string. It takes no memory, and on an error
+/// the buffer is unchanged.
 ///
 /// ```
 /// read_text_ref(buf)
@@ -74,7 +75,7 @@ fn time_ref<'s, 'de>(buf: &mut ParseBuf<'de>) -> Result<ValueRef<'de>, FaultOf<'
     ))
 }
 
-/// An integer of fewer than eight bytes, of its two readings: with a sign unless the column has none.
+/// An integer of fewer than eight bytes, given both as unsigned and as signed: signed unless the column is unsigned.
 #[inline(always)]
 fn short_integer<'de>(is_unsigned: bool, unsigned: i64, signed: i64) -> ValueRef<'de>
     ensures unsigned { IsTrue is_unsigned → ref_content result ≡ Int unsigned }

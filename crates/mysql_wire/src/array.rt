@@ -1,4 +1,4 @@
-//! Byte strings whose length the type tells.
+//! Byte strings whose length is part of their type.
 
 ghost use Rattle.std.specs.Prelude.{false, ◌≡◌, ◌+◌, ◌++◌, ◌≤◌, length, drop};
 
@@ -48,7 +48,7 @@ impl<const N: usize> MySerialize for [u8; N] {
     }
 }
 
-/// Writes a few bytes one by one, which the compiler makes one or two stores of.
+/// Writes a few bytes one by one, which the compiler turns into one or two stores.
 #[inline(always)]
 #[tactic(auto, using(crate::proofs::After::after))]
 fn append_few<const N: usize, O: Buffer>(bytes: [u8; N], out: &mut O)

@@ -1,4 +1,4 @@
-//! A block of a given number of bytes, whose fields are read from it alone.
+//! A block of a given number of bytes: its fields are read from these bytes only.
 
 ghost use Rattle.std.specs.Prelude.{false, ◌≡◌, refl};
 ghost use Rattle.mysql_wire.specs.Form.{bytes};
@@ -7,7 +7,7 @@ use crate::buf::ParseBuf;
 use crate::fault::FaultOf;
 use crate::proto::{AnyWidth, MyDeserialize};
 
-/// A block of `n` bytes, for the context `n`: a buffer over just these bytes.
+/// A block of `n` bytes, where `n` is the context: a buffer over these bytes only.
 ///
 /// Fewer bytes are `UnexpectedEof`, before any field of the block is read.
 impl<'de> MyDeserialize<'de> for ParseBuf<'de> {

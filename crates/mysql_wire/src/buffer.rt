@@ -4,9 +4,10 @@ ghost use Rattle.std.specs.Prelude.{◌≡◌, ◌+◌, ◌++◌, ◌∷◌, [],
 
 use std::mem;
 
-/// A destination that values are appended to: a vector with reserved capacity, or a slice that is filled from the front.
+/// A destination that values are appended to: a vector with reserved capacity, or a slice that is filled from
+/// the front.
 ///
-/// Nothing of it takes memory.
+/// No method allocates.
 pub trait Buffer: Sized + Drop {
     ghost Kept: { Type 0 };
 
@@ -38,7 +39,7 @@ pub trait Buffer: Sized + Drop {
         ensures capacity { capacity self.old ≤ capacity self.new }
         ensures kept { kept self.new ≡ kept self.old };
 
-    /// Whether the buffer can hold no more bytes than memory has; it has no effect.
+    /// Does nothing; its contract says that the capacity is less than 2^63.
     fn is_in_memory(&self)
         ensures { capacity self.now < 2 ^ 63 };
 

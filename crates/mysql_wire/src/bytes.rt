@@ -61,7 +61,7 @@ pub trait BytesRepr {
 
 /// A byte string in the wire form `R`, borrowed or owned.
 ///
-/// Its value is its content alone: a borrowed and an owned string with the same bytes are equal and
+/// Only its content is its value: a borrowed and an owned string with the same bytes are equal and
 /// hash equally. Reading borrows the content from the packet and takes no memory. Writing cuts the
 /// content to what the form can hold, `len()` bytes.
 ///
@@ -89,7 +89,7 @@ impl<'a, R> Model for RawBytes<'a, R> {
 }
 
 impl<'a, R> RawBytes<'a, R> {
-    /// A byte string with that content.
+    /// Creates a byte string with this content.
     #[inline(always)]
     pub fn new(content: CowSlice<'a, u8>) -> Self
         ensures { result ≡ cow_slice_items content.entry }
@@ -113,7 +113,7 @@ impl<'a, R> RawBytes<'a, R> {
         self.as_bytes().to_str_lossy(alloc)
     }
 
-    /// The content, in the slice or the `Vec` that holds it.
+    /// Returns the content, in the slice or the `Vec` that holds it.
     #[inline(always)]
     pub fn into_inner(self) -> CowSlice<'a, u8>
         ensures value { cow_slice_items result ≡ self.entry }
@@ -122,10 +122,9 @@ impl<'a, R> RawBytes<'a, R> {
         content
     }
 
-    /// Copies the content, so that it borrows nothing.
+    /// Converts to an owned string, which borrows nothing.
     ///
-    /// Converts to an owned string. One that is already owned, or empty, takes no memory. If the allocation fails, the string
-    /// is dropped.
+    /// A string that is already owned, or empty, takes no memory. If the allocation fails, the string is dropped.
     pub fn into_owned(self, alloc: Global) -> Result<RawBytes<'static, R>, AllocError>
         ensures value { IfOk result (λ owned. owned ≡ self.entry) }
         ensures no_memory { self.entry ≡ [] → IsOk result }
@@ -225,7 +224,7 @@ impl<R> Hash for RawBytes<'_, R> {
     }
 }
 
-/// The content as text in quotes, where each byte that is no visible ASCII is escaped.
+/// Prints the content in quotes, with every byte that isn't visible ASCII escaped.
 impl<R> Debug for RawBytes<'_, R> {
     fn fmt<W: fmt::Write>(&self, f: &mut fmt::Formatter<W>) -> fmt::Result {
         write!(f, "\"{}\"", self.as_bytes().escape_ascii())

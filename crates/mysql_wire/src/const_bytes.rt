@@ -1,4 +1,4 @@
-//! Byte strings that have one value.
+//! Constant byte strings.
 
 ghost use Rattle.std.specs.Prelude.{false, ◌≡◌, length, List, ℕ};
 
@@ -17,20 +17,20 @@ pub trait ConstBytesValue<const LEN: usize> {
     /// The constant's bytes.
     const VALUE: [u8; LEN];
 
-    /// The marker whose text is the error for other bytes.
+    /// The marker with the error text for other bytes.
     type Error: ConstFault;
 
-    /// The value has that length.
+    /// The value has the length `LEN`.
     ghost len_is: { length VALUE ≡ LEN };
 }
 
-/// `LEN` bytes that have one value, that of `T`.
+/// A constant byte string: the `LEN` bytes of `T::VALUE`.
 ///
 /// Other bytes are `InvalidData` with the text of the marker `T::Error`.
 #[derive_where(Clone, Copy, PartialEq, Eq, Hash)]
 pub struct ConstBytes<T, const LEN: usize>(PhantomData<T>);
 
-/// The type's name, since all its values are the same.
+/// Prints the type's name, since all its values are the same.
 impl<T, const LEN: usize> Debug for ConstBytes<T, LEN> {
     fn fmt<W: fmt::Write>(&self, f: &mut fmt::Formatter<W>) -> fmt::Result {
         f.write_str("ConstBytes")

@@ -1,4 +1,4 @@
-//! Fields that have one value.
+//! Constant fields.
 
 ghost use Rattle.std.specs.Prelude.{false, [], ◌∷◌};
 
@@ -23,7 +23,7 @@ pub trait ConstFault {
 #[derive_where(Clone, Copy, PartialEq, Eq, Hash)]
 pub struct ConstU8<T, const VALUE: u8>(PhantomData<T>);
 
-/// The value.
+/// Prints the value.
 impl<T, const VALUE: u8> Debug for ConstU8<T, VALUE> {
     fn fmt<W: fmt::Write>(&self, f: &mut fmt::Formatter<W>) -> fmt::Result {
         VALUE.fmt(f)
@@ -31,7 +31,7 @@ impl<T, const VALUE: u8> Debug for ConstU8<T, VALUE> {
 }
 
 impl<T, const VALUE: u8> ConstU8<T, VALUE> {
-    /// The byte.
+    /// Creates the constant.
     #[inline(always)]
     pub fn new() -> Self {
         ConstU8(PhantomData)
@@ -83,13 +83,13 @@ impl<T, const VALUE: u8> MySerialize for ConstU8<T, VALUE> {
     }
 }
 
-/// A number of 32 bits that has one value, in four bytes, little-endian.
+/// A constant number of 32 bits, in four bytes, little-endian.
 ///
 /// Another number is `InvalidData` with the text of the marker `T`.
 #[derive_where(Clone, Copy, PartialEq, Eq, Hash)]
 pub struct ConstU32<T, const VALUE: u32>(PhantomData<T>);
 
-/// The value.
+/// Prints the value.
 impl<T, const VALUE: u32> Debug for ConstU32<T, VALUE> {
     fn fmt<W: fmt::Write>(&self, f: &mut fmt::Formatter<W>) -> fmt::Result {
         VALUE.fmt(f)
@@ -97,7 +97,7 @@ impl<T, const VALUE: u32> Debug for ConstU32<T, VALUE> {
 }
 
 impl<T, const VALUE: u32> ConstU32<T, VALUE> {
-    /// The number.
+    /// Creates the constant.
     #[inline(always)]
     pub fn new() -> Self {
         ConstU32(PhantomData)

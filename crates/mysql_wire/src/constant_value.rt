@@ -29,17 +29,18 @@ pub trait ConstValue<P>: Sized {
     fn from_code(number: P) -> Option<Self>
         ensures { result ≡ of_code number };
 
-    /// The integer of a value gives that value back.
+    /// Converting a value to its integer and back gives the same value.
     ghost read_back: { (value : Self) → of_code (code value) ≡ Some value };
 }
 
 /// A flag word or a code, encoded as the integer type `U`: `Const<StatusFlags, LeU16>`, `Const<ColumnType, u8>`.
 ///
-/// The value is field 0. An integer without a value is `InvalidData` with the text of `T`; missing bytes are `UnexpectedEof`.
+/// The value is field 0. An integer that is no value of `T` is `InvalidData` with the text of `T`; missing
+/// bytes are `UnexpectedEof`.
 #[derive_where(Clone, Copy, PartialEq, Eq, Hash, Default; T)]
 pub struct Const<T, U>(pub T, PhantomData<U>);
 
-/// The value.
+/// Prints the value.
 impl<T: Debug, U> Debug for Const<T, U> {
     fn fmt<W: fmt::Write>(&self, f: &mut fmt::Formatter<W>) -> fmt::Result {
         self.0.fmt(f)
@@ -47,7 +48,7 @@ impl<T: Debug, U> Debug for Const<T, U> {
 }
 
 impl<T, U> Const<T, U> {
-    /// The value, to be written in the form `U`.
+    /// Wraps a value, to be written in the form `U`.
     #[inline(always)]
     pub fn new(value: T) -> Self
         ensures { result.0 ≡ value }

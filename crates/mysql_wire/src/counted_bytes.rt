@@ -10,9 +10,9 @@ use crate::fault::FaultOf;
 use crate::int::{IntRepr, RawInt};
 use crate::little_endian::LeU32;
 
-/// The bytes after a count of one byte. Fewer bytes than the count: `UnexpectedEof`.
+/// A byte string after a count of one byte. Fewer bytes than the count are `UnexpectedEof`.
 ///
-/// The first 255 bytes of a content are written.
+/// At most the first 255 bytes are written.
 #[derive(Clone, Copy, Debug)]
 pub struct U8Bytes;
 
@@ -62,10 +62,9 @@ impl BytesRepr for U8Bytes {
     ghost size_is = { λ _. size-counted_bytes byte };
 }
 
-/// The bytes after a count of four bytes, little-endian. Fewer bytes than the count:
-/// `UnexpectedEof`.
+/// A byte string after a count of four bytes, little-endian. Fewer bytes than the count are `UnexpectedEof`.
 ///
-/// The first 4,294,967,295 bytes of a content are written.
+/// At most the first 4,294,967,295 bytes are written.
 #[derive(Clone, Copy, Debug)]
 pub struct U32Bytes;
 

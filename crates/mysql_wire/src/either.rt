@@ -3,7 +3,7 @@
 use crate::buffer::Buffer;
 use crate::proto::MySerialize;
 
-/// One of two values, written without a tag. It can't be read, since the bytes don't say which one they hold.
+/// One of two values, written without a tag. It can't be read, since the bytes don't say which of the two they hold.
 ///
 /// ```
 /// let request = BinlogRequest::new(server_id).with_use_gtid(use_gtid);

@@ -7,7 +7,7 @@ use crate::buffer::Buffer;
 use crate::bytes::BytesRepr;
 use crate::fault::FaultOf;
 
-/// All the bytes that are left (`string<EOF>`). A content is written whole.
+/// All remaining bytes (`string<EOF>`). The whole content is written.
 #[derive(Clone, Copy, Debug)]
 pub struct EofBytes;
 

@@ -17,7 +17,7 @@ pub trait IntRepr {
     /// The type of the number.
     type Primitive: Copy + Eq + Hash + Debug;
 
-    /// The bytes that each number takes, where that is a constant.
+    /// The number of bytes that each number takes, if that is constant.
     const SIZE: Option<usize>;
 
     ghost SIZE: { Option ℕ };
@@ -75,7 +75,7 @@ pub trait FixedInt: IntRepr {
 #[derive_where(Clone, PartialEq, Eq, Hash)]
 pub struct RawInt<R: IntRepr>(pub R::Primitive, PhantomData<R>);
 
-/// The number.
+/// Prints the number.
 impl<R: IntRepr> Debug for RawInt<R> {
     fn fmt<W: fmt::Write>(&self, f: &mut fmt::Formatter<W>) -> fmt::Result {
         self.0.fmt(f)
@@ -83,7 +83,7 @@ impl<R: IntRepr> Debug for RawInt<R> {
 }
 
 impl<R: IntRepr> RawInt<R> {
-    /// The number, to be written in the form `R`.
+    /// Wraps a number, to be written in the form `R`.
     #[inline(always)]
     pub fn new(value: R::Primitive) -> Self
         ensures { result.0 ≡ value }
@@ -95,7 +95,7 @@ impl<R: IntRepr> RawInt<R> {
 impl<R: FixedInt> RawInt<R> {
     ghost use Rattle.mysql_wire.specs.Int.{raw};
 
-    /// Takes the integer off the front, where its bytes are there.
+    /// Takes the integer off the front. Its bytes must remain in the buffer.
     #[inline(always)]
     #[tactic(auto, unfolding(crate::specs::Int::raw))]
     pub fn take(buf: &mut ParseBuf<'_>) -> Self

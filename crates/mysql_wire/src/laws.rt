@@ -39,13 +39,13 @@ pub use lists::{
     count_round_trips, list_round_trips, values_to_the_end_round_trips, varlen_round_trips,
 };
 
-/// Bytes are spellings of at most one value of a type, with one rest.
+/// Bytes spell at most one value of a type, with one rest.
 pub fn at_most_one_value<'de, T: MyDeserialize<'de>>()
     ensures value { (ctx : T.Ctx) (v w : T) (bytes rest more : List ℕ) → (T.form ctx).Spells v bytes rest → (T.form ctx).Spells w bytes more → v ≡ w }
     ensures rest { (ctx : T.Ctx) (v w : T) (bytes rest more : List ℕ) → (T.form ctx).Spells v bytes rest → (T.form ctx).Spells w bytes more → rest ≡ more }
 {}
 
-/// Reading takes bytes from the front, and leaves the rest unchanged.
+/// A reader takes bytes from the front, and leaves the rest unchanged.
 pub fn reading_takes_a_front<'de, T: MyDeserialize<'de>>()
     ensures { (ctx : T.Ctx) (v : T) (bytes rest : List ℕ) → (T.form ctx).Spells v bytes rest → IsTail rest bytes }
 {}
@@ -61,7 +61,7 @@ pub fn reading_is_spelling<'de, T: MyDeserialize<'de>>()
     ensures spelled { (ctx : T.Ctx) (v : T) (bytes rest : List ℕ) → (T.form ctx).reads bytes ≡ Ok (v, rest) → (T.form ctx).Spells v bytes rest }
 {}
 
-/// A number that fits its width is read again, whatever bytes follow.
+/// A number that fits its width is read back, whatever bytes follow.
 #[tactic(auto, using(crate::specs::Spelling::numbers_again))]
 pub fn number_round_trips()
     ensures one_byte { (n : ℕ) → n < 2 ^ 8 → IsSpelling byte (raw_int n) (le_bytes 1 n) }
@@ -71,13 +71,13 @@ pub fn number_round_trips()
     ensures eight_bytes { (n : ℕ) → n < 2 ^ 64 → IsSpelling le_u64 (raw_int n) (le_bytes 8 n) }
 {}
 
-/// A length-encoded number of up to 64 bits is read again, whatever bytes follow.
+/// A length-encoded number of up to 64 bits is read back, whatever bytes follow.
 #[tactic(auto, using(crate::specs::Again::lenenc_round_trips))]
 pub fn lenenc_round_trips()
     ensures { (n : ℕ) → n < 2 ^ 64 → IsSpelling lenenc n (lenenc_bytes n) }
 {}
 
-/// A length-encoded byte string is read again, whatever bytes follow.
+/// A length-encoded byte string is read back, whatever bytes follow.
 #[tactic(auto, using(crate::specs::Again::lenenc_round_trips))]
 pub fn lenenc_string_round_trips()
     ensures { (content : List ℕ) → length content < 2 ^ 64 → IsSpelling lenenc_string content (lenenc_string_bytes content) }

@@ -11,9 +11,9 @@ use crate::little_endian::{LeU16, LeU24, LeU64};
 
 /// The length-encoded form, of integers (`int<lenenc>`) and of byte strings (`string<lenenc>`).
 ///
-/// An integer is one byte up to `fa`; or `fc`, `fd` or `fe` and a number of 2, 3 or 8 bytes after
-/// it, little-endian. A longer spelling than needed is read too; `fb` and `ff` are
-/// `InvalidData`. The shortest spelling is written.
+/// An integer is one byte up to `fa`; or `fc`, `fd` or `fe` and a number of 2, 3 or 8 bytes after it,
+/// little-endian. A longer spelling than needed is read too; `fb` and `ff` are `InvalidData`. The shortest
+/// spelling is written.
 ///
 /// A byte string is the length-encoded length of its content, and then the content.
 ///

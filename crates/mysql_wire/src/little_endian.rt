@@ -1,7 +1,7 @@
 //! Integers of fixed widths, little-endian.
 //!
-//! Their bytes are pushed to capacity that is proved to be there (`push_byte`), so the buffer's capacity is not tested for
-//! each field of a packet, and the compiler makes one store of the bytes.
+//! Their bytes are pushed to capacity that is proved to be there (`push_byte`), so the buffer's capacity is not
+//! tested for each field of a packet, and the compiler merges the bytes into one store.
 
 ghost use Rattle.std.specs.Prelude.{Some, Ok, ◌≡◌, ◌+◌, ◌≤◌, length};
 ghost use Rattle.mysql_wire.specs.Writing.{le_bytes};
@@ -116,7 +116,7 @@ impl FixedInt for LeU32 {
 
 /// A number of 24 bits, held in a `u32`: three bytes, little-endian (`int<3>`).
 ///
-/// Of a larger number the low 24 bits are written.
+/// Only the low 24 bits of a larger number are written.
 #[derive(Clone, Copy, Debug)]
 pub struct LeU24;
 

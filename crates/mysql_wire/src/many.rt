@@ -35,8 +35,7 @@ pub fn read_all<'s, 'a, T: MyDeserialize<'a, Ctx = ()> + Drop>(
     Ok(items)
 }
 
-/// Takes the capacity that is wanted before the first push. The compiler puts it where it is called, and the push after it
-/// seldom grows.
+/// Reserves the wanted capacity before the first push. The compiler inlines it, and the push after it seldom grows.
 #[inline(always)]
 pub(crate) fn take_first_capacity<T>(items: &mut Vec<T>, capacity: usize) -> Result<(), AllocError>
     ensures items { items.new.items ≡ items.old.items }

@@ -9,7 +9,7 @@ use crate::bytes::BytesRepr;
 use crate::fault::FaultOf;
 use memchr::memchr;
 
-/// The bytes up to a zero (`string<NUL>`), which is eaten. Without a zero: `UnexpectedEof`.
+/// The bytes up to a zero (`string<NUL>`), which is taken too. Bytes without a zero are `UnexpectedEof`.
 ///
 /// A content is written up to its first zero, and then a zero.
 ///
@@ -72,7 +72,7 @@ impl BytesRepr for NullBytes {
     ghost size_is = { λ _. size-null_string };
 }
 
-/// Whether some byte is a zero. For short texts, as names and versions are, it takes fewer instructions than `memchr`.
+/// Whether some byte is a zero. For short texts, such as names and versions, it takes fewer instructions than `memchr`.
 fn has_zero(bytes: &[u8]) -> bool
     ensures none { result ≡ false → HasNoZero bytes.now }
 {
@@ -85,7 +85,7 @@ fn has_zero(bytes: &[u8]) -> bool
     after_chunks::<1>(rest).is_none()
 }
 
-/// The bytes after all chunks of `N` at the front, or `None` where some chunk has a zero.
+/// The bytes after all chunks of `N` at the front, or `None` if a chunk has a zero.
 #[inline(always)]
 fn after_chunks<const N: usize>(bytes: &[u8]) -> Option<&[u8]>
     requires some { 0 < N }

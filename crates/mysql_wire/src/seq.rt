@@ -152,14 +152,14 @@ impl<'a, T, L> Model for Seq<'a, T, L> {
 }
 
 impl<'a, T, L> Seq<'a, T, L> {
-    /// The list of these values, which it owns.
+    /// Creates a list that owns these values.
     pub fn owned(values: Vec<T>) -> Self
         ensures value { result ≡ values.items }
     {
         Seq(CowSlice::Owned(values), PhantomData)
     }
 
-    /// The list of these values, which stay where they are.
+    /// Creates a list that borrows these values.
     pub fn borrowed(values: &'a [T]) -> Self
         ensures value { result ≡ values.now }
     {
@@ -200,7 +200,7 @@ impl<'a, T, L> Seq<'a, T, L> {
 
     /// Clones the list: borrowed values stay borrowed, and owned ones are cloned. An empty list takes no memory.
     ///
-    /// The caller knows that clones of the values equal them.
+    /// Requires that a clone of a value equals it.
     pub fn clone(&self) -> Result<Seq<'a, T, L>, AllocError>
     where
         T: Clone,
@@ -214,9 +214,10 @@ impl<'a, T, L> Seq<'a, T, L> {
         Ok(Seq(self.0.clone()?, PhantomData))
     }
 
-    /// Puts a value at the end. Borrowed values are cloned first.
+    /// Appends a value. Borrowed values are cloned first.
     ///
-    /// Requires that a clone of a value equals it. If the allocation fails, the list is unchanged and the value is dropped.
+    /// Requires that a clone of a value equals it. If the allocation fails, the list is unchanged and the value
+    /// is dropped.
     pub fn push(&mut self, alloc: Global, value: T) -> Result<(), AllocError>
     where
         T: Clone + Drop,
@@ -239,7 +240,7 @@ impl<'a, T, L> Seq<'a, T, L> {
 impl<T, L> Default for Seq<'_, T, L> {
     ghost is_default = { λ s. s ≡ [] };
 
-    /// The list of no value.
+    /// Creates an empty list.
     fn default() -> Self {
         Seq::borrowed(&[])
     }

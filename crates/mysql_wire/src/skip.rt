@@ -14,7 +14,7 @@ use crate::proto::{Fixed, MyDeserialize, MySerialize};
 pub struct Skip<const N: usize>;
 
 impl<const N: usize> Skip<N> {
-    /// Skips the next `N` bytes, which are there.
+    /// Skips the next `N` bytes, which must remain in the buffer.
     #[inline(always)]
     #[tactic(auto, using(crate::proofs::Arrays::arrays), unfolding(crate::specs::Skip::skip))]
     pub fn take(buf: &mut ParseBuf<'_>) -> Self

@@ -1,4 +1,4 @@
-//! A slice that is written from its front on.
+//! A slice that is written from its front.
 
 ghost use Rattle.std.specs.Prelude.{◌≡◌, ◌+◌, ◌++◌, ◌∷◌, [], ◌≤◌, length, take, drop, List, ℕ};
 
@@ -14,7 +14,7 @@ pub(crate) struct SliceWriter<'a> {
 }
 
 impl<'a> SliceWriter<'a> {
-    /// Nothing is written yet.
+    /// Creates a writer over a slice; nothing is written yet.
     #[inline(always)]
     pub(crate) fn new(out: &'a mut [u8]) -> Self
         ensures same_reference { result.out.ghost_name ≡ out.entry.ghost_name }

@@ -13,8 +13,9 @@ use crate::little_endian::LeU64;
 use crate::proto::MySerialize;
 use std::alloc::AllocError;
 
-/// A number of variable length: the low one bits of the first byte count the bytes that follow, and the number's low bits are
-/// above them, after a zero bit. The byte `ff` is followed by a number of eight bytes, little-endian.
+/// A number of variable length: the first byte's trailing one bits count the bytes that follow; the number's
+/// low bits are above them, after a zero bit. The byte `ff` is followed by a number of eight bytes,
+/// little-endian.
 ///
 /// A byte string is the length of its content in this form, and then the content.
 #[derive(Clone, Copy, Debug)]
@@ -105,7 +106,7 @@ fn above_ones(value: u64, size: usize) -> u64
     (value << size) + ((1 << (size - 1)) - 1)
 }
 
-/// Reads a number of varying length. A longer spelling than its shortest is read too.
+/// Reads a number of variable length. A spelling that is longer than the shortest is read too.
 ///
 /// Missing bytes are `UnexpectedEof`, and the buffer is then unchanged.
 #[tactic(auto, using(crate::proofs::Varlens::reading))]
@@ -131,10 +132,11 @@ pub fn read_varlen_uint<'s>(buf: &mut ParseBuf<'_>) -> Result<u64, FaultOf<'s>>
     Ok(u64::from_le_bytes(bytes) >> size)
 }
 
-/// Writes a number in the fewest bytes with seven bits each, at most eight of them; a greater one as `ff` and eight bytes. It
-/// reserves at most once.
+/// Appends a number in the fewest bytes, each of which adds seven bits; a number that doesn't fit in eight such
+/// bytes is written as `ff` and eight bytes. It reserves at most once.
 ///
-/// If that allocation fails, the buffer is unchanged. It takes no memory, and can't fail, if the buffer has enough capacity.
+/// If that allocation fails, the buffer is unchanged. It takes no memory, and can't fail, if the buffer has
+/// enough capacity.
 pub fn write_varlen_uint(out: &mut Vec<u8>, value: u64) -> Result<(), AllocError>
     ensures ok { OnOk result (out.new.items ≡ out.old.items ++ varlen_bytes value) }
     ensures err { OnErr result (out.new.items ≡ out.old.items) }

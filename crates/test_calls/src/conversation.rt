@@ -9,8 +9,8 @@
 use crate::packets::Watched;
 use mysql_packets::constants::{CapabilityFlags, Flags, MariadbCapabilities};
 use mysql_packets::conversation::{
-    Conversation, InitialPhase, PacketKind, PacketKindTag, Pipeline, Session, SessionError, Side,
-    UnexpectedPacket, agreed_on,
+    Conversation, InitialPhase, PacketKind, PacketKindTag, Pipeline, PipelineState, Session,
+    SessionError, Side, UnexpectedPacket, agreed_on,
 };
 use mysql_packets::frames::{FrameError, FrameReader};
 use mysql_packets::packets::SessionCapabilities;
@@ -82,6 +82,58 @@ impl Tracker for Conversation {
 
     fn may_receive(&self, from: Side, name: PacketKindTag) -> bool {
         Conversation::may_receive(self, from, name)
+    }
+}
+
+/// A conversation in which eight commands may wait, in plain numbers.
+#[derive(Drop)]
+struct Numbers {
+    alloc: Global,
+    agreed: SessionCapabilities,
+    state: PipelineState,
+}
+
+impl Numbers {
+    /// What a packet is. A row leaves the numbers as they are: otherwise it is an error that no conversation returns.
+    fn next(&mut self, from: Side, payload: &[u8]) -> Result<(PacketKind, u64), SessionError> {
+        let before = self.state;
+        let row = match from {
+            Side::Client => None,
+            Side::Server => self.state.row(self.agreed, payload),
+        };
+        let taken = self.state.next(self.alloc, self.agreed, from, payload);
+        let is_row = row.is_none_or(|row| taken == Ok(row) && self.state == before);
+        if is_row && self.state.is_valid() {
+            taken
+        } else {
+            Err(SessionError::Encrypted)
+        }
+    }
+}
+
+/// A pipeline in which eight commands may wait, and the same in plain numbers, which must agree.
+#[derive(Drop)]
+struct Both {
+    pipeline: Pipeline,
+    numbers: Numbers,
+}
+
+impl Tracker for Both {
+    fn next(&mut self, from: Side, payload: &[u8]) -> Result<(PacketKind, u64), SessionError> {
+        let taken = self.pipeline.next(from, payload);
+        if self.pipeline.limit() != 8 || taken == Err(SessionError::Memory) {
+            return taken;
+        }
+        let is_same = self.numbers.next(from, payload) == taken;
+        if is_same && self.numbers.state.is_idle() == self.pipeline.is_idle() {
+            taken
+        } else {
+            Err(SessionError::Encrypted)
+        }
+    }
+
+    fn may_receive(&self, from: Side, name: PacketKindTag) -> bool {
+        self.pipeline.may_receive(from, name)
     }
 }
 
@@ -288,25 +340,35 @@ fn opening_by(request: &Request<'_>) -> InitialPhase {
     }
 }
 
-/// A conversation of frames, in which commands may come early.
-pub fn conversation(out: &mut Out, request: &Request<'_>) {
-    let limit = request.number(2) as usize;
-    let mut pipeline = Pipeline::new(
-        request.alloc,
-        agreed_by(request, 3),
-        opening_by(request),
-        limit,
-    );
-    take_all(out, request, &mut pipeline, 5);
-    out.show("at_rest", pipeline.is_idle());
-    out.show("waiting", pipeline.waiting());
-    show_other_limit(out, limit, pipeline.limit());
+/// A conversation before its first packet, in plain numbers.
+fn numbers_of(request: &Request<'_>, agreed: SessionCapabilities) -> Numbers {
+    Numbers {
+        alloc: request.alloc,
+        agreed,
+        state: PipelineState::new(opening_by(request)),
+    }
 }
 
-/// A conversation of payloads, in which none may. After each packet it goes on from its state in plain numbers.
+/// A conversation of frames, in which commands may come early. Where eight may wait, it is also taken in plain numbers.
+pub fn conversation(out: &mut Out, request: &Request<'_>) {
+    let limit = request.number(2) as usize;
+    let agreed = agreed_by(request, 3);
+    let opening = opening_by(request);
+    let mut both = Both {
+        pipeline: Pipeline::new(request.alloc, agreed, opening, limit),
+        numbers: numbers_of(request, agreed),
+    };
+    take_all(out, request, &mut both, 5);
+    out.show("at_rest", both.pipeline.is_idle());
+    out.show("waiting", both.pipeline.waiting());
+    show_other_limit(out, limit, both.pipeline.limit());
+}
+
+/// A conversation of payloads, in which none may. It is also taken in plain numbers.
 pub fn payloads(out: &mut Out, request: &Request<'_>) {
     let agreed = agreed_by(request, 2);
     let mut conversation = Conversation::new(request.alloc, agreed, opening_by(request));
+    let mut numbers = numbers_of(request, agreed);
     for word in request.line.split(' ').skip(4) {
         if word == "may_receive" {
             break;
@@ -314,17 +376,12 @@ pub fn payloads(out: &mut Out, request: &Request<'_>) {
         let Some((side, payload)) = piece_of(request.alloc, word) else {
             return out.word("bad");
         };
-        let state = conversation.state();
-        let row = match side {
-            Side::Client => None,
-            Side::Server => state.row(agreed, payload.as_slice()),
-        };
         match conversation.next(side, payload.as_slice()) {
             Ok(kind) => {
                 show_kind(out, side, kind);
-                // (a row leaves the state as it is)
-                if row.is_some_and(|row| row != kind || conversation.state() != state) {
-                    out.word("row");
+                let by_numbers = numbers.next(side, payload.as_slice());
+                if by_numbers != Ok((kind, numbers.state.number)) {
+                    out.word("numbers");
                 }
             }
             Err(UnexpectedPacket) => {
@@ -332,16 +389,14 @@ pub fn payloads(out: &mut Out, request: &Request<'_>) {
                 out.push("refused:Unexpected");
             }
         }
-        let state = conversation.state();
-        match Conversation::from_state(request.alloc, agreed, &state) {
-            Some(again) => conversation = again,
-            None => return out.word("no_state"),
-        }
     }
     if request.line.ends_with(" may_receive") {
         show_expected(out, &conversation);
     }
     out.show("at_rest", conversation.is_idle());
+    if numbers.state.is_idle() != conversation.is_idle() {
+        out.word("numbers");
+    }
 }
 
 /// The flags that both have, of those of a server and those of a client.

@@ -142,12 +142,8 @@ fn show_server(out: &mut Out, observer: &Observer, packet: &ObservedPacket, payl
     }
 }
 
-/// Adds what a packet of the client holds.
-fn show_client(out: &mut Out, observer: &Observer, packet: &ObservedPacket, payload: &[u8]) {
-    let read: Result<ClientRecord<'_, '_>, FaultOf<'_>> = observer.client_packet(
-        packet.kind,
-        payload,
-    );
+/// Adds the statement and the parameters of an execution.
+fn show_record(out: &mut Out, read: Result<ClientRecord<'_, '_>, FaultOf<'_>>) {
     match read {
         Ok(ClientRecord::Execution(head, view)) => {
             out.push(":");
@@ -158,6 +154,27 @@ fn show_client(out: &mut Out, observer: &Observer, packet: &ObservedPacket, payl
         Ok(ClientRecord::Packet(_other)) => {}
         Err(_) => out.push(":fault"),
     }
+}
+
+/// Adds what a packet of the client holds.
+fn show_client(out: &mut Out, observer: &Observer, packet: &ObservedPacket, payload: &[u8]) {
+    let read: Result<ClientRecord<'_, '_>, FaultOf<'_>> = observer.client_packet(
+        packet.kind,
+        payload,
+    );
+    show_record(out, read);
+}
+
+/// Adds the pipelined execution that the server has reached.
+fn show_reached(out: &mut Out, observer: &Observer) {
+    let Some(execution) = observer.reached_execution() else {
+        return;
+    };
+    out.push(":reached");
+    let read: Result<ClientRecord<'_, '_>, FaultOf<'_>> = observer.reached_packet(
+        execution.payload(),
+    );
+    show_record(out, read);
 }
 
 /// Adds a packet, and whether it came. A call that memory is refused for is made again.
@@ -172,7 +189,10 @@ fn take(out: &mut Out, observer: &mut Observer, side: Side, payload: &[u8]) -> b
                 out.push("#");
                 out.display(&packet.exchange);
                 match side {
-                    Side::Server => show_server(out, observer, &packet, payload),
+                    Side::Server => {
+                        show_server(out, observer, &packet, payload);
+                        show_reached(out, observer);
+                    }
                     Side::Client => show_client(out, observer, &packet, payload),
                 }
                 return true;

@@ -6,6 +6,7 @@ pub use crate::values::{
 };
 pub use mysql_bulk::*;
 pub use mysql_commands::*;
+pub use mysql_cuts::{BulkRule, cut_is_fewest};
 pub use mysql_replies::{Column, ColumnRef};
 pub use mysql_stmt::*;
 pub use mysql_values::*;

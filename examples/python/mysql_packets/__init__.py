@@ -6,14 +6,15 @@
     payload = session.write_login(greeting, "user", "password", database="test")
 
 A `Session` keeps what both sides agreed on, and gives records; `Library` has each call of mysql_packets.h as it is. Neither opens a socket."""
-from .errors import (BufferTooSmall, Compressed, InvalidData, InvalidInput, InvalidValue, OutOfRange, PacketError, RowTooLarge, TooLarge, UnexpectedEof)
+from .errors import (BufferTooSmall, Compressed, InvalidData, InvalidInput, InvalidValue, OutOfRange, PacketError, RowTooLarge, TooLarge, TooManyCommands,
+                     UnexpectedEof)
 from .library import Library
-from .records import Change, Column, Command, Execution, Handshake, Login, OkPacket, Packet, Row, ServerError, Statement, Value
+from .records import BulkValue, Cell, Change, Column, Command, Execution, Handshake, Login, OkPacket, Packet, Row, ServerError, Statement, Value
 from .rows import RowReader
 from .session import Session
 
 __all__ = [
-    "BufferTooSmall", "Change", "Column", "Command", "Compressed", "Execution", "Handshake", "InvalidData", "InvalidInput", "InvalidValue",
+    "BufferTooSmall", "BulkValue", "Cell", "Change", "Column", "Command", "Compressed", "Execution", "Handshake", "InvalidData", "InvalidInput", "InvalidValue",
     "Library", "Login", "OkPacket", "OutOfRange", "Packet", "PacketError", "Row", "RowReader", "RowTooLarge", "ServerError", "Session",
-    "Statement", "TooLarge", "UnexpectedEof", "Value",
+    "Statement", "TooLarge", "TooManyCommands", "UnexpectedEof", "Value",
 ]

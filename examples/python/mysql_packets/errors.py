@@ -46,6 +46,10 @@ class Compressed(PacketError):
     text = "both sides agreed on compression"
 
 
+class TooManyCommands(PacketError):
+    text = "too many pipelined commands"
+
+
 class InvalidValue(ValueError):
     """A value that can't be sent: nothing was written. `column` is its place in its row or among the parameters and `row` the place of its row,
     both counted from 0; None where there is none."""
@@ -65,4 +69,5 @@ NAMES: Dict[str, Type[PacketError]] = {
     "MYP_ERROR_ROW_TOO_LARGE": RowTooLarge,
     "MYP_ERROR_OUT_OF_RANGE": OutOfRange,
     "MYP_ERROR_COMPRESSED": Compressed,
+    "MYP_ERROR_TOO_MANY_COMMANDS": TooManyCommands,
 }

@@ -197,11 +197,21 @@ class Library:
         it.held = packed
         return it
 
-    def parameters(self, values: Sequence[Sent]) -> Any:
-        """Converted values as an array of `myp_parameter`, each of the type of its kind."""
+    def parameters(self, values: Sequence[Sent], types: Sequence[Optional[str]] = (), names: Sequence[Content] = ()) -> Any:
+        """Converted values as an array of `myp_parameter`: each of the type of its kind, or of one that is named."""
         packed = self.packed(values)
-        it = self.array("myp_parameter", [self.types["myp_parameter"](value=value) for value in packed[: len(values)]])
-        it.held_values = packed
+        parameters = [self.types["myp_parameter"](value=value) for value in packed[: len(values)]]
+        for place, (it, named) in enumerate(zip(parameters, types)):
+            if named is not None:
+                name, _, sign = named.partition(" ")
+                if f"MYP_TYPE_{name}" not in self.numbers or sign not in ("", "UNSIGNED"):
+                    raise InvalidValue(f"{named}, which is no type", place)
+                it.has_type, it.column_type, it.is_unsigned = 1, self.numbers[f"MYP_TYPE_{name}"], int(bool(sign))
+        held = [self.bytes(it) for it in names]
+        for it, of in zip(parameters, held):
+            it.name = of
+        it = self.array("myp_parameter", parameters)
+        it.held_values = packed, held
         return it
 
     def value(self, value: Value) -> Any:

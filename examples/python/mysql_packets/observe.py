@@ -1,8 +1,8 @@
 """An observed connection: the bytes of both sides as they pass by, and the packets in them."""
-from typing import TYPE_CHECKING, Any, Callable, Dict, Iterator, List, Optional, Set, Tuple
+from typing import TYPE_CHECKING, Any, Callable, Dict, Iterator, List, Optional, Set
 
 from .errors import PacketError
-from .records import Column, Command, Execution, Login, Packet, Record, Statement, Value
+from .records import Column, Command, Execution, Packet, ParamType, Record, Statement
 from .rows import RowReader
 
 if TYPE_CHECKING:
@@ -16,7 +16,7 @@ class Prepared:
 
     def __init__(self, params: int):
         self.columns: List[Column] = []
-        self.types: List[Any] = [None] * params
+        self.types: List[ParamType] = [None] * params
         self.ahead: Set[int] = set()
 
 
@@ -31,6 +31,9 @@ class Observer:
         self.front = {side: b"" for side in SIDES}  # of a payload that goes on in the next frame
         self.kinds = {number: name[len("MYP_PACKET_"):].lower() for name, number in self.p.numbers.items() if name.startswith("MYP_PACKET_")}
         self.statements: Dict[int, Prepared] = {}
+        self.begun: Dict[int, Prepared] = {}  # by the number of an exchange: the statement that its command executes
+        self.cleared = 0  # the exchange whose command removes all statements
+        self.exchange = 0  # that of the server's last packet
         self.executed: Optional[Prepared] = None
         self.columns: List[Column] = []
         self.skipped = 0  # definitions of parameters that come before those of columns
@@ -58,14 +61,21 @@ class Observer:
     def _next(self, side: str, payload: bytes) -> Packet:
         given = self.p.bytes(payload)
         self._check("myp_next_packet", self.p.refer(self.state), SIDES.index(side), given.data, given.len, self.p.refer(self.packet))
-        kind = self.kinds[self.packet.kind]
+        kind, exchange = self.kinds[self.packet.kind], self.packet.exchange
+        if side == "server" and exchange != self.exchange:
+            self._reach(exchange)
         if kind == "login":
             self.session.capabilities, self.session.mariadb_capabilities = self.state.capabilities, self.state.mariadb_capabilities
         read: Optional[Callable[[bytes], Record]] = getattr(self, f"_{kind}", None)
         try:
-            return Packet(side, kind, payload, read(payload) if read else None)
+            return Packet(side, kind, payload, read(payload) if read else None, exchange)
         except PacketError:
-            return Packet(side, kind, payload, None)
+            return Packet(side, kind, payload, None, exchange)
+
+    def _reach(self, exchange: int) -> None:
+        """The server responds to the next command, which may have come long before: its rows have the columns of its statement."""
+        self.exchange, self.executed, self.reader = exchange, self.begun.pop(exchange, None), None
+        self.columns = self.executed.columns if self.executed else []
 
     # ---- the login
 
@@ -73,17 +83,12 @@ class Observer:
         return self.session.read_handshake(payload)
 
     def _login(self, payload: bytes) -> Record:
-        p, it = self.p, self.p.read("myp_read_login", payload, into="myp_login")
-        attributes, name, value = [], p.bytes(b""), p.bytes(b"")
-        while p.next("myp_next_connection_attribute", it.attributes, name, value):
-            attributes.append((self.session._text(name), self.session._text(value)))
-        return Login(self.session._text(it.user), self.session._text(it.database), self.session._text(it.auth_plugin_name),
-                     it.capabilities, it.mariadb_capabilities, it.collation, tuple(attributes))
+        return self.session.read_login(payload)
 
     # ---- commands
 
     def _command(self, payload: bytes) -> Record:
-        p, self.executed = self.p, None
+        p = self.p
         if self.packet.command == p.MYP_COM_STMT_EXECUTE:
             return self._execution(payload)
         if self.packet.command == p.MYP_COM_STMT_SEND_LONG_DATA:
@@ -96,11 +101,11 @@ class Observer:
             self.statements.pop(it.number, None)
         elif it.code in (p.MYP_COM_RESET_CONNECTION, p.MYP_COM_CHANGE_USER):
             self.statements.clear()
+            self.cleared = self.packet.exchange
         elif it.code in (p.MYP_COM_STMT_FETCH, p.MYP_COM_STMT_RESET) and it.number in self.statements:
-            self.executed = self.statements[it.number]
-            self.columns, self.reader = self.executed.columns, None
+            known = self.begun[self.packet.exchange] = self.statements[it.number]
             if it.code == p.MYP_COM_STMT_RESET:
-                self.executed.ahead.clear()
+                known.ahead.clear()
         return Command(it.code, self.session._text(it.text), it.number)
 
     def _execution(self, payload: bytes) -> Record:
@@ -109,25 +114,10 @@ class Observer:
         known = self.statements.get(number)
         if known is None:
             return Execution(number, None, ())
-        self.executed, self.columns, self.reader = known, known.columns, None
-        count = len(known.types)
-        bound = [p.types["myp_bound_param"](*(it or (0, 0)), int(at in known.ahead)) for at, it in enumerate(known.types)]
-        params = p.array("myp_bound_param", bound), count
-        values = p.array("myp_value", [p.new("myp_value") for _ in range(count)])
-        types, out, given = p.array("myp_column_type", [p.types["myp_column_type"]() for _ in range(count)]), p.new("myp_execution"), p.bytes(payload)
-        known.ahead.clear()
-        agreed = given.data, given.len, self.session.capabilities
-        self._check("myp_read_execution", *agreed, *params, values, count, types, count, p.refer(out))
-        if not out.sends_types and None in known.types:
-            return Execution(number, None, ())
-        if out.sends_types:
-            known.types = [(it.column_type, it.is_unsigned) for it in types[:count]]
-        attributes: List[Tuple[str, Value]] = []
-        for place in range(out.attributes):
-            attribute = p.new("myp_parameter")
-            self._check("myp_read_execution_attribute", *agreed, *params, place, p.refer(attribute))
-            attributes.append((self.session._text(attribute.name), p.content(attribute.value)))
-        return Execution(number, tuple(p.content(it) for it in values[:count]), tuple(attributes))
+        self.begun[self.packet.exchange] = known
+        ahead, known.ahead = known.ahead, set()
+        execution, known.types = self.session.read_execution(payload, known.types, ahead)
+        return execution
 
     # ---- replies
 
@@ -162,7 +152,9 @@ class Observer:
 
     def _prepare_ok(self, payload: bytes) -> Record:
         it: Statement = self.session.read_statement(payload)
-        known = self.statements[it.statement_id] = Prepared(it.params)
+        known = Prepared(it.params)
+        if self.packet.exchange > self.cleared:
+            self.statements[it.statement_id] = known
         self._defines(it.params, known.columns)
         return it
 

@@ -1,8 +1,17 @@
 """What packets say, as tuples with names."""
 import datetime
 import decimal
+import enum
 import uuid
 from typing import NamedTuple, Optional, Tuple, Union
+
+
+class Cell(enum.Enum):
+    """What stands for a value in a row of a bulk request: the default of its column, or that the column is left unchanged."""
+
+    DEFAULT = "DEFAULT"
+    IGNORE = "IGNORE"
+
 
 # A value: None, a byte string, a number, a date with its time of day, or a span of time. A date that does not exist, as of the year 0, is a text.
 # Those below are only sent: a UUID as its text, a time of day as a span of time since midnight.
@@ -11,6 +20,10 @@ Value = Union[
     bytearray, memoryview, datetime.date, datetime.time, decimal.Decimal, uuid.UUID,
 ]
 Row = Tuple[Value, ...]
+# The type of a parameter: a number of enum myp_type, and whether it is unsigned; None if it isn't known.
+ParamType = Optional[Tuple[int, int]]
+# A value of a row of a bulk request.
+BulkValue = Union[Value, Cell]
 
 
 class Handshake(NamedTuple):
@@ -90,6 +103,7 @@ class Login(NamedTuple):
     mariadb_capabilities: int
     collation: int
     attributes: Tuple[Tuple[str, str], ...]
+    auth_response: bytes
 
 
 class Command(NamedTuple):
@@ -115,9 +129,10 @@ Record = Union[None, int, str, Row, Handshake, Login, Command, Execution, OkPack
 
 class Packet(NamedTuple):
     """A packet of an observed connection. `kind` is a name of enum myp_packet_kind in lower case, without its front; the record is None for a
-    kind without one, and where the bytes are no such packet."""
+    kind without one, and where the bytes are no such packet. `exchange` is the number of the command that it belongs to, from 1; 0 before it."""
 
     side: str
     kind: str
     payload: bytes
     record: Record
+    exchange: int

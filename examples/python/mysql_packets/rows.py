@@ -3,7 +3,7 @@ import ctypes
 from typing import Any, Iterable, Iterator, List, Sequence
 
 from .errors import InvalidValue
-from .records import Column, Row, Value
+from .records import BulkValue, Column, Row
 from .values import LAYOUT, Packed, column_of
 
 
@@ -29,7 +29,7 @@ class RowReader:
         return tuple(self.library.structs.read(self.view))
 
 
-def of_one_length(rows: Iterable[Sequence[Value]]) -> List[Sequence[Value]]:
+def of_one_length(rows: Iterable[Sequence[BulkValue]]) -> List[Sequence[BulkValue]]:
     """Rows in a list. InvalidValue for the first row that has not as many values as the first one."""
     listed = list(rows)
     for place, row in enumerate(listed):
@@ -41,7 +41,7 @@ def of_one_length(rows: Iterable[Sequence[Value]]) -> List[Sequence[Value]]:
 class BulkRows:
     """Rows that are written into bulk requests, and the types of their columns. InvalidValue if one can't be sent."""
 
-    def __init__(self, library: Any, rows: Iterable[Sequence[Value]]):
+    def __init__(self, library: Any, rows: Iterable[Sequence[BulkValue]]):
         listed = of_one_length(rows)
         self.library, self.columns = library, [column_of(it, place) for place, it in enumerate(zip(*listed))]
         types = [library.new("myp_column_type", column_type=getattr(library, f"MYP_TYPE_{it.type_name}"), is_unsigned=int(it.is_unsigned)) for it in self.columns]

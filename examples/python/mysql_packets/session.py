@@ -1,11 +1,12 @@
 """The packets of a connection, by what both sides agreed on."""
 import ctypes
-from typing import Any, Iterable, Iterator, List, Optional, Sequence, Tuple
+from typing import Any, Collection, Iterable, Iterator, List, Mapping, Optional, Sequence, Tuple
 
 from .errors import InvalidData
 from .library import Library
 from .observe import Observer
-from .records import Change, Column, Handshake, OkPacket, Packet, Row, ServerError, Statement, Value
+from .records import (BulkValue, Change, Column, Command, Execution, Handshake, Login, OkPacket, Packet, ParamType, Row, ServerError, Statement,
+                      Value)
 from .rows import BulkRows, RowReader
 
 # the most bytes of a payload that are asked for at once
@@ -149,12 +150,18 @@ class Session:
         it = self.library.read("myp_read_statement", payload, self.capabilities, into="myp_statement")
         return Statement(it.statement_id, it.num_columns, it.num_params, it.warning_count)
 
-    def write_execution(self, statement: Statement, values: Sequence[Value]) -> List[bytes]:
-        """The commands of an execution: one, after which the answer comes, and before it the long data that it is too large with."""
+    def write_execution(self, statement: Statement, values: Sequence[Value], types: Sequence[Optional[str]] = (), cursor: str = "NONE",
+                        attributes: Mapping[str, Value] = {}) -> List[bytes]:
+        """The commands of an execution: one, after which the answer comes, and before it the long data that it is too large with.
+
+        `types` are names of enum myp_type, such as "TINY" or "TINY UNSIGNED", one for each value, or None for that of the value. `cursor` is one
+        of enum myp_cursor. Attributes are sent under MYP_CLIENT_QUERY_ATTRIBUTES alone."""
         p, long_data = self.library, ctypes.c_uint8()
         sent = p.converted(values)
-        options, none = p.new("myp_execution_options"), p.array("myp_parameter", [])
-        request = p.write("myp_write_execution", statement.statement_id, p.parameters(sent), none, options, self.capabilities, after=[long_data])
+        given = p.parameters(sent, types)
+        named = p.parameters(p.converted(list(attributes.values())), names=[it.encode() for it in attributes])
+        options = p.new("myp_execution_options", flags=getattr(p, f"MYP_CURSOR_{cursor}"))
+        request = p.write("myp_write_execution", statement.statement_id, given, named, options, self.capabilities, after=[long_data])
         ahead = [(place, it) for place, it in enumerate(sent) if long_data.value and isinstance(it, bytes)]
         return [*(self.write_long_data(statement, place, it) for place, it in ahead), request]
 
@@ -165,6 +172,99 @@ class Session:
 
     def write_close(self, statement: Statement) -> bytes:
         return self.library.write("myp_write_close", statement.statement_id)
+
+    # ---- what a server reads
+
+    def read_login(self, payload: bytes) -> Login:
+        p, it = self.library, self.library.read("myp_read_login", payload, into="myp_login")
+        attributes, name, value = [], p.bytes(b""), p.bytes(b"")
+        while p.next("myp_next_connection_attribute", it.attributes, name, value):
+            attributes.append((self._text(name), self._text(value)))
+        return Login(self._text(it.user), self._text(it.database), self._text(it.auth_plugin_name), it.capabilities, it.mariadb_capabilities,
+                     it.collation, tuple(attributes), p.text(it.auth_response))
+
+    def read_command(self, payload: bytes) -> Command:
+        """A command that is a text, a number, or its byte alone; of any other its byte."""
+        it = self.library.read("myp_read_command", payload, self.capabilities, into="myp_command")
+        return Command(it.code, self._text(it.text), it.number)
+
+    def read_execution(self, payload: bytes, types: Sequence[ParamType], ahead: Collection[int] = ()) -> Tuple[Execution, List[ParamType]]:
+        """An execution of a statement with these types of an earlier one, or None of each parameter, and the types that it has; `ahead` are the
+        places of parameters that were sent ahead. Values are None where types are neither sent nor known."""
+        p, count = self.library, len(types)
+        bound = [p.types["myp_bound_param"](*(it or (0, 0)), int(at in ahead)) for at, it in enumerate(types)]
+        params, values = p.array("myp_bound_param", bound), p.array("myp_value", [p.new("myp_value") for _ in range(count)])
+        sent, out, given = p.array("myp_column_type", [p.types["myp_column_type"]() for _ in range(count)]), p.new("myp_execution"), p.bytes(payload)
+        agreed = given.data, given.len, self.capabilities, params, count
+        self._check("myp_read_execution", *agreed, values, count, sent, count, p.refer(out))
+        if not out.sends_types and None in types:
+            return Execution(out.statement_id, None, ()), list(types)
+        attributes: List[Tuple[str, Value]] = []
+        for place in range(out.attributes):
+            attribute = p.new("myp_parameter")
+            self._check("myp_read_execution_attribute", *agreed, place, p.refer(attribute))
+            attributes.append((self._text(attribute.name), p.content(attribute.value)))
+        found: List[ParamType] = [(it.column_type, it.is_unsigned) for it in sent[:count]]
+        return Execution(out.statement_id, tuple(p.content(it) for it in values[:count]), tuple(attributes)), found
+
+    def _check(self, call: str, *arguments: Any) -> None:
+        code = getattr(self.library.dll, call)(*arguments)
+        if code:
+            raise self.library.refusal(call, code)
+
+    # ---- what a server writes
+
+    def write_handshake(self, greeting: Handshake, collation: int = 45) -> bytes:
+        """The greeting, with a nonce of 20 bytes: `agree` then takes the flags of the login."""
+        return self.library.write("myp_write_handshake", self.library.new(
+            "myp_handshake", server_version=greeting.server_version.encode("utf-8", "surrogateescape"), scramble_1=greeting.nonce[:8],
+            scramble_2=greeting.nonce[8:] + b"\0", auth_plugin_name=greeting.auth_plugin.encode(), connection_id=greeting.connection_id,
+            capabilities=greeting.capabilities, mariadb_capabilities=greeting.mariadb_capabilities, status_flags=greeting.status,
+            protocol_version=10, default_collation=collation))
+
+    def write_auth_switch(self, plugin: str, nonce: bytes) -> bytes:
+        return self.library.write("myp_write_auth_switch", self.library.new("myp_auth_switch", plugin_name=plugin.encode(), plugin_data=nonce + b"\0"))
+
+    def write_auth_more_data(self, content: bytes) -> bytes:
+        return self.library.write("myp_write_auth_more_data", content, size=len(content) + 1)
+
+    def write_ok(self, ok: OkPacket = OkPacket(0, 0, 2, 0, "", ()), kind: str = "COMMON") -> bytes:
+        """An OK packet, or an end: COMMON, TERMINATOR, OLD_EOF or STREAM_END."""
+        p = self.library
+        changes = b"".join(p.write("myp_write_change", it.kind, it.content) for it in ok.changes)
+        packet = p.new("myp_ok", affected_rows=ok.affected_rows, last_insert_id=ok.last_insert_id, info=ok.info.encode("utf-8", "surrogateescape"),
+                       session_state=changes, status_flags=ok.status, warnings=ok.warnings)
+        return p.write("myp_write_ok", packet, getattr(p, f"MYP_OK_{kind}"), self.capabilities)
+
+    def write_error(self, error: ServerError) -> bytes:
+        return self.library.write("myp_write_error", self.library.new(
+            "myp_error", sql_state=(error.state or "").encode(), message=error.message.encode("utf-8", "surrogateescape"), code=error.code))
+
+    def write_statement(self, statement: Statement) -> bytes:
+        return self.library.write("myp_write_statement", self.library.new(
+            "myp_statement", statement_id=statement.statement_id, num_columns=statement.columns, num_params=statement.params,
+            warning_count=statement.warnings, metadata_follows=1), self.capabilities)
+
+    def write_column_count(self, count: int) -> bytes:
+        columns = self.library.new("myp_column_count", count=count, metadata_follows=1)
+        return self.library.write("myp_write_column_count", columns, self.capabilities, self.mariadb_capabilities)
+
+    def write_column(self, column: Column) -> bytes:
+        names = {it: getattr(column, it).encode("utf-8", "surrogateescape") for it in ("schema", "table", "org_table", "name", "org_name")}
+        return self.library.write("myp_write_column", self.library.new(
+            "myp_column", **names, column_length=column.length, character_set=column.character_set, flags=column.flags,
+            column_type=column.column_type, decimals=column.decimals))
+
+    def write_text_row(self, values: Sequence[Value]) -> bytes:
+        """A text row: each value as its text."""
+        texts = [None if it is None else it if isinstance(it, bytes) else str(it).encode() for it in values]
+        return self.library.write("myp_write_text_row", self.library.packed(texts))
+
+    def write_binary_row(self, values: Sequence[Value], columns: Sequence[Column]) -> bytes:
+        """A binary row, each value under the type of its column. InvalidInput if one doesn't fit."""
+        p = self.library
+        types = p.array("myp_column_type", [p.new("myp_column_type", column_type=it.column_type, is_unsigned=int(it.is_unsigned)) for it in columns])
+        return p.write("myp_write_binary_row", types, p.packed(p.converted(values)))
 
     # ---- replication
 
@@ -178,9 +278,9 @@ class Session:
         """The set of such a request."""
         return self.library.write("myp_gtid_dump_to_text", dump, size=64 + 4 * len(dump)).decode()
 
-    def write_bulk(self, statement: Statement, rows: Iterable[Sequence[Value]], limit: int = LIMIT) -> Iterator[bytes]:
+    def write_bulk(self, statement: Statement, rows: Iterable[Sequence[BulkValue]], limit: int = LIMIT) -> Iterator[bytes]:
         """The fewest requests of at most `limit` - 4 bytes with all rows. Each is answered by an OK packet.
 
         The rows, of one length, are read whole before the first request, since each column has one type. InvalidValue names the row and the
-        column of a value that can't be sent; then nothing is."""
+        column of a value that can't be sent; then nothing is. `Cell.DEFAULT` and `Cell.IGNORE` stand for a value."""
         return BulkRows(self.library, rows).requests(statement.statement_id, limit)

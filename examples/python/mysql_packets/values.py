@@ -6,12 +6,15 @@ import enum
 import struct
 import uuid
 from itertools import accumulate, chain
-from typing import Any, Callable, Dict, List, NamedTuple, Optional, Sequence, Tuple, Type, Union
+from typing import Any, Callable, Dict, List, NamedTuple, Sequence, Set, Tuple, Type, Union
 
 from .errors import InvalidValue
+from .records import Cell
 
 # What a value is converted to before it is sent.
-Sent = Union[None, int, float, bytes, decimal.Decimal, datetime.datetime, datetime.date, datetime.timedelta]
+Sent = Union[None, int, float, bytes, decimal.Decimal, datetime.datetime, datetime.date, datetime.timedelta, Cell]
+# These have no type of their own, and fit each.
+UNTYPED: Set[Type[Any]] = {type(None), Cell}
 # The fields of a myp_value, and their bytes.
 FIELDS = ["kind", "is_negative", "month", "day", "hour", "minute", "second", "reserved", "micros", "days", "number", "bytes"]
 LAYOUT = struct.Struct("<8BIIQQQ")
@@ -69,6 +72,8 @@ def converted(value: Any) -> Sent:
     for kind, conversion in CONVERSIONS:
         if isinstance(value, kind):
             return conversion(value)
+    if isinstance(value, Cell):
+        raise InvalidValue(f"{value.name}, which a row of a bulk request alone takes")
     if isinstance(value, enum.Enum):
         raise InvalidValue("an Enum: pass its value")
     raise InvalidValue(f"a {type(value).__name__}")
@@ -87,7 +92,7 @@ def column_of(values: Sequence[Any], column: int) -> ColumnValues:
 
     Ints and floats together are sent as DOUBLE, a Decimal and numbers beside it as text, and dates and datetimes together as DATETIME. Raises
     InvalidValue, with row and column, for a value that no type has together with those before it."""
-    kinds = {type(it) for it in values} - {type(None)}
+    kinds: Set[Type[Any]] = {type(it) for it in values} - UNTYPED
     if kinds == {float}:
         return ColumnValues("DOUBLE", False, values)
     if kinds and kinds <= {str, bytes}:
@@ -98,28 +103,28 @@ def column_of(values: Sequence[Any], column: int) -> ColumnValues:
     sent: List[Sent] = []
     for row, it in enumerate(values):
         try:
-            sent.append(converted(it))
+            sent.append(it if isinstance(it, Cell) else converted(it))
         except InvalidValue as error:
             raise InvalidValue(error.reason, column, row) from None
     return _unified(sent, column)
 
 
 def _unified(sent: List[Sent], column: int) -> ColumnValues:
-    kinds = {type(it) for it in sent} - {type(None)}
+    kinds: Set[Type[Any]] = {type(it) for it in sent} - UNTYPED
     if kinds == {int}:
         return _integers(sent, column)
     if kinds <= {int, float} and kinds:
         return ColumnValues("DOUBLE", False, [_float(it, column, row) for row, it in enumerate(sent)])
     if kinds <= {int, float, decimal.Decimal} and kinds:
-        return ColumnValues("VAR_STRING", False, [None if it is None else str(it).encode() for it in sent])
+        return ColumnValues("VAR_STRING", False, [it if type(it) in UNTYPED else str(it).encode() for it in sent])
     if kinds <= {datetime.date, datetime.datetime} and len(kinds) == 2:
         return ColumnValues("DATETIME", False, [_midnight(it) for it in sent])
     names: Dict[Type[Any], str] = {bytes: "VAR_STRING", datetime.date: "DATE", datetime.datetime: "DATETIME", datetime.timedelta: "TIME"}
     if len(kinds) <= 1:
         kind = next(iter(kinds), bytes)
         return ColumnValues(next((name for it, name in names.items() if kind is it), "VAR_STRING"), False, sent)
-    first = next(type(it) for it in sent if it is not None)
-    row = next(row for row, it in enumerate(sent) if it is not None and type(it) is not first)
+    first = next(type(it) for it in sent if type(it) not in UNTYPED)
+    row = next(row for row, it in enumerate(sent) if type(it) not in UNTYPED and type(it) is not first)
     raise InvalidValue(f"a {type(sent[row]).__name__} in a column of {first.__name__}", column, row)
 
 
@@ -132,10 +137,10 @@ def _integers(sent: List[Sent], column: int) -> ColumnValues:
     return ColumnValues("LONGLONG", is_unsigned, sent)
 
 
-def _float(value: Any, column: int, row: int) -> Optional[float]:
+def _float(value: Any, column: int, row: int) -> Union[None, float, Cell]:
     if isinstance(value, int) and abs(value) > EXACT:
         raise InvalidValue("an int in a column of floats that no float equals", column, row)
-    return None if value is None else float(value)
+    return value if type(value) in UNTYPED else float(value)
 
 
 def _midnight(value: Sent) -> Sent:
@@ -173,7 +178,7 @@ class Structs:
     def __init__(self, numbers: Dict[str, int], struct_type: Any):
         if [name for name, _ in struct_type._fields_] != FIELDS or ctypes.sizeof(struct_type) != LAYOUT.size:
             raise ImportError("the header has another myp_value than this package")
-        self.kinds = {name: numbers[f"MYP_VALUE_{name}"] for name in ("NULL", "BYTES", "INT", "UINT", "FLOAT", "DOUBLE", "DATE", "TIME", "DATE_WITH_OFFSET")}
+        self.kinds = {name: numbers[f"MYP_VALUE_{name}"] for name in ("NULL", "BYTES", "INT", "UINT", "FLOAT", "DOUBLE", "DATE", "TIME", "DATE_WITH_OFFSET", "DEFAULT", "IGNORE")}
         self.null = self._packed("NULL")
         self.readers: Dict[int, Callable[..., Any]] = {
             self.kinds["NULL"]: lambda *it: None,
@@ -196,6 +201,8 @@ class Structs:
         """A converted value that is not bytes."""
         if value is None:
             return self.null
+        if isinstance(value, Cell):
+            return self._packed(value.name)
         if isinstance(value, int):
             return self._packed("INT" if value < 2**63 else "UINT", value & BITS)
         if isinstance(value, float):

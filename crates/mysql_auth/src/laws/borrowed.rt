@@ -1,4 +1,4 @@
-//! Records that stay in their packet are read as the records that they are forms of.
+//! Borrowed records are read like owned ones.
 #![tactic(auto, using(crate::proofs::ChangeRead::changes_once, crate::proofs::ResponseRead::responses_once))]
 
 ghost use Rattle.std.specs.Prelude.{◌≡◌, ℕ, List};
@@ -16,47 +16,47 @@ ghost use Rattle.mysql_auth.specs.PublicKeyResponse.{public_key_response};
 
 use mysql_wire::MyDeserialize;
 
-/// A handshake that stays in its packet is read of the same bytes as a handshake, and is that handshake.
+/// Borrowed handshakes are read like owned ones.
 pub fn borrowed_handshakes_read_handshakes()
     ensures read { (bytes : List ℕ) → (⟦<crate::handshake_ref::HandshakePacketRef<'static> as MyDeserialize<'static>>⟧.form tt).reads bytes ≡ (handshake.form tt).reads bytes }
 {}
 
-/// A borrowed response to a handshake reads what the owned one reads, with each key once among its attributes.
+/// Borrowed responses to a handshake are read like owned ones, with each key once among the attributes.
 pub fn borrowed_handshake_responses_read_handshake_responses()
     ensures read { (bytes : List ℕ) → (map with_each_key_once (⟦<crate::handshake_response_ref::HandshakeResponseRef<'static> as MyDeserialize<'static>>⟧.form tt)).reads bytes ≡ (handshake_response.form tt).reads bytes }
 {}
 
-/// A borrowed change of user reads what the owned one reads, with each key once among its attributes.
+/// Borrowed changes of user are read like owned ones, with each key once among the attributes.
 pub fn borrowed_changes_of_user_read_changes_of_user()
     ensures read { (c : CapabilityFlags) (bytes : List ℕ) → (map change_with_each_key_once (⟦<crate::com_change_user_ref::ComChangeUserRef<'static> as MyDeserialize<'static>>⟧.form c)).reads bytes ≡ (change_user.form c).reads bytes }
 {}
 
-/// The borrowed fields after a change of user's database read what the owned ones read, with each key once.
+/// The borrowed optional fields of a change of user are read like owned ones, with each key once.
 pub fn borrowed_more_data_reads_more_data()
     ensures read { (c : CapabilityFlags) (bytes : List ℕ) → (map more_with_each_key_once (⟦<crate::com_change_user_more_data_ref::ComChangeUserMoreDataRef<'static> as MyDeserialize<'static>>⟧.form c)).reads bytes ≡ (more_data.form c).reads bytes }
 {}
 
-/// A borrowed switch to another plugin reads what the owned one reads.
+/// Borrowed switches to another plugin are read like owned ones.
 pub fn borrowed_auth_switch_requests_read_auth_switch_requests()
     ensures read { (bytes : List ℕ) → (⟦<crate::auth_switch_request::AuthSwitchRequestRef<'static> as MyDeserialize<'static>>⟧.form tt).reads bytes ≡ (auth_switch_request.form tt).reads bytes }
 {}
 
-/// A borrowed request for the next factor reads what the owned one reads.
+/// Borrowed requests for the next factor are read like owned ones.
 pub fn borrowed_auth_next_factors_read_auth_next_factors()
     ensures read { (bytes : List ℕ) → (⟦<crate::auth_next_factor::AuthNextFactorRef<'static> as MyDeserialize<'static>>⟧.form tt).reads bytes ≡ (auth_next_factor.form tt).reads bytes }
 {}
 
-/// Borrowed authentication data reads what the owned packet reads.
+/// Borrowed further authentication data is read like owned data.
 pub fn borrowed_auth_more_data_reads_auth_more_data()
     ensures read { (bytes : List ℕ) → (⟦<crate::auth_more_data_ref::AuthMoreDataRef<'static> as MyDeserialize<'static>>⟧.form tt).reads bytes ≡ (auth_more_data.form tt).reads bytes }
 {}
 
-/// A borrowed public key reads what the owned packet reads.
+/// Borrowed public keys are read like owned ones.
 pub fn borrowed_public_keys_read_public_keys()
     ensures read { (bytes : List ℕ) → (⟦<crate::public_key_response_ref::PublicKeyResponseRef<'static> as MyDeserialize<'static>>⟧.form tt).reads bytes ≡ (public_key_response.form tt).reads bytes }
 {}
 
-/// A borrowed connection attribute reads what the owned one reads.
+/// Borrowed connection attributes are read like owned ones.
 pub fn borrowed_connect_attributes_read_attributes()
     ensures read { (bytes : List ℕ) → (⟦<crate::connect_attribute_ref::ConnectAttributeRef<'static> as MyDeserialize<'static>>⟧.form tt).reads bytes ≡ (attribute.form tt).reads bytes }
 {}

@@ -1,4 +1,4 @@
-//! Laws on equality: packets are equal exactly where they are the same, whether they borrow or own what they are made of.
+//! Laws on equality: packets compare equal exactly if they have the same value, borrowed or owned.
 #![tactic(auto, using(crate::proofs::EqualPackets::equal_packets))]
 
 ghost use Rattle.std.specs.Prelude.{◌≡◌, ◌↔◌, IsTrue};
@@ -15,13 +15,13 @@ ghost use Rattle.mysql_auth.specs.declared.handshake_response.HandshakeResponse.
 ghost use Rattle.mysql_auth.specs.declared.public_key_response.PublicKeyResponse.{PublicKeyResponse};
 ghost use Rattle.mysql_auth.specs.declared.ssl_request.SslRequest.{SslRequest};
 
-/// Plugins, and the responses that they compute, compare equal exactly if they are the same.
+/// Plugins, and the responses that they compute, compare equal exactly if they have the same value.
 pub fn equal_plugins_are_the_same()
     ensures plugin { (x y : AuthPlugin) → IsTrue (⟦<crate::auth_plugin::AuthPlugin<'static> as PartialEq>⟧.eq x y) ↔ (x ≡ y) }
     ensures answer { (x y : AuthPluginData) → IsTrue (⟦<crate::auth_plugin_data::AuthPluginData<'static> as PartialEq>⟧.eq x y) ↔ (x ≡ y) }
 {}
 
-/// Packets of a server compare equal exactly if they are the same.
+/// Packets of a server compare equal exactly if they have the same value.
 pub fn equal_server_packets_are_the_same()
     ensures handshake { (x y : HandshakePacket) → IsTrue (⟦<crate::handshake::HandshakePacket<'static> as PartialEq>⟧.eq x y) ↔ (x ≡ y) }
     ensures switch { (x y : AuthSwitchRequest) → IsTrue (⟦<crate::auth_switch_request::AuthSwitchRequest<'static> as PartialEq>⟧.eq x y) ↔ (x ≡ y) }
@@ -31,7 +31,7 @@ pub fn equal_server_packets_are_the_same()
     ensures key { (x y : PublicKeyResponse) → IsTrue (⟦<crate::public_key_response::PublicKeyResponse<'static> as PartialEq>⟧.eq x y) ↔ (x ≡ y) }
 {}
 
-/// Packets of a client compare equal exactly if they are the same.
+/// Packets of a client compare equal exactly if they have the same value.
 pub fn equal_client_packets_are_the_same()
     ensures ssl_request { (x y : SslRequest) → IsTrue (⟦<crate::ssl_request::SslRequest as PartialEq>⟧.eq x y) ↔ (x ≡ y) }
     ensures response { (x y : HandshakeResponse) → IsTrue (⟦<crate::handshake_response::HandshakeResponse<'static> as PartialEq>⟧.eq x y) ↔ (x ≡ y) }

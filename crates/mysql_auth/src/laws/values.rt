@@ -1,4 +1,4 @@
-//! Laws on a value at hand: what a caller can use of a packet that was made or read.
+//! Laws on a given value: facts about a packet that a caller has created or read.
 //!
 //! Each function reads the numbers and attributes of its value, which shows that they fit their widths.
 #![tactic(auto, using(crate::proofs::WholePackets::whole_packets, crate::proofs::ValuesFit::values_fit))]
@@ -24,7 +24,7 @@ pub fn this_ssl_request_round_trips(request: &SslRequest)
     request.widths();
 }
 
-/// This handshake is read back, where its parts fit.
+/// This handshake is read back if its parts fit.
 pub fn this_handshake_round_trips(packet: &HandshakePacket<'_>)
     ensures spelled { (rest : List ℕ) → HandshakePartsFit packet.now rest → (handshake.form tt).Spells packet.now (handshake.bytes packet.now ++ rest) rest }
 {
@@ -37,7 +37,7 @@ pub fn this_handshake_round_trips(packet: &HandshakePacket<'_>)
     let _mariadb_ext_capabilities = packet.mariadb_ext_capabilities();
 }
 
-/// This response to a handshake is read back, where its parts fit before what follows.
+/// This response to a handshake is read back, with these bytes after it, if its parts fit.
 pub fn this_handshake_response_round_trips(response: &HandshakeResponse<'_>)
     ensures spelled { (rest : List ℕ) → ResponsePartsFit response.now rest → (handshake_response.form tt).Spells response.now (handshake_response.bytes response.now ++ rest) rest }
 {
@@ -45,14 +45,15 @@ pub fn this_handshake_response_round_trips(response: &HandshakeResponse<'_>)
     response.keys_stand_once();
 }
 
-/// Each key occurs once among the attributes of more data.
+/// Each key occurs once among the attributes in the optional fields of a change of user.
 pub fn more_data_keys_stand_once(given: &ComChangeUserMoreData<'_>)
     ensures once { (pairs : List Attribute) → connect_attributes given.now ≡ Some pairs → merged pairs ≡ pairs }
 {
     given.keys_stand_once();
 }
 
-/// This more data is read back, under the flags that both sides know, where its parts fit. So is what a session writes.
+/// These optional fields of a change of user are read back under the flags of both sides, if their parts fit,
+/// and so is their [`ForSession`](crate::ForSession) form.
 pub fn this_more_data_round_trips(capabilities: CapabilityFlags, given: &ComChangeUserMoreData<'_>)
     ensures spelled { (rest : List ℕ) → MoreDataPartsFit capabilities given.now → (more_data.form capabilities).Spells given.now (more_data.bytes given.now ++ rest) rest }
     ensures session { (rest : List ℕ) → SessionMoreDataPartsFit capabilities given.now → (more_data.form capabilities).Spells given.now ((session_more_data capabilities).bytes given.now ++ rest) rest }
@@ -61,7 +62,8 @@ pub fn this_more_data_round_trips(capabilities: CapabilityFlags, given: &ComChan
     given.keys_stand_once();
 }
 
-/// This change of user is read back, under the flags that both sides know, where its parts fit. So is what a session writes.
+/// This change of user is read back under the flags of both sides, if its parts fit, and so is its
+/// [`ForSession`](crate::ForSession) form.
 pub fn this_change_user_round_trips(capabilities: CapabilityFlags, change: &ComChangeUser<'_>)
     ensures spelled { (rest : List ℕ) → ChangeUserPartsFit capabilities change.now rest → (change_user.form capabilities).Spells change.now (change_user.bytes change.now ++ rest) rest }
     ensures session { (rest : List ℕ) → SessionChangeUserPartsFit capabilities change.now rest → (change_user.form capabilities).Spells change.now ((session_change_user capabilities).bytes change.now ++ rest) rest }

@@ -18,12 +18,12 @@ use mysql_cuts::BulkRule;
 use mysql_values::{Value, ValueRef};
 
 impl<'a> ComStmtBulkExecuteRequestBuilder<'a> {
-    /// Offers copies of the values of a row, which stays with the caller: so one list of values can be filled and offered
-    /// again and again. Of the memory that a row takes, the builder takes that of its byte strings alone.
+    /// Adds a copy of a row that the caller keeps, so that one list of values can be filled and added again and
+    /// again. The builder allocates only for the row's byte strings, and to grow its own lists.
     ///
-    /// If the row fits with those that wait, its copy waits too, and the result is `Ok(true)`; if it doesn't, the result is
-    /// `Ok(false)`, and the caller builds a request. The errors are those of `add_row`. If no copy waits, the builder is
-    /// unchanged.
+    /// If the row fits with the waiting rows, its copy waits too, and the result is `Ok(true)`; if it doesn't,
+    /// the result is `Ok(false)`, and the caller builds a request. The errors are those of `add_row`. If no
+    /// copy waits, the builder is unchanged.
     // Inlined: a loop over rows of a known length is faster then.
     #[inline(always)]
     pub fn add_row_slice(&mut self, row: &[Value]) -> Result<bool, BulkRowError>
@@ -32,7 +32,7 @@ impl<'a> ComStmtBulkExecuteRequestBuilder<'a> {
         self.offer(row)
     }
 
-    /// Adds copies of values that borrow their bytes, for example from the packet of a row: see
+    /// Adds a copy of a row of values that borrow their bytes, for example from a packet: see
     /// [`add_row_slice`](Self::add_row_slice). A byte is only copied once the row is known to fit up to it.
     // Inlined for the same reason.
     #[inline(always)]
@@ -42,7 +42,7 @@ impl<'a> ComStmtBulkExecuteRequestBuilder<'a> {
         self.offer(row)
     }
 
-    /// Offers copies of the values of a row.
+    /// Adds a copy of a row.
     #[inline(always)]
     fn offer<V: RowValue>(&mut self, row: &[V]) -> Result<bool, BulkRowError>
         ensures { AddsCopy self.old (map V.content row.now) result self.new }
@@ -66,8 +66,8 @@ impl<'a> ComStmtBulkExecuteRequestBuilder<'a> {
         }
     }
 
-    /// Copies a row, which may come next, if it fits with the rows that wait. Returns whether it waits now; after an error it
-    /// doesn't.
+    /// Copies a row of a valid length if it fits with the waiting rows, and returns whether it waits now; after
+    /// an error it doesn't.
     // The bytes are counted while they are copied, in one pass.
     #[inline(always)]
     fn takes_copy<V: RowValue>(&mut self, row: &[V]) -> bool
@@ -103,7 +103,8 @@ impl<'a> ComStmtBulkExecuteRequestBuilder<'a> {
     }
 }
 
-/// The maximum length of another row, if the request may have another one: it fits exactly if it is no longer.
+/// The maximum length of another row, or `None` if the request can't have another one: a row fits exactly if it
+/// is no longer.
 fn most_bytes(
     rule: BulkRule,
     limit: u64,

@@ -1,4 +1,4 @@
-//! Types that are declared for the columns.
+//! Declared column types.
 
 ghost use Rattle.std.specs.Prelude.{◌≡◌, [], map};
 ghost use Rattle.mysql_bulk.specs.Builder.{Declares};
@@ -13,9 +13,11 @@ use crate::row_value::RowValue;
 use mysql_values::ParamType;
 
 impl<'a> ComStmtBulkExecuteRequestBuilder<'a> {
-    /// Declares the types of the columns, which the next request sends whatever its rows contain, and after it those that
-    /// `with_types_always` says. Only rows with as many values are accepted, each of which is `NULL` or has the same encoding
-    /// under its column's type as under its own; another row is an error (`MixedArity`, `MixedTypes`).
+    /// Declares the types of the columns.
+    ///
+    /// The next request sends them whatever its rows contain, and later requests according to
+    /// `with_types_always`. Only rows with as many values are accepted, each of which is `NULL` or has the same
+    /// encoding under its column's type as under its own; another row is an error (`MixedArity`, `MixedTypes`).
     ///
     /// | Type | Values |
     /// |---|---|
@@ -27,9 +29,9 @@ impl<'a> ComStmtBulkExecuteRequestBuilder<'a> {
     /// | `TIME` | `Time` |
     /// | `VARCHAR`, `VAR_STRING`, `STRING`, the four `BLOB`s, `DECIMAL`, `NEWDECIMAL`, `ENUM`, `SET`, `JSON`, `VECTOR`, `GEOMETRY` | `Bytes` |
     ///
-    /// No other type can be declared, nor an unsigned one except `LONGLONG`: the error has the place of the first one, and the
-    /// builder is dropped. A declared type takes as many bytes as an undeclared one, so each promise of fewest requests holds.
-    /// The types are not copied, and it takes no memory.
+    /// No other type can be declared, nor an unsigned one except `LONGLONG`: the error has the position of the
+    /// first one, and the builder is dropped. A declared type takes as many bytes as an undeclared one, so each
+    /// guarantee of fewest requests holds. The types are not copied, and it takes no memory.
     pub fn with_column_types(self, types: &'a [ParamType]) -> Result<Self, BulkColumnTypeError>
         requires { self.waiting ≡ [] }
         ensures { Declares self.entry types.now result }
@@ -44,11 +46,14 @@ impl<'a> ComStmtBulkExecuteRequestBuilder<'a> {
         Ok(builder)
     }
 
-    /// A writer with the settings of this builder, for columns of any types: numbers of any width, floats, dates, times and strings.
-    /// Its rows are values, DEFAULT and IGNORE, which [`add_row_values`](BulkRequestWriter::add_row_values) takes one by one and
-    /// [`build_all_values`](BulkRequestWriter::build_all_values) all; [`build`](BulkRequestWriter::build) gives the request of those that wait.
+    /// Converts to a writer with the settings of this builder, for columns of any types: numbers of any width,
+    /// floats, dates, times and strings.
     ///
-    /// The next request sends the types. They are not copied, names are of no use any more, and it takes no memory.
+    /// Its rows consist of values, DEFAULT and IGNORE. [`add_row_values`](BulkRequestWriter::add_row_values)
+    /// adds one row, [`build_all_values`](BulkRequestWriter::build_all_values) all rows of a list;
+    /// [`build`](BulkRequestWriter::build) returns the request of the waiting rows.
+    ///
+    /// The next request sends the types. They are not copied, parameter names no longer matter, and it takes no memory.
     pub fn with_types(self, types: &'a [ParamType]) -> BulkRequestWriter<'a>
         requires { self.waiting ≡ [] }
         ensures settings { result ≡ writer_of self.entry types.now result.capacity }

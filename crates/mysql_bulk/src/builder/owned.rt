@@ -11,7 +11,7 @@ use crate::row::{append_row, find_capacity};
 use mysql_values::{Params, Value};
 
 impl<'a> ComStmtBulkExecuteRequestBuilder<'a> {
-    /// Adds a row, or returns it if it doesn't fit with those that wait.
+    /// Adds a row, or returns it if it doesn't fit with the waiting rows.
     // Inlined with `size_after`: a loop over rows is faster then.
     #[inline(always)]
     pub(crate) fn add(
@@ -39,8 +39,8 @@ impl<'a> ComStmtBulkExecuteRequestBuilder<'a> {
         }
     }
 
-    /// Adds a row that may come next and fits; with it, those that wait have `size` bytes. If the allocation fails, the row is
-    /// returned.
+    /// Adds a row of a valid length that fits; with it, the waiting rows have `size` bytes. If the allocation
+    /// fails, the row is returned.
     #[inline(always)]
     fn keep(&mut self, row: Vec<Value>, size: u64) -> Result<(), Vec<Value>>
         requires takes { TakesRow self.old (contents_of_row row) }
@@ -69,11 +69,12 @@ impl<'a> ComStmtBulkExecuteRequestBuilder<'a> {
         Ok(())
     }
 
-    /// Adds a row. If it fits with the rows that wait, it waits too, and the result is `Ok(None)`.
+    /// Adds a row. If it fits with the waiting rows, it waits too, and the result is `Ok(None)`.
     ///
-    /// A row that doesn't fit with those that wait is returned as `Ok(Some(row))`; the caller then builds a request. Of the
-    /// errors, `MixedArity` drops the row; `MixedTypes` (a value doesn't fit its declared type), `RowTooLarge` (it doesn't fit
-    /// in a request of its own) and `MemoryRow` return it. If the row doesn't wait, the builder is unchanged.
+    /// A row that doesn't fit with the waiting rows is returned as `Ok(Some(row))`; the caller then builds a
+    /// request. Of the errors, `MixedArity` drops the row; `MixedTypes` (a value doesn't fit its declared
+    /// type), `RowTooLarge` (it doesn't fit in a request of its own) and `MemoryRow` return it. If the row
+    /// doesn't wait, the builder is unchanged.
     pub fn add_row(
         &mut self,
         row: Vec<Value>,
@@ -86,9 +87,10 @@ impl<'a> ComStmtBulkExecuteRequestBuilder<'a> {
         }
     }
 
-    /// Adds parameters, whose values are a row: see `add_row`. With names they are named, otherwise positional.
+    /// Adds parameters, whose values are a row: see `add_row`. If the builder has names they are named,
+    /// otherwise positional.
     ///
-    /// Parameters that give no row are `Params`, and the builder is unchanged.
+    /// Parameters that can't be converted to a row are the error `Params`, and the builder is unchanged.
     pub fn add_params(
         &mut self,
         params: Params,

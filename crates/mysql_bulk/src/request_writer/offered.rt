@@ -1,4 +1,4 @@
-//! Rows that are offered to a writer, as the bytes that it writes of them.
+//! Rows that are added to a writer, as the bytes that are written of them.
 
 ghost use Rattle.std.specs.Prelude.{◌≡◌, ◌+◌, ◌++◌, ◌≤◌, length, map, vec_len, vec_capacity, List, ℕ};
 ghost use Rattle.mysql_bulk.specs.BulkValue.{cell_of, cells_bytes};
@@ -8,12 +8,12 @@ use crate::cells::append_cells;
 use mysql_values::{ParamType, ValueRef};
 use std::marker::Model;
 
-/// A row that is offered.
+/// A row that is added.
 pub(super) trait OfferedRow {
-    /// The bytes of the offered values.
+    /// The bytes of the row's values.
     ghost bytes: { Self → List ℕ };
 
-    /// Writes them, if there is capacity.
+    /// Writes the bytes, if there is capacity.
     fn append_to(&self, out: &mut Vec<u8>)
         requires { vec_len out.old + length (bytes self.now) ≤ vec_capacity out.old }
         ensures items { out.new.items ≡ out.old.items ++ bytes self.now }
@@ -43,7 +43,7 @@ impl OfferedRow for PlainRow<'_, '_> {
     }
 }
 
-/// Values, DEFAULT and IGNORE, one for each type, which fit these.
+/// Values, DEFAULT and IGNORE, one for each type, which fit their types.
 pub(super) struct TypedRow<'r, 'a> {
     types: &'r [ParamType],
     cells: &'r [BulkValue<'a>],
@@ -68,7 +68,7 @@ impl<'r, 'a> Model for TypedRow<'r, 'a> {
 }
 
 impl<'r, 'a> TypedRow<'r, 'a> {
-    /// A row of a cell for each type.
+    /// Creates a row of a cell for each type.
     #[inline(always)]
     pub(super) fn new(types: &'r [ParamType], cells: &'r [BulkValue<'a>]) -> Self
         requires { length types.now ≡ length cells.now }

@@ -21,7 +21,7 @@ pub struct BulkValuesRun {
 }
 
 impl<'a> BulkRequestWriter<'a> {
-    /// Puts a copy of the request at the end of others, and lets it go.
+    /// Appends a copy of the request to others, and finishes it.
     fn send_request(&mut self, alloc: Global, requests: &mut Vec<Vec<u8>>) -> Result<(), AllocError>
         ensures sent { OnOk result (spec.bytes_of requests.new.items ≡ spec.bytes_of requests.old.items ++ self.old.bytes ∷ []) }
         ensures lets_go { OnOk result (LetsGo self.old self.new) }
@@ -34,7 +34,7 @@ impl<'a> BulkRequestWriter<'a> {
         Ok(())
     }
 
-    /// Offers a row, and where it does not fit with those that wait, sends their request first.
+    /// Adds a row; if it does not fit with the waiting rows, their request is sent first.
     fn offer_values(
         &mut self,
         alloc: Global,
@@ -61,7 +61,7 @@ impl<'a> BulkRequestWriter<'a> {
         }
     }
 
-    /// Offers rows, and sends the request of the last ones.
+    /// Adds rows, and sends the request of the last ones.
     fn send_all_values(
         &mut self,
         alloc: Global,
@@ -87,12 +87,14 @@ impl<'a> BulkRequestWriter<'a> {
         Ok(())
     }
 
-    /// Writes rows after those that wait, and returns the bytes of all their requests, or of those before the faulty row.
+    /// Writes rows after the waiting ones, and returns the bytes of all their requests, or of those before the
+    /// faulty row.
     ///
-    /// Each request is full: the row after it would not fit. If the next request was to send types, as a new writer's is, they
-    /// are the fewest that fit, by the sizes of the rows under the declared types. The errors of a row are those of
-    /// [`add_row_values`](Self::add_row_values), and the rows before it then wait, except for those that were sent; `Memory` is
-    /// also returned if a request that is due can't be allocated, and its rows then wait.
+    /// Each request is full: the row after it would not fit. If the next request was to send types, as for a
+    /// new writer, the requests are the fewest that fit, by the sizes of the rows under the declared types. The
+    /// errors of a row are those of [`add_row_values`](Self::add_row_values), and the rows before it then wait,
+    /// except for those that were sent; `Memory` is also returned if a request that is due can't be allocated,
+    /// and its rows then wait.
     pub fn build_all_values(&mut self, alloc: Global, rows: &[Vec<BulkValue<'_>>]) -> BulkValuesRun
         ensures gives { (before : List (List Cell)) → HoldsCells self.old before → spec.CellsRunGives self.old before (spec.cells_of_rows rows.now) (spec.bytes_of result.requests.items) result.refusal self.new }
         // The buffer's capacity never shrinks, whatever is sent.
@@ -107,7 +109,7 @@ impl<'a> BulkRequestWriter<'a> {
     }
 }
 
-/// A row that is not taken where none waits is too large.
+/// A row that doesn't fit although no row waits is too large.
 fn answer_of(fits_alone: bool) -> Result<(), BulkRowError>
     ensures { result ≡ (if fits_alone then Ok tt else Err TooLarge) }
 {

@@ -1,4 +1,4 @@
-//! Rows of values, DEFAULT and IGNORE that a writer of bulk requests is offered, under declared types of any width.
+//! Rows of values, DEFAULT and IGNORE that are added to a writer of bulk requests, under declared types of any width.
 
 ghost use Rattle.std.specs.Prelude.{◌≡◌, ◌≢◌, ◌+◌, ◌-◌, ◌++◌, ◌∷◌, ◌≤◌, IfOk, IfSome, OnErr, MatchOption, [], length, map, false, List, sum_by, vec_capacity, Err};
 ghost use Rattle.mysql_cuts.specs.Cut.{PartFits};
@@ -14,7 +14,8 @@ use crate::size::size_within;
 use mysql_cuts::BulkRule;
 use mysql_values::ParamType;
 
-/// The bytes of a given number of rows with one more, which has a cell for each type, if these may be one request.
+/// The length in bytes of a given number of rows with one more, which has a cell for each type, if these fit in
+/// one request.
 fn size_with_values(
     rule: BulkRule,
     limit: u64,
@@ -35,11 +36,12 @@ fn size_with_values(
 }
 
 impl<'a> BulkRequestWriter<'a> {
-    /// A writer into a buffer, as [`new`](Self::new) makes one, for columns of any types: numbers of any width, floats, dates,
-    /// times and strings.
+    /// Creates a writer into a buffer, like [`new`](Self::new), for columns of any types: numbers of any width,
+    /// floats, dates, times and strings.
     ///
-    /// Its rows are written by [`add_row_values`](Self::add_row_values), which encodes each value under its type.
-    /// [`add_row_refs`](Self::add_row_refs) only accepts values with the same encoding as without declared types.
+    /// Its rows are written by [`add_row_values`](Self::add_row_values), which encodes each value under its
+    /// type. [`add_row_refs`](Self::add_row_refs) only accepts values with the same encoding as without
+    /// declared types.
     pub fn with_types(
         buffer: Vec<u8>,
         stmt_id: u32,
@@ -53,7 +55,7 @@ impl<'a> BulkRequestWriter<'a> {
         BulkRequestWriter::with_settings(buffer, stmt_id, limit, false, BulkRule::PLAIN, types)
     }
 
-    /// A writer with these settings.
+    /// Creates a writer with these settings.
     pub(crate) fn with_settings(
         buffer: Vec<u8>,
         stmt_id: u32,
@@ -79,13 +81,14 @@ impl<'a> BulkRequestWriter<'a> {
         }
     }
 
-    /// Offers a row of values, DEFAULT and IGNORE, whose bytes are written where it fits.
+    /// Writes a row of values, DEFAULT and IGNORE, if it fits.
     ///
-    /// If the row fits with those that wait, it is written after them, and the result is `Ok(true)`; if it doesn't, the result
-    /// is `Ok(false)`, and the request is complete. The errors are `MixedArity` if the row has not a cell for each type,
-    /// `MixedTypes` if a value doesn't fit its type, `TooLarge` if it doesn't fit in a request of its own, and `Memory` if the
-    /// buffer couldn't grow, but not if it has the capacity. If no row is written, the writer is unchanged. The bytes of the
-    /// row are counted first, by the declared widths, and the buffer grows at most once.
+    /// If the row fits with the waiting rows, it is written after them, and the result is `Ok(true)`; if it
+    /// doesn't, the result is `Ok(false)`, and the request is complete. The errors are `MixedArity` if the row
+    /// does not have a cell for each type, `MixedTypes` if a value doesn't fit its type, `TooLarge` if it
+    /// doesn't fit in a request of its own, and `Memory` if the buffer couldn't grow, but not if it has the
+    /// capacity. If no row is written, the writer is unchanged. The length of the row is computed first, by the
+    /// declared widths, and the buffer grows at most once.
     pub fn add_row_values(&mut self, row: &[BulkValue<'_>]) -> Result<bool, BulkRowError>
         ensures adds { spec.AddsCells self.old (map cell_of row.now) result self.new }
         ensures waits { IfOk result (λ taken. taken ≡ false → self.new ≡ self.old) }
@@ -121,7 +124,7 @@ impl<'a> BulkRequestWriter<'a> {
         }
     }
 
-    /// The bytes of the rows with one more, if these may be one request.
+    /// The length in bytes of the rows with one more, if these fit in one request.
     fn size_after_values(&self, row: &[BulkValue<'_>]) -> Option<u64>
         requires { length self.now.types ≡ length row.now }
         ensures { MatchOption result ((rows : List (List Cell)) → spec.HoldsCells self.now rows → spec.CellsFit self.now rows (map cell_of row.now) → ⊥)

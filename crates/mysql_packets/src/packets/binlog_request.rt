@@ -1,3 +1,3 @@
-//! The request for a binary log, in either form.
+//! The request for a binary log, by file or by GTID set.
 
 pub use mysql_repl::BinlogRequest;

@@ -25,7 +25,7 @@ use mysql_values::{ParamType, Value};
 use mysql_wire::MySerialize;
 use std::alloc::{AllocError, Global};
 
-/// The requests for the rows of the input.
+/// Answers with the requests for the rows of the input.
 pub fn answer(alloc: Global, call: &BulkCall<'_>, input: &[u8]) -> Result<Answer, AllocError>
     ensures value { IfOk result (λ answer. spec.IsBulkAnswer call.now input.now answer) }
 {
@@ -35,7 +35,7 @@ pub fn answer(alloc: Global, call: &BulkCall<'_>, input: &[u8]) -> Result<Answer
     }
 }
 
-/// The requests of the rows, under the types that are declared, if there are any.
+/// Answers with the requests of the rows, under the declared types, if any.
 fn with_rows(
     alloc: Global,
     call: &BulkCall<'_>,
@@ -49,7 +49,7 @@ fn with_rows(
     }
 }
 
-/// The requests of rows of values alone.
+/// Answers with the requests of rows that consist only of values.
 fn send_values(
     alloc: Global,
     call: &BulkCall<'_>,
@@ -63,7 +63,8 @@ fn send_values(
     }
 }
 
-/// The requests of rows of values, DEFAULT and IGNORE under these types: with all of them sent, they are the fewest.
+/// Answers with the requests of rows of values, DEFAULT and IGNORE under these types; once all rows are sent,
+/// they are the fewest.
 fn send_cells(
     alloc: Global,
     call: &BulkCall<'_>,
@@ -109,7 +110,8 @@ fn row_refusal_name(refusal: BulkRowError) -> &'static str
     }
 }
 
-/// The requests of the rows; with all of them sent, also that they are the fewest, which their sizes alone tell.
+/// Answers with the requests of the rows; once all rows are sent, also says that they are the fewest, which is
+/// checked by their sizes.
 fn send(alloc: Global, call: &BulkCall<'_>, rows: Vec<Vec<Value>>) -> Result<Answer, AllocError>
     ensures value { IfOk result (λ answer. spec.AnswersRows call.now (contents_of_rows rows.items) answer) }
 {
@@ -143,7 +145,7 @@ fn first_length(rows: &[Vec<Value>]) -> usize
     }
 }
 
-/// The bytes of each row in a request. A sum past 64 bits counts as an allocation that fails.
+/// The length of each row in a request in bytes. A sum of more than 64 bits counts as a failed allocation.
 fn row_sizes(alloc: Global, rows: &[Vec<Value>]) -> Result<Vec<u64>, AllocError>
     ensures value { IfOk result (λ sizes. sizes.items ≡ map row_size (contents_of_rows rows.now)) }
 {
@@ -154,7 +156,7 @@ fn row_sizes(alloc: Global, rows: &[Vec<Value>]) -> Result<Vec<u64>, AllocError>
     Ok(sizes)
 }
 
-/// The bytes of a row in a request. A sum past 64 bits counts as an allocation that fails.
+/// The length of a row in a request in bytes. A sum of more than 64 bits counts as a failed allocation.
 fn row_size(row: &[Value]) -> Result<u64, AllocError>
     ensures value { IfOk result (λ size. size ≡ row_size (contents_of row.now)) }
 {
@@ -186,7 +188,7 @@ fn append_request(
     append_bytes(alloc, out, written.as_slice())
 }
 
-/// The lines so far, and the last ones.
+/// Returns the lines so far, and the last ones.
 fn sent(
     alloc: Global,
     mut text: String,

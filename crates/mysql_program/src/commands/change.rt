@@ -8,7 +8,7 @@ ghost use Rattle.mysql_program.specs.Change.{change_value, variable_text};
 use mysql_session::{SessionStateChange, SystemVariable};
 use std::alloc::{AllocError, Global};
 
-/// The value of the line `change`: the kind, and what has changed.
+/// The value of the line `change`: the kind of the change, and its data.
 pub fn change_value(alloc: Global, change: &SessionStateChange<'_>) -> Result<String, AllocError>
     ensures value { IfOk result (λ text. string_bytes text ≡ change_value change.now) }
 {

@@ -1,4 +1,4 @@
-//! The layouts that the session's changes are read in.
+//! The layouts in which the session's changes are read.
 
 ghost use Rattle.std.specs.Prelude.{◌≡◌, []};
 ghost use Rattle.mysql_session.specs.SessionStateChange.{lists_variables};
@@ -11,17 +11,17 @@ use mysql_session::SessionStateChange;
 use mysql_wire::Fault;
 use std::alloc::Global;
 
-/// The layouts that the session's changes are read in.
+/// The layouts in which the session's changes are read.
 #[derive(Clone, Copy, PartialEq, Eq)]
 pub enum ChangeLayout {
     /// The layouts of the protocol's pages, as [`SessionStateInfo::decode`] reads them.
     Documented,
-    /// `as-sent`: those of servers, as [`SessionStateInfo::decode_wire`] reads them.
+    /// `as-sent`: the layouts that servers send, as [`SessionStateInfo::decode_wire`] reads them.
     AsSent,
 }
 
 impl ChangeLayout {
-    /// The layout of that name.
+    /// The layout of this name.
     pub fn of(name: &str) -> Option<ChangeLayout>
         ensures value { result ≡ spec.layout_of name.now }
     {
@@ -31,7 +31,7 @@ impl ChangeLayout {
         }
     }
 
-    /// The change of an entry, in this layout.
+    /// Reads the change of an entry in this layout.
     pub fn decode<'a>(
         self,
         alloc: Global,

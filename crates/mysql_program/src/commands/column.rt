@@ -11,7 +11,7 @@ use mysql_show::{column_names, column_numbers};
 use mysql_wire::{MySerialize, ParseBuf};
 use std::alloc::{AllocError, Global};
 
-/// The lines of the column at the front of the bytes.
+/// Answers with the lines of the column at the front of the bytes.
 #[tactic(auto, using(crate::proofs::Refused::refusals))]
 pub fn answer(alloc: Global, bytes: &[u8]) -> Result<Answer, AllocError>
     ensures value { IfOk result (λ answer. answer ≡ column_answer bytes.now) }

@@ -12,7 +12,7 @@ use mysql_show::{Field, error_fields, report_fields};
 use mysql_wire::{CapabilityFlags, MySerialize, ParseBuf};
 use std::alloc::{AllocError, Global};
 
-/// The lines of the error packet at the front of the bytes.
+/// Answers with the lines of the error packet at the front of the bytes.
 #[tactic(auto, using(crate::proofs::Refused::refusals))]
 pub fn answer(
     alloc: Global,

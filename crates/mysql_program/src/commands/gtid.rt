@@ -14,7 +14,7 @@ use mysql_show::{Field, dump_fields};
 use mysql_wire::{FaultOf, MySerialize, ParseBuf};
 use std::alloc::{AllocError, Global};
 
-/// The lines of the request at the front of the bytes, by the strict reader or by the other.
+/// Answers with the lines of the request at the front of the bytes, read strictly or not.
 #[tactic(auto, using(crate::proofs::Refused::refusals))]
 pub fn answer(alloc: Global, strict: bool, bytes: &[u8]) -> Result<Answer, AllocError>
     ensures value { IfOk result (λ answer. answer ≡ spec.gtid_answer strict bytes.now) }
@@ -26,7 +26,7 @@ pub fn answer(alloc: Global, strict: bool, bytes: &[u8]) -> Result<Answer, Alloc
     }
 }
 
-/// Reads a request, by the strict reader or by the other.
+/// Reads a request, strictly or not.
 fn read<'a, 's>(strict: bool, buf: &mut ParseBuf<'a>) -> Result<ComBinlogDumpGtid<'a>, FaultOf<'s>>
     ensures value { Answers true result buf.new ((gtid_dump.form strict).reads buf.old) }
 {

@@ -1,4 +1,4 @@
-//! `gtidset TEXT`: a GTID set, in the text that MySQL shows for one.
+//! `gtidset TEXT`: a GTID set, as MySQL shows one.
 
 ghost use Rattle.std.specs.Prelude.{◌≡◌, IfOk, nat_eq, option_map};
 ghost use Rattle.std.specs.Cmp.Lexicographic.{pointwise};
@@ -16,7 +16,7 @@ use mysql_show::Field;
 use std::alloc::{AllocError, Global};
 use std::cmp::Ordering;
 
-/// The lines of the sids in a text.
+/// Answers with the lines of the sids in a text.
 pub fn answer(alloc: Global, text: &str) -> Result<Answer, AllocError>
     ensures value { IfOk result (λ answer. answer ≡ spec.gtid_set_answer text.now) }
 {
@@ -48,7 +48,7 @@ fn is_as_servers_write(alloc: Global, text: &str, sids: &[Sid<'_>]) -> Result<bo
     Ok(same && are_in_order(sids) && have_servers_intervals(sids))
 }
 
-/// Whether the text is written so of these sids.
+/// Whether the text is the written text of these sids.
 fn is_text_of(alloc: Global, text: &str, sids: &[Sid<'_>]) -> Result<bool, AllocError>
     ensures value { IfOk result (λ is. is ≡ pointwise nat_eq text.now (set_text sids.now)) }
 {
@@ -57,7 +57,7 @@ fn is_text_of(alloc: Global, text: &str, sids: &[Sid<'_>]) -> Result<bool, Alloc
     Ok(text == written.as_str())
 }
 
-/// Whether the intervals of each sid are as servers write them.
+/// Whether the intervals of each sid are in the form that servers write.
 fn have_servers_intervals(sids: &[Sid<'_>]) -> bool
     ensures value { result ≡ are_as_servers_write sids.now }
 {

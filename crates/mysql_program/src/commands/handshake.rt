@@ -13,7 +13,7 @@ use mysql_show::{Field, greeting_fields, version_fields};
 use mysql_wire::{MySerialize, ParseBuf};
 use std::alloc::{AllocError, Global};
 
-/// The lines of the handshake at the front of the bytes.
+/// Answers with the lines of the handshake at the front of the bytes.
 #[tactic(auto, using(crate::proofs::HandshakeRefused::handshake_refusals))]
 pub fn answer(alloc: Global, bytes: &[u8]) -> Result<Answer, AllocError>
     ensures value { IfOk result (spec.IsHandshakeAnswer bytes.now) }
@@ -48,7 +48,7 @@ fn version_of(packet: &HandshakePacket<'_>) -> Option<(u16, u16, u16)>
     packet.server_version_parsed()
 }
 
-/// The version of MariaDB that the server's text has.
+/// The version of MariaDB in the server's text.
 fn mariadb_version_of(packet: &HandshakePacket<'_>) -> Option<(u16, u16, u16)>
     ensures value { spec.IsVersionIn IsMariadbVersion (server_version packet.now) result }
 {
@@ -84,7 +84,7 @@ fn append_version(
     append_lines(alloc, out, &[Field::word(name, text.as_str())])
 }
 
-/// A version's numbers with dots between them, or `none`.
+/// A version's numbers separated by dots, or `none`.
 fn version_text(alloc: Global, version: Option<(u16, u16, u16)>) -> Result<String, AllocError>
     ensures value { IfOk result (λ text. string_bytes text ≡ or_none spec.version_text version) }
 {

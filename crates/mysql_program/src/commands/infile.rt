@@ -1,4 +1,4 @@
-//! `infile HEX`: the request for a file of the client's.
+//! `infile HEX`: the server's request for a file of the client.
 
 ghost use Rattle.std.specs.Prelude.{◌≡◌, IfOk};
 ghost use Rattle.mysql_program.specs.Answer.{done};
@@ -11,7 +11,7 @@ use mysql_show::infile_fields;
 use mysql_wire::{MySerialize, ParseBuf};
 use std::alloc::{AllocError, Global};
 
-/// The lines of the request at the front of the bytes.
+/// Answers with the lines of the request at the front of the bytes.
 #[tactic(auto, using(crate::proofs::Refused::refusals))]
 pub fn answer(alloc: Global, bytes: &[u8]) -> Result<Answer, AllocError>
     ensures value { IfOk result (λ answer. answer ≡ infile_answer bytes.now) }

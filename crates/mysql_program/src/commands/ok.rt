@@ -21,21 +21,21 @@ use mysql_show::{Field, ok_fields};
 use mysql_wire::{CapabilityFlags, FaultOf, ParseBuf};
 use std::alloc::{AllocError, Global};
 
-/// The kinds of OK packets, by the names that the program has for them.
+/// The kinds of OK packets, by their names in the program.
 #[derive(Clone, Copy, PartialEq, Eq)]
 pub enum OkKind {
-    /// `common`
+    /// `common`: [`CommonOkPacket`](mysql_replies::CommonOkPacket).
     Common,
-    /// `terminator`
+    /// `terminator`: [`ResultSetTerminator`](mysql_replies::ResultSetTerminator).
     Terminator,
-    /// `eof`
+    /// `eof`: [`OldEofPacket`](mysql_replies::OldEofPacket).
     Eof,
-    /// `stream`
+    /// `stream`: [`NetworkStreamTerminator`](mysql_replies::NetworkStreamTerminator).
     Stream,
 }
 
 impl OkKind {
-    /// The kind of that name.
+    /// The kind of this name.
     pub fn of(name: &str) -> Option<OkKind>
         ensures value { result ≡ kind_of name.now }
     {
@@ -49,7 +49,8 @@ impl OkKind {
     }
 }
 
-/// The lines of the OK packet of that kind at the front of the bytes, with its changes read in that layout.
+/// Answers with the lines of the OK packet of this kind at the front of the bytes, with its changes read in
+/// this layout.
 #[tactic(auto, using(crate::proofs::OkRefused::ok_refusals))]
 pub fn answer(
     alloc: Global,
@@ -67,7 +68,7 @@ pub fn answer(
     }
 }
 
-/// Reads a packet of that kind.
+/// Reads a packet of this kind.
 fn read<'a, 's>(
     kind: OkKind,
     capabilities: CapabilityFlags,

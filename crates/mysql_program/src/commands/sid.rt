@@ -1,4 +1,4 @@
-//! `sid TEXT`: a server's transactions, in the text that the library writes for them.
+//! `sid TEXT`: a server's transactions, in the library's text form.
 
 ghost use Rattle.std.specs.Prelude.{◌≡◌, IfOk};
 ghost use Rattle.mysql_program.specs.Answer.{done};
@@ -11,7 +11,7 @@ use mysql_repl::{InvalidSid, Sid};
 use mysql_show::Field;
 use std::alloc::{AllocError, Global};
 
-/// The line of the sid in a text.
+/// Answers with the line of the sid in a text.
 pub fn answer(alloc: Global, text: &str) -> Result<Answer, AllocError>
     ensures value { IfOk result (λ answer. answer ≡ spec.sid_answer text.now) }
 {
@@ -28,7 +28,7 @@ fn show(alloc: Global, sid: Sid<'_>) -> Result<Answer, AllocError>
     Ok(Answer::done(text_of(alloc, &[Field::word("sid", shown.as_str())])?))
 }
 
-/// An error by its name. A failed allocation is returned as the error.
+/// Answers with an error by its name. A failed allocation is returned as the error.
 pub fn refused(alloc: Global, refusal: &InvalidSid) -> Result<Answer, AllocError>
     ensures value { IfOk result (spec.IsSidRefusal refusal.now) }
 {

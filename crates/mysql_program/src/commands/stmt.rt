@@ -6,12 +6,12 @@ ghost use Rattle.mysql_program.specs.Answer.{done};
 
 use crate::answer::Answer;
 use crate::lines::{append_end, text_of};
-use mysql_prepared::StmtPacket;
 use mysql_show::statement_fields;
+use mysql_stmt::StmtPacket;
 use mysql_wire::{MySerialize, ParseBuf};
 use std::alloc::{AllocError, Global};
 
-/// The lines of the statement packet at the front of the bytes.
+/// Answers with the lines of the statement packet at the front of the bytes.
 #[tactic(auto, using(crate::proofs::Refused::refusals))]
 pub fn answer(alloc: Global, bytes: &[u8]) -> Result<Answer, AllocError>
     ensures value { IfOk result (λ answer. answer ≡ stmt_answer bytes.now) }

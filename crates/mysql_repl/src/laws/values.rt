@@ -1,6 +1,6 @@
-//! Laws on a value at hand: what a caller can use of a packet that was made or read.
+//! Laws on a given value: facts about a packet that a caller has created or read.
 //!
-//! Each function reads the numbers of its value, which shows that they have their widths.
+//! Each function reads the numbers of its value, which shows that they fit their widths.
 
 ghost use Rattle.std.specs.Prelude.{◌≡◌, ◌++◌, ◌<◌, ◌^◌, [], ℕ, List, None, Ok, length, true, false};
 ghost use Rattle.std.specs.List.{All};
@@ -25,7 +25,7 @@ use crate::semi_sync_ack::SemiSyncAckPacket;
 use crate::sid::{Sid, UUID_LEN};
 use crate::table_dump::ComTableDump;
 
-/// This registration is read back, whatever bytes follow, where no string has more than 255 bytes.
+/// This registration is read back, whatever bytes follow, if no string has more than 255 bytes.
 pub fn this_register_slave_round_trips(registration: &ComRegisterSlave<'_>)
     ensures spelled { (rest : List ℕ) → length (hostname registration.now) < 2 ^ 8 → length (user registration.now) < 2 ^ 8 → length (password registration.now) < 2 ^ 8
         → (register_slave.form tt).Spells registration.now (register_slave.bytes registration.now ++ rest) rest }
@@ -36,7 +36,7 @@ pub fn this_register_slave_round_trips(registration: &ComRegisterSlave<'_>)
     let _master_id = registration.master_id();
 }
 
-/// This request for a table is read back, whatever bytes follow, where no name has more than 255 bytes.
+/// This request for a table is read back, whatever bytes follow, if no name has more than 255 bytes.
 #[tactic(auto, using(crate::proofs::Fits::plain_fits))]
 pub fn this_table_dump_round_trips(request: &ComTableDump<'_>)
     ensures spelled { (rest : List ℕ) → length (database request.now) < 2 ^ 8 → length (table request.now) < 2 ^ 8
@@ -59,8 +59,8 @@ pub fn this_semi_sync_ack_round_trips(ack: &SemiSyncAckPacket<'_>)
     let _position = ack.position();
 }
 
-/// This packet of a stream is read back if nothing follows: with the header of semi-synchronous replication where that is
-/// agreed on, and without it where it is not.
+/// This packet of a stream is read back if nothing follows: with the header of semi-synchronous replication if
+/// that is agreed on, otherwise without it.
 #[tactic(auto, using(crate::proofs::StreamFits::streams))]
 pub fn this_binlog_stream_packet_round_trips(agreed: bool, packet: &BinlogStreamPacket<'_>)
     ensures spelled { StreamPacketPartsFit agreed packet.now → (stream_packet.form agreed).Spells packet.now (stream_packet.bytes packet.now) [] }
@@ -70,7 +70,7 @@ pub fn this_binlog_stream_packet_round_trips(agreed: bool, packet: &BinlogStream
     }
 }
 
-/// This sid is read back, whatever bytes follow: where it has no tag, and in the form with tags.
+/// This sid is read back, whatever bytes follow, in the form without tags if it has no tag, and in the form with tags.
 pub fn this_sid_round_trips(sid: &Sid<'_>)
     ensures untagged { (rest : List ℕ) → spec.tag sid.now ≡ None → (spec.sid.form tt).Spells sid.now (spec.sid.bytes sid.now ++ rest) rest }
     ensures tagged { (rest : List ℕ) → (spec.tagged_sid.form tt).Spells sid.now (spec.tagged_sid.bytes sid.now ++ rest) rest }
@@ -78,7 +78,7 @@ pub fn this_sid_round_trips(sid: &Sid<'_>)
     is_sid(sid);
 }
 
-/// A sid is one: its uuid has sixteen bytes, its tag is one, and its numbers have their widths.
+/// A sid is valid: its uuid has sixteen bytes, its tag is a tag, and its numbers fit their widths.
 fn is_sid(sid: &Sid<'_>)
     ensures value { spec.IsSid sid.now }
 {
@@ -90,7 +90,7 @@ fn is_sid(sid: &Sid<'_>)
     }
 }
 
-/// Sids are sids.
+/// The sids of a list are valid.
 fn are_sids(sids: &[Sid<'_>])
     ensures value { spec.AreSids sids.now }
 {
@@ -99,7 +99,8 @@ fn are_sids(sids: &[Sid<'_>])
     }
 }
 
-/// This dump by GTID set is read back, whatever bytes follow, by either reader, where it is written as less than 2^32 bytes.
+/// This dump by GTID set is read back, whatever bytes follow, by either reader, if it is written in less than
+/// 2^32 bytes.
 pub fn this_binlog_dump_gtid_round_trips(dump: &ComBinlogDumpGtid<'_>)
     ensures lenient { (rest : List ℕ) → length (gtid_dump.bytes dump.now) < 2 ^ 32 → (gtid_dump.form false).Spells dump.now (gtid_dump.bytes dump.now ++ rest) rest }
     ensures strict { (rest : List ℕ) → length (gtid_dump.bytes dump.now) < 2 ^ 32 → (gtid_dump.form true).Spells dump.now (gtid_dump.bytes dump.now ++ rest) rest }
@@ -119,7 +120,7 @@ pub fn this_sid_text_round_trips(sid: &Sid<'_>)
     has_bytes(sid.uuid());
 }
 
-/// The text that is written of these sids is read as them, where a text was read as them.
+/// The written text of these sids is parsed as these sids, if they were parsed from a text.
 #[inline]
 #[tactic(auto, using(crate::proofs::GtidSetReadAgain::sets_read_again))]
 pub fn this_gtid_set_text_round_trips(sids: &[Sid<'_>])
@@ -128,7 +129,7 @@ pub fn this_gtid_set_text_round_trips(sids: &[Sid<'_>])
     are_sids(sids);
 }
 
-/// An array of bytes has bytes.
+/// The items of an array of bytes are bytes.
 fn has_bytes(array: [u8; UUID_LEN])
     ensures value { All (λ b. b < 256) array }
 {

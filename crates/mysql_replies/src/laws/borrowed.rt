@@ -15,7 +15,7 @@ ghost use Rattle.mysql_replies.specs.SqlState.{sql_state};
 use crate::ok_kind::OkPacketRefKind;
 use mysql_wire::MyDeserialize;
 
-/// Errors and progress reports that stay in their packet are read as the others are.
+/// Borrowed errors and progress reports are read like owned ones.
 pub fn borrowed_errors_read_errors()
     ensures packet { (capabilities : CapabilityFlags) (bytes : List ℕ) → (⟦<crate::err_packet_ref::ErrPacketRef<'static> as MyDeserialize<'static>>⟧.form capabilities).reads bytes ≡ (err_packet.form capabilities).reads bytes }
     ensures error { (context : ℕ × Bool) (bytes : List ℕ) → (⟦<crate::server_error_ref::ServerErrorRef<'static> as MyDeserialize<'static>>⟧.form context).reads bytes ≡ (server_error.form context).reads bytes }
@@ -23,22 +23,22 @@ pub fn borrowed_errors_read_errors()
     ensures report { (bytes : List ℕ) → (⟦<crate::progress_report_ref::ProgressReportRef<'static> as MyDeserialize<'static>>⟧.form tt).reads bytes ≡ (progress_report.form tt).reads bytes }
 {}
 
-/// Errors in place of the greeting that stay in their packet are read as the others are.
+/// Borrowed errors instead of the greeting are read like owned ones.
 pub fn borrowed_greeting_errors_read_greeting_errors()
     ensures read { (bytes : List ℕ) → (⟦<crate::greeting_error_ref::GreetingErrorRef<'static> as MyDeserialize<'static>>⟧.form tt).reads bytes ≡ (greeting_error.form tt).reads bytes }
 {}
 
-/// Requests for a local file that stay in their packet are read as the others are.
+/// Borrowed requests for a local file are read like owned ones.
 pub fn borrowed_local_infiles_read_local_infiles()
     ensures read { (bytes : List ℕ) → (⟦<crate::local_infile_ref::LocalInfilePacketRef<'static> as MyDeserialize<'static>>⟧.form tt).reads bytes ≡ (local_infile.form tt).reads bytes }
 {}
 
-/// OK packets of any kind that stay in their packet are read as the others are.
+/// Borrowed OK packets of any kind are read like owned ones.
 pub fn borrowed_ok_packets_read_ok_packets<T: OkPacketRefKind>()
     ensures read { (capabilities : CapabilityFlags) (bytes : List ℕ) → (⟦<crate::ok_packet_ref::OkPacketRefDeserializer<'static, T> as MyDeserialize<'static>>⟧.form capabilities).reads bytes ≡ (ok_packet T.HEADER (T.body capabilities)).reads bytes }
 {}
 
-/// Entries of a state string that stay in their packet are read as the others are.
+/// Borrowed entries of a state string are read like owned ones.
 pub fn borrowed_session_state_infos_read_session_state_infos()
     ensures read { (bytes : List ℕ) → (⟦<crate::session_state_info_ref::SessionStateInfoRef<'static> as MyDeserialize<'static>>⟧.form tt).reads bytes ≡ (session_state_info.form tt).reads bytes }
 {}

@@ -32,20 +32,20 @@ pub fn column_attribute_round_trips()
     ensures plain { (a : ColumnAttribute) (rest : List ℕ) → attribute_code a < 2 ^ 8 → length (attribute_text a) < 2 ^ 64 → (column_attribute.form tt).Spells a (column_attribute.bytes a ++ rest) rest }
 {}
 
-/// Without the flag a column is read and written as a `Column`.
+/// Without the flag, an extended column is read and written as a [`Column`](crate::Column).
 #[tactic(auto, using(crate::proofs::ExtendedColumns::without_the_flag))]
 pub fn extended_columns_without_the_flag_are_columns()
     ensures read { (capabilities : MariadbCapabilities) (bytes : List ℕ) → sends_metadata capabilities ≡ false → (extended_column.form capabilities).reads bytes ≡ without_metadata ((column.form tt).reads bytes) }
     ensures written { (c : Column) → extended_column.bytes (extended c None) ≡ column.bytes c }
 {}
 
-/// Columns and attributes that stay in their packet are read as the others are.
+/// Borrowed extended columns and attributes are read like owned ones.
 pub fn borrowed_extended_columns_read_extended_columns()
     ensures column { (capabilities : MariadbCapabilities) (bytes : List ℕ) → (⟦<crate::extended_column_ref::ExtendedColumnRef<'static> as MyDeserialize<'static>>⟧.form capabilities).reads bytes ≡ (extended_column.form capabilities).reads bytes }
     ensures attribute { (bytes : List ℕ) → (⟦<crate::column_attribute_ref::ColumnAttributeRef<'static> as MyDeserialize<'static>>⟧.form tt).reads bytes ≡ (column_attribute.form tt).reads bytes }
 {}
 
-/// Columns and attributes are equal exactly where they are the same.
+/// Columns and attributes compare equal exactly if they have the same value.
 #[tactic(auto, using(crate::proofs::ExtendedColumns::equal_extended_columns))]
 pub fn equal_extended_columns_are_the_same()
     ensures column { (x y : ExtendedColumn) → IsTrue (⟦<crate::extended_column::ExtendedColumn as PartialEq>⟧.eq x y) ↔ (x ≡ y) }

@@ -1,7 +1,7 @@
-//! Laws on a value at hand: what a caller can use of a packet that was made or read.
+//! Laws on a given value: facts about a packet that a caller has created or read.
 //!
-//! Each function reads the numbers and lengths of its value, which shows that they fit their widths. It has no result and no
-//! effect: inlined, it costs no instruction.
+//! Each function reads the numbers and lengths of its value, which shows that they fit their widths. It returns
+//! nothing and has no effect: inlined, it costs no instruction.
 #![tactic(auto, using(crate::proofs::PlainFits::plain))]
 
 ghost use Rattle.std.specs.Prelude.{◌≡◌, ◌++◌, ◌<◌, ◌^◌, [], ℕ, List, Ok, IfSome, is_some};
@@ -54,7 +54,7 @@ pub fn this_column_round_trips(column: &Column)
     has_column_widths(column);
 }
 
-/// The lengths and numbers of a column have their widths.
+/// The lengths and numbers of a column fit their widths.
 #[inline]
 fn has_column_widths(column: &Column)
     ensures value { spec.ColumnFits column.now }
@@ -70,8 +70,8 @@ fn has_column_widths(column: &Column)
     let _decimals = column.decimals();
 }
 
-/// This column is read back under these capabilities, whatever bytes follow, where it has metadata just where the flag asks for
-/// it.
+/// This column is read back under these capabilities, whatever bytes follow, provided that it has metadata if and
+/// only if the flag asks for it.
 #[inline]
 #[tactic(auto, using(crate::proofs::ExtendedColumns::extended_columns))]
 pub fn this_extended_column_round_trips(column: &ExtendedColumn)
@@ -84,8 +84,8 @@ pub fn this_extended_column_round_trips(column: &ExtendedColumn)
     }
 }
 
-/// This column with its default value is read back under these capabilities, whatever bytes follow, where it has metadata just
-/// where the flag asks for it.
+/// This column with its default value is read back under these capabilities, whatever bytes follow, provided that
+/// it has metadata if and only if the flag asks for it.
 #[inline]
 #[tactic(auto, using(crate::proofs::FieldListColumns::field_list_columns))]
 pub fn this_field_list_column_round_trips(definition: &FieldListColumn<'_>)
@@ -102,7 +102,7 @@ pub fn this_field_list_column_round_trips(definition: &FieldListColumn<'_>)
     }
 }
 
-/// The lengths and numbers of a column that stays in its packet have their widths.
+/// The lengths and numbers of a borrowed column fit their widths.
 #[inline]
 fn has_widths_in_place(column: &ColumnRef<'_>)
     ensures value { spec.ColumnFits column.now }
@@ -128,8 +128,8 @@ pub fn this_column_attribute_round_trips(attribute: &ColumnAttribute<'_>)
     let _text = attribute.text_ref().len();
 }
 
-/// This count of columns is read back, whatever bytes follow, where a byte says whether definitions follow just where the flags
-/// ask for it.
+/// This column count is read back, whatever bytes follow, provided that it has the metadata byte if and only if
+/// the flags ask for it.
 #[inline]
 pub fn this_column_count_round_trips(columns: &ColumnCount)
     ensures spelled { (capabilities : SessionCapabilities) (rest : List ℕ) → SuitsSession capabilities columns.now
@@ -147,8 +147,8 @@ pub fn this_local_infile_round_trips(request: &LocalInfilePacket<'_>)
     ensures spelled { (local_infile.form tt).Spells request.now (local_infile.bytes request.now) [] }
 {}
 
-/// This error in place of the greeting is read back if nothing follows; without a state its message does not begin as a state
-/// does.
+/// This error instead of the greeting is read back if nothing follows and, without a state, its message doesn't
+/// begin like a state.
 #[inline]
 #[tactic(auto, using(crate::proofs::GreetingErrors::greeting_errors))]
 pub fn this_greeting_error_round_trips(packet: &GreetingError<'_>)
@@ -157,7 +157,7 @@ pub fn this_greeting_error_round_trips(packet: &GreetingError<'_>)
     has_error_widths(packet.server_error());
 }
 
-/// The numbers of an error have their widths.
+/// The numbers of an error fit their widths.
 #[inline]
 fn has_error_widths(error: &ServerError<'_>)
     ensures value { (error_code error.now < 2 ^ 16) × StateHasWidth (sql_state_of error.now) }
@@ -168,7 +168,7 @@ fn has_error_widths(error: &ServerError<'_>)
     }
 }
 
-/// This progress report is read back, whatever bytes follow, where its progress has three bytes.
+/// This progress report is read back, whatever bytes follow, if its progress fits in three bytes.
 #[inline]
 pub fn this_progress_report_round_trips(report: &ProgressReport<'_>)
     ensures spelled { (rest : List ℕ) → progress report.now < 2 ^ 24 → (progress_report.form tt).Spells report.now (progress_report.bytes report.now ++ rest) rest }
@@ -178,7 +178,7 @@ pub fn this_progress_report_round_trips(report: &ProgressReport<'_>)
     let _stage_info = report.stage_info_ref().len();
 }
 
-/// This error is read back if nothing follows and the reader is passed its code, and whether it has a state.
+/// This error is read back if nothing follows and the reader is passed its code and whether it has a state.
 #[inline]
 pub fn this_server_error_round_trips(error: &ServerError<'_>)
     ensures spelled { (server_error.form (error_code error.now, is_some (sql_state_of error.now))).Spells error.now (server_error.bytes error.now) [] }
@@ -188,8 +188,9 @@ pub fn this_server_error_round_trips(error: &ServerError<'_>)
     }
 }
 
-/// This error packet is read back if nothing follows and the flags of both sides suit it: a report is taken, and its progress
-/// has three bytes; an error has a state just under protocol 4.1, and is no report by its code.
+/// This error packet is read back if nothing follows and it suits the flags of both sides: a report needs
+/// `CLIENT_PROGRESS_OBSOLETE`, and its progress fits in three bytes; an error has a state exactly under
+/// `CLIENT_PROTOCOL_41`, and its code doesn't make it a report.
 #[inline]
 #[tactic(auto, using(crate::proofs::PlainFits::plain, crate::proofs::ErrPacketFits::err_packets))]
 pub fn this_err_packet_round_trips(packet: &ErrPacket<'_>)
@@ -198,7 +199,7 @@ pub fn this_err_packet_round_trips(packet: &ErrPacket<'_>)
     has_widths(packet);
 }
 
-/// The numbers of an error packet have their widths, except for a report's progress.
+/// The numbers of an error packet fit their widths, except for a report's progress.
 #[inline]
 fn has_widths(packet: &ErrPacket<'_>)
     ensures value { HasWidths packet.now }
@@ -221,7 +222,7 @@ pub fn this_session_state_info_round_trips(info: &SessionStateInfo<'_>)
     let _data = info.data_ref().len();
 }
 
-/// The written bytes of this change are decoded as the same change.
+/// The bytes that are written of this change are decoded as the same change.
 #[inline]
 #[tactic(auto, using(crate::proofs::SentChangeAgain::sent_changes))]
 pub fn this_sent_change_round_trips(change: &SessionStateChange<'_>)
@@ -239,7 +240,7 @@ pub fn this_sql_state_round_trips(state: &SqlState)
     ensures spelled { (rest : List ℕ) → (sql_state.form tt).Spells state.now (sql_state.bytes state.now ++ rest) rest }
 {}
 
-/// An OK packet that was read as its kind under these flags is sent as the same.
+/// An OK packet that was read as a kind under some flags is read back if it is written as that kind under these flags.
 #[inline]
 #[tactic(auto, using(crate::proofs::OkPacketRead::read_again))]
 pub fn this_ok_packet_round_trips(packet: &OkPacket<'_>)
@@ -256,7 +257,7 @@ pub fn this_ok_packet_round_trips(packet: &OkPacket<'_>)
     has_ok_widths(packet);
 }
 
-/// The numbers and lengths of an OK packet have their widths.
+/// The numbers and lengths of an OK packet fit their widths.
 #[inline]
 fn has_ok_widths(packet: &OkPacket<'_>)
     ensures value { HasOkWidths packet.now }

@@ -1,7 +1,7 @@
-//! Laws on a value at hand: what a caller can use of a change that was made or read.
+//! Laws on a given value: facts about a change that a caller has created or read.
 //!
-//! Each function reads the lengths of its value, which shows that they fit in eight bytes. It has no result and no effect:
-//! inlined, it costs no instruction.
+//! Each function reads the lengths of its value, which shows that they fit in eight bytes. It returns nothing
+//! and has no effect: inlined, it costs no instruction.
 #![tactic(auto, using(crate::proofs::PlainFits::plain))]
 
 ghost use Rattle.std.specs.Prelude.{◌++◌, [], ℕ, List};
@@ -18,7 +18,7 @@ use crate::system_variable::SystemVariable;
 use crate::system_variables::SystemVariables;
 use mysql_wire::LenEnc;
 
-/// A part of a change is read back, whatever bytes follow.
+/// This part of a change is read back, whatever bytes follow.
 #[inline]
 pub fn this_session_text_round_trips<N>(text: &SessionText<'_, N, LenEnc>)
     ensures spelled { (rest : List ℕ) → (lenenc_text.form tt).Spells text.now (lenenc_text.bytes text.now ++ rest) rest }
@@ -26,13 +26,13 @@ pub fn this_session_text_round_trips<N>(text: &SessionText<'_, N, LenEnc>)
     let _bytes = text.as_bytes().len();
 }
 
-/// GTIDs are read back if nothing follows.
+/// These GTIDs are read back if nothing follows.
 #[inline]
 pub fn these_gtids_round_trips(set: &Gtids<'_>)
     ensures spelled { (gtids.form tt).Spells set.now (gtids.bytes set.now) [] }
 {}
 
-/// A system variable is read back, whatever bytes follow.
+/// This system variable is read back, whatever bytes follow.
 #[inline]
 pub fn this_system_variable_round_trips(variable: &SystemVariable<'_>)
     ensures fits { SystemVariableFits variable.now }
@@ -42,7 +42,7 @@ pub fn this_system_variable_round_trips(variable: &SystemVariable<'_>)
     let _value = variable.value_bytes().len();
 }
 
-/// System variables are read back if nothing follows.
+/// These system variables are read back if nothing follows.
 #[inline]
 pub fn these_system_variables_round_trips(variables: &SystemVariables<'_>)
     ensures fits { All SystemVariableFits variables.now }
@@ -61,7 +61,7 @@ fn are_short(variables: &[SystemVariable<'_>])
     }
 }
 
-/// A change is read back if nothing follows and the reader is passed its type.
+/// This change is read back if nothing follows and the reader is passed its type.
 #[inline]
 pub fn this_session_state_change_round_trips(change: &SessionStateChange<'_>)
     ensures fits { ChangeIsShort change.now }

@@ -32,7 +32,7 @@ pub enum ColumnType {
     MYSQL_TYPE_INT24 = 9,
     /// A date.
     MYSQL_TYPE_DATE = 10,
-    /// A time, or a length of time.
+    /// A time of day, or a duration.
     MYSQL_TYPE_TIME = 11,
     /// A date and a time.
     MYSQL_TYPE_DATETIME = 12,
@@ -80,7 +80,7 @@ pub enum ColumnType {
     MYSQL_TYPE_GEOMETRY = 255,
 }
 
-/// A code that no [`ColumnType`] has.
+/// The error for a code that [`ColumnType`] does not have.
 #[derive(Clone, Copy, Debug, PartialEq, Eq, Hash, Error)]
 #[error("Unknown column type")]
 pub struct UnknownColumnType(pub u8);
@@ -143,7 +143,7 @@ impl ConstValue<u8> for ColumnType {
     ghost read_back = { column_type-back };
 }
 
-/// The type with that code; a code without one is the error.
+/// Converts a code to its type; an unknown code is returned as the error.
 impl TryFrom<u8> for ColumnType {
     type Error = UnknownColumnType;
 
@@ -155,7 +155,7 @@ impl TryFrom<u8> for ColumnType {
     }
 }
 
-/// The code.
+/// Converts to the code.
 impl From<ColumnType> for u8 {
     ghost from_gives = { λ value code. code ≡ column_type_code value };
 

@@ -21,7 +21,7 @@ pub const COM_CREATE_DB: u8 = 0x05;
 /// Drops a schema.
 pub const COM_DROP_DB: u8 = 0x06;
 
-/// Empties caches and begins logs anew.
+/// Flushes caches and starts new logs.
 pub const COM_REFRESH: u8 = 0x07;
 
 /// Shuts the server down.

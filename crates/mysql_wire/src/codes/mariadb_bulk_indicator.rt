@@ -16,11 +16,11 @@ pub enum MariadbBulkIndicator {
     BULK_INDICATOR_NULL = 1,
     /// The value is the column's default.
     BULK_INDICATOR_DEFAULT = 2,
-    /// The column is left as it is.
+    /// The column is left unchanged.
     BULK_INDICATOR_IGNORE = 3,
 }
 
-/// A code that no [`MariadbBulkIndicator`] has.
+/// The error for a code that [`MariadbBulkIndicator`] does not have.
 #[derive(Clone, Copy, Debug, PartialEq, Eq, Hash, Error)]
 #[error("Unknown bulk indicator")]
 pub struct UnknownMariadbBulkIndicator(pub u8);
@@ -53,7 +53,7 @@ impl ConstValue<u8> for MariadbBulkIndicator {
     ghost read_back = { mariadb_bulk_indicator-back };
 }
 
-/// The indicator with that code; a code without one is the error.
+/// Converts a code to its indicator; an unknown code is returned as the error.
 impl TryFrom<u8> for MariadbBulkIndicator {
     type Error = UnknownMariadbBulkIndicator;
 
@@ -65,7 +65,7 @@ impl TryFrom<u8> for MariadbBulkIndicator {
     }
 }
 
-/// The code.
+/// Converts to the code.
 impl From<MariadbBulkIndicator> for u8 {
     ghost from_gives = { λ value code. code ≡ mariadb_bulk_indicator_code value };
 

@@ -7,7 +7,7 @@ ghost use Rattle.mysql_wire.specs.ServerCommand.{server_command_code, server_com
 use crate::constant_value::ConstValue;
 use thiserror::Error;
 
-/// `enum_server_command`: what a client asks of a server, in the first byte of its packet.
+/// `enum_server_command`: the command that a client sends, in the first byte of its packet.
 ///
 /// ```
 /// ServerCommand::try_from(first).ok()
@@ -28,7 +28,7 @@ pub enum ServerCommand {
     COM_CREATE_DB = 5,
     /// Drops a schema.
     COM_DROP_DB = 6,
-    /// Empties caches and begins logs anew.
+    /// Flushes caches and starts new logs.
     COM_REFRESH = 7,
     /// Shuts the server down.
     COM_SHUTDOWN = 8,
@@ -94,7 +94,7 @@ pub enum ServerCommand {
     COM_MULTI = 254,
 }
 
-/// A code that no [`ServerCommand`] has.
+/// The error for a code that [`ServerCommand`] does not have.
 #[derive(Clone, Copy, Debug, PartialEq, Eq, Hash, Error)]
 #[error("Unknown command")]
 pub struct UnknownServerCommand(pub u8);
@@ -162,7 +162,7 @@ impl ConstValue<u8> for ServerCommand {
     ghost read_back = { server_command-back };
 }
 
-/// The command with that code; a code without one is the error.
+/// Converts a code to its command; an unknown code is returned as the error.
 impl TryFrom<u8> for ServerCommand {
     type Error = UnknownServerCommand;
 
@@ -174,7 +174,7 @@ impl TryFrom<u8> for ServerCommand {
     }
 }
 
-/// The code.
+/// Converts to the code.
 impl From<ServerCommand> for u8 {
     ghost from_gives = { λ value code. code ≡ server_command_code value };
 

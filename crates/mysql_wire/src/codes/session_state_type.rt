@@ -7,7 +7,7 @@ ghost use Rattle.mysql_wire.specs.SessionStateType.{session_state_type_code, ses
 use crate::constant_value::ConstValue;
 use thiserror::Error;
 
-/// `enum_session_state_type`: what of a session's state has changed, in a byte.
+/// `enum_session_state_type`: which part of a session's state has changed, in a byte.
 #[derive(Clone, Copy, Debug, PartialEq, Eq, Hash)]
 pub enum SessionStateType {
     /// System variables.
@@ -24,7 +24,7 @@ pub enum SessionStateType {
     SESSION_TRACK_TRANSACTION_STATE = 5,
 }
 
-/// A code that no [`SessionStateType`] has.
+/// The error for a code that [`SessionStateType`] does not have.
 #[derive(Clone, Copy, Debug, PartialEq, Eq, Hash, Error)]
 #[error("Unknown session state type")]
 pub struct UnknownSessionStateType(pub u8);
@@ -59,7 +59,7 @@ impl ConstValue<u8> for SessionStateType {
     ghost read_back = { session_state_type-back };
 }
 
-/// The type with that code; a code without one is the error.
+/// Converts a code to its type; an unknown code is returned as the error.
 impl TryFrom<u8> for SessionStateType {
     type Error = UnknownSessionStateType;
 
@@ -71,7 +71,7 @@ impl TryFrom<u8> for SessionStateType {
     }
 }
 
-/// The code.
+/// Converts to the code.
 impl From<SessionStateType> for u8 {
     ghost from_gives = { λ value code. code ≡ session_state_type_code value };
 

@@ -14,7 +14,7 @@ pub struct BinlogDumpNames;
 pub type BinlogDumpFlags = FlagWord<BinlogDumpNames, u16>;
 
 impl FlagWord<BinlogDumpNames, u16> {
-    /// At the end of the log an EOF packet is sent, in place of waiting.
+    /// At the end of the log, the server sends an EOF packet instead of waiting.
     pub const BINLOG_DUMP_NON_BLOCK: BinlogDumpFlags = FlagWord(1 << 0, PhantomData);
 
     /// The log is sent from a position.

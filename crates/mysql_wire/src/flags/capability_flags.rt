@@ -14,10 +14,10 @@ pub struct CapabilityNames;
 pub type CapabilityFlags = FlagWord<CapabilityNames, u32>;
 
 impl FlagWord<CapabilityNames, u32> {
-    /// Passwords of MySQL 4.1 and later. A MariaDB server that leaves it out has capabilities of its own.
+    /// Passwords of MySQL 4.1 and later. A MariaDB server that leaves it out has extended capabilities.
     pub const CLIENT_LONG_PASSWORD: CapabilityFlags = FlagWord(1 << 0, PhantomData);
 
-    /// An OK packet counts the rows that were found, in place of those that were changed.
+    /// OK packets count the rows found instead of the rows changed.
     pub const CLIENT_FOUND_ROWS: CapabilityFlags = FlagWord(1 << 1, PhantomData);
 
     /// A column's flags take two bytes.
@@ -44,22 +44,22 @@ impl FlagWord<CapabilityNames, u32> {
     /// The protocol of MySQL 4.1 and later.
     pub const CLIENT_PROTOCOL_41: CapabilityFlags = FlagWord(1 << 9, PhantomData);
 
-    /// The session ends after `interactive_timeout`, in place of `wait_timeout`.
+    /// The session times out after `interactive_timeout` instead of `wait_timeout`.
     pub const CLIENT_INTERACTIVE: CapabilityFlags = FlagWord(1 << 10, PhantomData);
 
-    /// The connection is encrypted after the request for it.
+    /// The connection is encrypted after the client's request for TLS.
     pub const CLIENT_SSL: CapabilityFlags = FlagWord(1 << 11, PhantomData);
 
     /// The client ignores SIGPIPE. It is never sent.
     pub const CLIENT_IGNORE_SIGPIPE: CapabilityFlags = FlagWord(1 << 12, PhantomData);
 
-    /// The status flags tell of transactions.
+    /// The status flags report transactions.
     pub const CLIENT_TRANSACTIONS: CapabilityFlags = FlagWord(1 << 13, PhantomData);
 
     /// Reserved: the protocol of MySQL 4.1, by its old number.
     pub const CLIENT_RESERVED: CapabilityFlags = FlagWord(1 << 14, PhantomData);
 
-    /// Authentication with a scramble of 20 bytes; the client's response has a length in front.
+    /// Authentication with a scramble of 20 bytes; the client's response is preceded by its length.
     pub const CLIENT_SECURE_CONNECTION: CapabilityFlags = FlagWord(1 << 15, PhantomData);
 
     /// A query may hold several statements.
@@ -86,7 +86,7 @@ impl FlagWord<CapabilityNames, u32> {
     /// The client may log in with a password that has expired, to set another.
     pub const CLIENT_CAN_HANDLE_EXPIRED_PASSWORDS: CapabilityFlags = FlagWord(1 << 22, PhantomData);
 
-    /// OK packets tell what changed in the session.
+    /// OK packets report changes of the session's state.
     pub const CLIENT_SESSION_TRACK: CapabilityFlags = FlagWord(1 << 23, PhantomData);
 
     /// A result ends with an OK packet, and no EOF packet follows its columns.
@@ -104,7 +104,7 @@ impl FlagWord<CapabilityNames, u32> {
     /// A login may take several factors (MySQL).
     pub const MULTI_FACTOR_AUTHENTICATION: CapabilityFlags = FlagWord(1 << 28, PhantomData);
 
-    /// The client takes progress reports (MariaDB).
+    /// The client accepts progress reports (MariaDB).
     pub const CLIENT_PROGRESS_OBSOLETE: CapabilityFlags = FlagWord(1 << 29, PhantomData);
 
     /// The client checks the server's certificate. It is never sent.

@@ -10,7 +10,7 @@ use std::marker::PhantomData;
 /// The names of [`ColumnFlags`].
 pub struct ColumnFlagNames;
 
-/// `Protocol::ColumnDefinition41`'s flags: what holds of the values of a column, in two bytes.
+/// `Protocol::ColumnDefinition41`'s flags: the attributes of a column, in two bytes.
 pub type ColumnFlags = FlagWord<ColumnFlagNames, u16>;
 
 impl FlagWord<ColumnFlagNames, u16> {
@@ -29,10 +29,10 @@ impl FlagWord<ColumnFlagNames, u16> {
     /// The column is a BLOB or a TEXT.
     pub const BLOB_FLAG: ColumnFlags = FlagWord(1 << 4, PhantomData);
 
-    /// No number is negative.
+    /// Numbers are unsigned.
     pub const UNSIGNED_FLAG: ColumnFlags = FlagWord(1 << 5, PhantomData);
 
-    /// Numbers are shown with zeros in front.
+    /// Numbers are shown with leading zeros.
     pub const ZEROFILL_FLAG: ColumnFlags = FlagWord(1 << 6, PhantomData);
 
     /// Strings are bytes, or are compared by their bytes.
@@ -41,7 +41,7 @@ impl FlagWord<ColumnFlagNames, u16> {
     /// The column is an ENUM.
     pub const ENUM_FLAG: ColumnFlags = FlagWord(1 << 8, PhantomData);
 
-    /// The server counts the values on.
+    /// The column is AUTO_INCREMENT.
     pub const AUTO_INCREMENT_FLAG: ColumnFlags = FlagWord(1 << 9, PhantomData);
 
     /// The column is a TIMESTAMP.
@@ -53,7 +53,7 @@ impl FlagWord<ColumnFlagNames, u16> {
     /// The column has no default value.
     pub const NO_DEFAULT_VALUE_FLAG: ColumnFlags = FlagWord(1 << 12, PhantomData);
 
-    /// An update sets the column to the time.
+    /// An update sets the column to the current time.
     pub const ON_UPDATE_NOW_FLAG: ColumnFlags = FlagWord(1 << 13, PhantomData);
 
     /// The column is part of a key.

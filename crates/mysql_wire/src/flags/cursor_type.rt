@@ -14,16 +14,16 @@ pub struct CursorNames;
 pub type CursorType = FlagWord<CursorNames, u8>;
 
 impl FlagWord<CursorNames, u8> {
-    /// None.
+    /// No cursor.
     pub const CURSOR_TYPE_NO_CURSOR: CursorType = FlagWord(0, PhantomData);
 
-    /// Rows are fetched, and only read.
+    /// A cursor that only reads rows.
     pub const CURSOR_TYPE_READ_ONLY: CursorType = FlagWord(1 << 0, PhantomData);
 
-    /// Rows are fetched to be changed.
+    /// A cursor for updates.
     pub const CURSOR_TYPE_FOR_UPDATE: CursorType = FlagWord(1 << 1, PhantomData);
 
-    /// Rows are fetched in any order.
+    /// A scrollable cursor: rows are fetched in any order.
     pub const CURSOR_TYPE_SCROLLABLE: CursorType = FlagWord(1 << 2, PhantomData);
 
     /// The count of parameters is sent (MySQL, under CLIENT_QUERY_ATTRIBUTES).

@@ -14,13 +14,13 @@ pub struct MariadbCapabilityNames;
 pub type MariadbCapabilities = FlagWord<MariadbCapabilityNames, u32>;
 
 impl FlagWord<MariadbCapabilityNames, u32> {
-    /// The client takes progress reports.
+    /// The client accepts progress reports.
     pub const MARIADB_CLIENT_PROGRESS: MariadbCapabilities = FlagWord(1 << 0, PhantomData);
 
-    /// `COM_MULTI` is understood. No server offers it today.
+    /// `COM_MULTI` is supported. No server offers it today.
     pub const MARIADB_CLIENT_COM_MULTI: MariadbCapabilities = FlagWord(1 << 1, PhantomData);
 
-    /// `COM_STMT_BULK_EXECUTE` is understood.
+    /// `COM_STMT_BULK_EXECUTE` is supported.
     pub const MARIADB_CLIENT_STMT_BULK_OPERATIONS: MariadbCapabilities = FlagWord(
         1 << 2,
         PhantomData,
@@ -29,7 +29,7 @@ impl FlagWord<MariadbCapabilityNames, u32> {
     /// A column's definition names its type and its format.
     pub const MARIADB_CLIENT_EXTENDED_METADATA: MariadbCapabilities = FlagWord(1 << 3, PhantomData);
 
-    /// The columns of a result may be left out where the client has them.
+    /// The columns of a result may be left out if the client has cached them.
     pub const MARIADB_CLIENT_CACHE_METADATA: MariadbCapabilities = FlagWord(1 << 4, PhantomData);
 
     /// Each row of a bulk request may have its own result.

@@ -41,7 +41,7 @@ impl FlagWord<StatusNames, u16> {
     /// A backslash in a string escapes nothing.
     pub const SERVER_STATUS_NO_BACKSLASH_ESCAPES: StatusFlags = FlagWord(1 << 9, PhantomData);
 
-    /// A statement that was prepared has other columns than before.
+    /// The columns of a prepared statement have changed.
     pub const SERVER_STATUS_METADATA_CHANGED: StatusFlags = FlagWord(1 << 10, PhantomData);
 
     /// The query took longer than `long_query_time`.
@@ -50,10 +50,10 @@ impl FlagWord<StatusNames, u16> {
     /// The result holds the values of OUT parameters.
     pub const SERVER_PS_OUT_PARAMS: StatusFlags = FlagWord(1 << 12, PhantomData);
 
-    /// The open transaction only reads.
+    /// The open transaction is read-only.
     pub const SERVER_STATUS_IN_TRANS_READONLY: StatusFlags = FlagWord(1 << 13, PhantomData);
 
-    /// The session has changed; the packet tells how.
+    /// The session's state has changed; the packet says how.
     pub const SERVER_SESSION_STATE_CHANGED: StatusFlags = FlagWord(1 << 14, PhantomData);
 
     /// `"` quotes names (MariaDB).

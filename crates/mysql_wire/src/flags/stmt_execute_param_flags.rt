@@ -14,7 +14,7 @@ pub struct StmtExecuteParamNames;
 pub type StmtExecuteParamFlags = FlagWord<StmtExecuteParamNames, u8>;
 
 impl FlagWord<StmtExecuteParamNames, u8> {
-    /// The number is not negative.
+    /// The number is unsigned.
     pub const UNSIGNED: StmtExecuteParamFlags = FlagWord(1 << 7, PhantomData);
 
     const FLAGS: &'static [Flag<StmtExecuteParamFlags>] =

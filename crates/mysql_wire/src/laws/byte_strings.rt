@@ -10,19 +10,19 @@ ghost use Rattle.mysql_wire.specs.Spelling.{IsSpelling};
 
 use crate::const_bytes::{ConstBytes, ConstBytesValue};
 
-/// A content without a zero is read again in front of the zero that ends it, whatever bytes follow.
+/// A content without a zero byte, with a terminating zero, is read back, whatever bytes follow.
 #[tactic(auto, using(crate::specs::BytesAgain::byte_strings_again))]
 pub fn null_string_round_trips()
     ensures { (content : List ℕ) → HasNoZero content → IsSpelling null_string content (null_bytes content) }
 {}
 
-/// A content of at most 255 bytes is read again after its count of one byte, whatever bytes follow.
+/// A content of at most 255 bytes, after its count of one byte, is read back, whatever bytes follow.
 #[tactic(auto, using(crate::specs::BytesAgain::byte_strings_again))]
 pub fn u8_string_round_trips()
     ensures { (content : List ℕ) → length content < 2 ^ 8 → IsSpelling u8_string content (u8_string_bytes content) }
 {}
 
-/// A content of less than 2^32 bytes is read again after its count of four bytes, whatever bytes follow.
+/// A content of less than 2^32 bytes, after its count of four bytes, is read back, whatever bytes follow.
 #[tactic(auto, using(crate::specs::BytesAgain::byte_strings_again))]
 pub fn u32_string_round_trips()
     ensures { (content : List ℕ) → length content < 2 ^ 32 → IsSpelling u32_string content (u32_string_bytes content) }
@@ -34,19 +34,19 @@ pub fn bare_string_round_trips()
     ensures { (most n : ℕ) (content : List ℕ) → length content ≡ n → n ≤ most → IsSpelling (bare n) content (take most content) }
 {}
 
-/// A content that runs to the end is read again where nothing follows.
+/// A content that runs to the end of the packet is read back if nothing follows it.
 #[tactic(auto, using(crate::specs::BytesAgain::byte_strings_again))]
 pub fn rest_round_trips()
     ensures { (content : List ℕ) → all_left.Spells content (content ++ []) [] }
 {}
 
-/// An array is read again, whatever bytes follow.
+/// An array is read back, whatever bytes follow.
 #[tactic(auto, using(crate::specs::BytesAgain::byte_strings_again))]
 pub fn array_round_trips()
     ensures { (n : ℕ) (content : List ℕ) → length content ≡ n → IsSpelling (bytes n) content content }
 {}
 
-/// A constant byte string is read again, whatever bytes follow.
+/// A constant byte string is read back, whatever bytes follow.
 #[tactic(auto, using(crate::specs::BytesAgain::byte_strings_again))]
 pub fn const_bytes_round_trips<T: ConstBytesValue<LEN>, const LEN: usize>()
     ensures { (v : ConstBytes T LEN) → IsSpelling (const_bytes LEN T.VALUE) v T.VALUE }

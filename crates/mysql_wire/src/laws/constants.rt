@@ -11,26 +11,26 @@ use crate::constant::{ConstU8, ConstU32};
 use crate::proto::MyDeserialize;
 use crate::skip::Skip;
 
-/// A byte that has one value is read again, whatever bytes follow.
+/// A constant byte is read back, whatever bytes follow.
 #[tactic(auto, using(crate::specs::Spelling::constants_again))]
 pub fn const_u8_round_trips<T, const VALUE: u8>()
     ensures { (v : ConstU8 T VALUE) → IsSpelling (const_byte VALUE) v (VALUE ∷ []) }
 {}
 
-/// A number of four bytes that has one value is read again, whatever bytes follow.
+/// A constant number of four bytes is read back, whatever bytes follow.
 #[tactic(auto, using(crate::specs::Spelling::constants_again))]
 pub fn const_u32_round_trips<T, const VALUE: u32>()
     ensures { (v : ConstU32 T VALUE) → IsSpelling (const_le_u32 VALUE) v (le_bytes 4 VALUE) }
 {}
 
-/// The zeros that are written for skipped bytes are skipped again, whatever bytes follow.
+/// The zeros that are written for skipped bytes are skipped when read back, whatever bytes follow.
 #[tactic(auto, using(crate::specs::Spelling::constants_again))]
 pub fn skip_round_trips<const N: usize>()
     ensures { (v : Skip N) → IsSpelling (skip N) v (replicate N 0) }
 {}
 
-/// A block whose bytes are a spelling of a value, with nothing after it, is a spelling of that value, whatever bytes follow the
-/// block.
+/// If the bytes of a block are a spelling of a value, with nothing after it, the block is a spelling of that
+/// value, whatever bytes follow the block.
 #[tactic(auto, using(crate::specs::Spelling::constants_again))]
 pub fn block_round_trips<'de, T: MyDeserialize<'de>>()
     ensures { (ctx : T.Ctx) (v : T) (text : List ℕ) → (T.form ctx).Spells v text [] → IsSpelling (block (length text) (T.form ctx)) v text }

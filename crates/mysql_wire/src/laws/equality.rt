@@ -9,7 +9,7 @@ use crate::int::{IntRepr, RawInt};
 use crate::seq::Seq;
 use std::hash::Hash;
 
-/// Byte strings with one content are equal and hash equally, borrowed or owned.
+/// Byte strings with the same content are equal and hash equally, borrowed or owned.
 pub fn equal_byte_strings_hash_equally<R>()
     ensures { (x y : List ℕ) → ⟦<RawBytes<'static, R> as PartialEq>⟧.eq x y ≡ true → ⟦<RawBytes<'static, R> as Hash>⟧.hash_input x ≡ ⟦<RawBytes<'static, R> as Hash>⟧.hash_input y }
 {}

@@ -1,4 +1,4 @@
-//! Which fault a reading returns if there are several.
+//! Which fault a reader returns if there are several.
 
 ghost use Rattle.std.specs.Prelude.{◌≡◌, ◌<◌, ◌∷◌, ◌++◌, length, ℕ, List, Err};
 ghost use Rattle.mysql_wire.specs.Form.{block};
@@ -8,8 +8,8 @@ ghost use Rattle.mysql_wire.specs.declared.fault.FaultKind.TheVariants.{InvalidD
 
 use crate::proto::MyDeserialize;
 
-/// Of one value and then another, which may depend on the first: a fault of the first value is returned; otherwise, that of the
-/// second, on the bytes after the first.
+/// Reading a value and then another, which may depend on the first, returns the fault of the first if it has
+/// one; otherwise, that of the second, on the bytes after the first.
 pub fn first_fault_comes_first<'de, A: MyDeserialize<'de>, B: MyDeserialize<'de>>()
     ensures first { (ctx : A.Ctx) (next : A → B.Ctx) (bytes : List ℕ) (fault : FaultKind) → (A.form ctx).reads bytes ≡ Err fault
         → then_reads (A.form ctx) (λ a. B.form (next a)) bytes ≡ Err fault }

@@ -1,9 +1,9 @@
 use Rattle.std.proofs.Common.{◌≡◌, ◌<◌, ◌+◌, ◌++◌, ℕ, List, length, drop, get_or, ap, sym, ◌∙◌, arith, append_assoc, length-append}
 use Rattle.std.proofs.lemmas.List.{append-nil, drop-drop, get_or_default}
 use Rattle.mysql_values.specs.Value.{Content}
-use Rattle.mysql_prepared.specs.BinaryRow.{bin_in, values_bytes}
-use Rattle.mysql_prepared.specs.ExecuteParam.{contents, value_of}
-use Rattle.mysql_prepared.proofs.RowBytes.{bytes-next, length-next, bytes-end}
+use Rattle.mysql_stmt.specs.BinaryRow.{bin_in, values_bytes}
+use Rattle.mysql_stmt.specs.ExecuteParam.{contents, value_of}
+use Rattle.mysql_stmt.proofs.RowBytes.{bytes-next, length-next, bytes-end}
 use Rattle.mysql_packets_c.specs.ColumnType.{type_of, unsigned_of}
 use Rattle.mysql_packets_c.specs.Execution.{param}
 use Rattle.mysql_packets_c.specs.declared.value.CValue.{CValue}

@@ -1,6 +1,6 @@
 use Rattle.std.proofs.Common.{◌≡◌, ◌++◌, ◌≤◌, length, drop}
-use Rattle.mysql_prepared.specs.BinaryRow.{values_bytes}
-use Rattle.mysql_prepared.specs.ExecuteParam.{contents}
+use Rattle.mysql_stmt.specs.BinaryRow.{values_bytes}
+use Rattle.mysql_stmt.specs.ExecuteParam.{contents}
 use Rattle.mysql_packets_c.specs.ColumnType.{type_of, unsigned_of}
 use Rattle.mysql_packets_c.specs.Execution.{param}
 use Rattle.mysql_packets_c.proofs.binary_row.append_values.Given as goal

@@ -1,9 +1,9 @@
 use Rattle.std.proofs.Common.{◌≡◌, ◌+◌, ◌*◌, ◌/◌, ◌%◌, ◌∷◌, [], refl, Bool, if◌then◌else◌, ℕ, List, map, take, get_or, sym, ap, ◌∙◌, arith}
 use Rattle.std.proofs.lemmas.List.{get_or_default, length-map, take_all}
 use Rattle.std.proofs.lemmas.Simd.{map-map}
-use Rattle.mysql_prepared.specs.Bitmap.{bytes_for, cell}
-use Rattle.mysql_prepared.specs.NullMarks.{null_bit}
-use Rattle.mysql_prepared.proofs.Nulls.{bit-zeros, cell-zeros, next_marked, next_unmarked}
+use Rattle.mysql_stmt.specs.Bitmap.{bytes_for, cell}
+use Rattle.mysql_stmt.specs.NullMarks.{null_bit}
+use Rattle.mysql_stmt.proofs.Nulls.{bit-zeros, cell-zeros, next_marked, next_unmarked}
 use Rattle.mysql_packets_c.specs.Value.{value_content}
 use Rattle.mysql_packets_c.specs.declared.value.CValue.{CValue}
 use Rattle.mysql_packets_c.proofs.BinaryRows.{no_value}

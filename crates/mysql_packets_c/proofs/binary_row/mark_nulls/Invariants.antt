@@ -1,6 +1,6 @@
 use Rattle.std.proofs.Common.{◌≡◌, ◌∷◌, ℕ, length, map, take, get_or}
-use Rattle.mysql_prepared.specs.Bitmap.{cell}
-use Rattle.mysql_prepared.specs.NullMarks.{null_bit}
+use Rattle.mysql_stmt.specs.Bitmap.{cell}
+use Rattle.mysql_stmt.specs.NullMarks.{null_bit}
 use Rattle.mysql_packets_c.specs.Value.{value_content}
 use Rattle.mysql_packets_c.proofs.binary_row.mark_nulls.Given as goal
 

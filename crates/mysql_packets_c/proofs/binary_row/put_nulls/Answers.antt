@@ -1,5 +1,5 @@
 use Rattle.std.proofs.Common.{List, subst, sym}
-use Rattle.mysql_prepared.specs.NullMarks.{MarksNulls}
+use Rattle.mysql_stmt.specs.NullMarks.{MarksNulls}
 use Rattle.mysql_values.specs.Value.{Content}
 use Rattle.mysql_packets_c.proofs.binary_row.put_nulls.Goals as goal
 

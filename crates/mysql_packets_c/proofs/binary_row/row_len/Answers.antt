@@ -1,7 +1,7 @@
 use Rattle.std.proofs.Common.{ap, arith}
 use Rattle.std.proofs.lemmas.List.{length-map}
 use Rattle.mysql_wire.specs.Writing.{saturated}
-use Rattle.mysql_prepared.specs.Bitmap.{bytes_for}
+use Rattle.mysql_stmt.specs.Bitmap.{bytes_for}
 use Rattle.mysql_packets_c.specs.Value.{value_content}
 use Rattle.mysql_packets_c.proofs.binary_row.row_len.Goals as goal
 

@@ -1,7 +1,7 @@
 use Rattle.std.proofs.Common.{rules, ◌<◌, ◌*◌, ◌^◌, ◌%◌, ◌∙◌, ℕ, arith, w8, bit_or, slice_index_or}
 use Rattle.std.proofs.lemmas.Nat.{or_of_8}
 use Rattle.std.proofs.lemmas.Nat.Bits.{bit_at_set_same, bit_at_set_other}
-use Rattle.mysql_prepared.proofs.Cells.{IsBytes, cell-set_same, cell-set_other}
+use Rattle.mysql_stmt.proofs.Cells.{IsBytes, cell-set_same, cell-set_other}
 use Rattle.mysql_packets_c.proofs.binary_row.set_bit.Goals as goal
 
 set_small : (b k : ℕ) → b < 256 → bit_or b (1 * 2 ^ k % 256) < 256

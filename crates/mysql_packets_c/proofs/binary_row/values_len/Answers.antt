@@ -1,7 +1,7 @@
 use Rattle.std.proofs.Common.{◌<◌, ◌≤◌, ◌+◌, ◌&&◌, Bool, length, drop, get_or, ap, ◌∙◌, arith}
 use Rattle.std.proofs.lemmas.List.{get_or_default}
 use Rattle.mysql_wire.specs.Writing.{saturated}
-use Rattle.mysql_prepared.proofs.RowBytes.{length-next, bytes-end}
+use Rattle.mysql_stmt.proofs.RowBytes.{length-next, bytes-end}
 use Rattle.mysql_packets_c.specs.ColumnType.{type_of, unsigned_of}
 use Rattle.mysql_packets_c.specs.Rows.{row_fits}
 use Rattle.mysql_packets_c.specs.Value.{value_content}

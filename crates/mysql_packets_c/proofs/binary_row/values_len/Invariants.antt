@@ -1,6 +1,6 @@
 use Rattle.std.proofs.Common.{◌≡◌, ◌+◌, ◌<◌, ◌^◌, length, drop}
 use Rattle.mysql_wire.specs.Writing.{saturated}
-use Rattle.mysql_prepared.specs.BinaryRow.{values_bytes}
+use Rattle.mysql_stmt.specs.BinaryRow.{values_bytes}
 use Rattle.mysql_packets_c.specs.ColumnType.{type_of, unsigned_of}
 use Rattle.mysql_packets_c.specs.Rows.{row_fits}
 use Rattle.mysql_packets_c.specs.Value.{values_contents}

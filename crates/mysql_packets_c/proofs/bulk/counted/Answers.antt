@@ -1,8 +1,6 @@
 use Rattle.std.proofs.Common.{◌≡◌, ◌<◌, ◌≤◌, ◌-◌, ◌^◌, true, false, length, subst, ap, ◌∙◌, arith, rules}
 use Rattle.mysql_wire.specs.Writing.{saturated}
-use Rattle.mysql_bulk.specs.Row.{row_size}
-use Rattle.mysql_packets_c.specs.Bulk.{row_at, takes_row}
-use Rattle.mysql_packets_c.specs.Value.{values_contents}
+use Rattle.mysql_packets_c.specs.Bulk.{row_at, row_bytes, takes_row}
 use Rattle.mysql_packets_c.proofs.BulkRows.{past-limit, row-counted, row-full, row-refused, row-too-large, within-limit}
 use Rattle.mysql_packets_c.proofs.bulk.counted.Goals as goal
 
@@ -11,7 +9,7 @@ returns-in_default-clause-refused c =
     let call = c.args.call.now in
     let l = c.loop-count in
     let none : takes_row call.columns.now c.row_after-row.result.now ≡ false = search rules in
-    row-refused call c.args.rows l.count l.len c.args.values.now c.requires.whole c.loop-count-test.true l.invariant (subst (λ row. takes_row call.columns.now row ≡ false) c.row_after-row.ensures none)
+    row-refused call c.args.values.now c.args.rows l.count l.len c.requires.whole c.loop-count-test.true l.invariant (subst (λ row. takes_row call.columns.now row ≡ false) c.row_after-row.ensures none)
 
 pub returns-then-count-eq0-clause-refused : goal.returns-then-count-eq0-clause-refused
 returns-then-count-eq0-clause-refused c =
@@ -20,9 +18,9 @@ returns-then-count-eq0-clause-refused c =
     let row = row_at (length call.columns.now) l.count c.args.values.now in
     let at = c.row_after-row.ensures in
     let taken = subst (λ row. takes_row call.columns.now row ≡ true) at c.in-Some.ensures.0 in
-    let size : c.in-Some.more ≡ saturated (row_size (values_contents row)) = c.in-Some.ensures.1 ∙ ap (λ row. saturated (row_size (values_contents row))) at in
-    let past = past-limit (call.max_allowed_packet - 4) l.len c.in-Some.more c.saturating_add-longer.result (row_size (values_contents row)) size c.saturating_add-longer.ensures (omega (arith, c.if-limit-longer.true)) in
-    row-too-large call c.args.rows l.count l.len c.args.values.now c.requires.whole c.loop-count-test.true l.invariant taken past c.if-count-eq0.true
+    let size : c.in-Some.more ≡ saturated (length (row_bytes call.columns.now row)) = c.in-Some.ensures.1 ∙ ap (λ row. saturated (length (row_bytes call.columns.now row))) at in
+    let past = past-limit (call.max_allowed_packet - 4) l.len c.in-Some.more c.saturating_add-longer.result (length (row_bytes call.columns.now row)) size c.saturating_add-longer.ensures (omega (arith, c.if-limit-longer.true)) in
+    row-too-large call c.args.values.now c.args.rows l.count l.len c.requires.whole c.loop-count-test.true l.invariant taken past c.if-count-eq0.true
 
 pub returns-else-count-eq0-clause-counted : goal.returns-else-count-eq0-clause-counted
 returns-else-count-eq0-clause-counted c =
@@ -31,9 +29,9 @@ returns-else-count-eq0-clause-counted c =
     let row = row_at (length call.columns.now) l.count c.args.values.now in
     let at = c.row_after-row.ensures in
     let taken = subst (λ row. takes_row call.columns.now row ≡ true) at c.in-Some.ensures.0 in
-    let size : c.in-Some.more ≡ saturated (row_size (values_contents row)) = c.in-Some.ensures.1 ∙ ap (λ row. saturated (row_size (values_contents row))) at in
-    let past = past-limit (call.max_allowed_packet - 4) l.len c.in-Some.more c.saturating_add-longer.result (row_size (values_contents row)) size c.saturating_add-longer.ensures (omega (arith, c.if-limit-longer.true)) in
-    row-full call c.args.rows l.count l.len c.args.values.now c.requires.whole c.loop-count-test.true l.invariant taken past c.if-count-eq0.false
+    let size : c.in-Some.more ≡ saturated (length (row_bytes call.columns.now row)) = c.in-Some.ensures.1 ∙ ap (λ row. saturated (length (row_bytes call.columns.now row))) at in
+    let past = past-limit (call.max_allowed_packet - 4) l.len c.in-Some.more c.saturating_add-longer.result (length (row_bytes call.columns.now row)) size c.saturating_add-longer.ensures (omega (arith, c.if-limit-longer.true)) in
+    row-full call c.args.values.now c.args.rows l.count l.len c.loop-count-test.true l.invariant taken past c.if-count-eq0.false
 
 pub loop-count-preserved : goal.loop-count-preserved
 loop-count-preserved c =
@@ -42,8 +40,8 @@ loop-count-preserved c =
     let row = row_at (length call.columns.now) l.count c.args.values.now in
     let at = c.row_after-row.ensures in
     let taken = subst (λ row. takes_row call.columns.now row ≡ true) at c.in-Some.ensures.0 in
-    let size : c.in-Some.more ≡ saturated (row_size (values_contents row)) = c.in-Some.ensures.1 ∙ ap (λ row. saturated (row_size (values_contents row))) at in
+    let size : c.in-Some.more ≡ saturated (length (row_bytes call.columns.now row)) = c.in-Some.ensures.1 ∙ ap (λ row. saturated (length (row_bytes call.columns.now row))) at in
     let within : c.saturating_add-longer.result ≤ call.max_allowed_packet - 4 = omega (arith, c.if-limit-longer.false) in
     let top : call.max_allowed_packet - 4 < 2 ^ 64 - 1 = omega (arith, c.type_inv.call) in
-    let longer = within-limit (call.max_allowed_packet - 4) l.len c.in-Some.more c.saturating_add-longer.result (row_size (values_contents row)) size c.saturating_add-longer.ensures within top in
-    row-counted call c.args.rows l.count l.len c.saturating_add-longer.result c.args.values.now c.requires.whole c.loop-count-test.true l.invariant taken longer within
+    let longer = within-limit (call.max_allowed_packet - 4) l.len c.in-Some.more c.saturating_add-longer.result (length (row_bytes call.columns.now row)) size c.saturating_add-longer.ensures within top in
+    row-counted call c.args.values.now c.args.rows l.count l.len c.saturating_add-longer.result c.requires.whole c.loop-count-test.true l.invariant taken longer within

@@ -1,7 +1,7 @@
 use Rattle.std.proofs.Common.{◌≡◌, ◌+◌, ◌*◌, ◌++◌, ◌∷◌, [], ℕ, List, drop, sym, ap, ◌∙◌, arith, append_assoc}
 use Rattle.std.proofs.lemmas.List.{drop-drop}
-use Rattle.mysql_prepared.specs.NullMarks.{first_eight, packed}
-use Rattle.mysql_prepared.proofs.PackedBits.{packed-more}
+use Rattle.mysql_stmt.specs.NullMarks.{first_eight, packed}
+use Rattle.mysql_stmt.proofs.PackedBits.{packed-more}
 use Rattle.mysql_packets_c.specs.CheckedParams.{bits_of}
 use Rattle.mysql_packets_c.proofs.checked_nulls.append_bits.Goals as goal
 

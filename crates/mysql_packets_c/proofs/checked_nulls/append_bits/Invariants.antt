@@ -1,5 +1,5 @@
 use Rattle.std.proofs.Common.{◌≡◌, ◌++◌, ◌≤◌, ◌*◌, drop}
-use Rattle.mysql_prepared.specs.NullMarks.{packed}
+use Rattle.mysql_stmt.specs.NullMarks.{packed}
 use Rattle.mysql_packets_c.specs.CheckedParams.{bits_of}
 use Rattle.mysql_packets_c.proofs.checked_nulls.append_bits.Given as goal
 

@@ -1,6 +1,6 @@
 use Rattle.std.proofs.Common.{◌≡◌, ◌∙◌, ◌<◌, ◌+◌, length, arith, refl, rules}
 use Rattle.std.proofs.lemmas.Result.{err_from_is_err_and}
-use Rattle.mysql_prepared.specs.ExecuteRead.{TypedParam, read_as}
+use Rattle.mysql_stmt.specs.ExecuteRead.{TypedParam, read_as}
 use Rattle.mysql_packets_c.specs.Execution.{content_of, last_left}
 use Rattle.mysql_packets_c.proofs.Executions.{left-with, none-given, none-left, one-content, one-given, one-type, others_at}
 use Rattle.mysql_packets_c.proofs.FilledRows.{one-param-set, others-kept}

@@ -1,12 +1,16 @@
 use Rattle.std.proofs.Common.{◌≡◌, ◌∙◌, ℕ, Bool, ap, if◌then◌else◌, length, subst, sym, take}
 use Rattle.std.proofs.lemmas.List.{length-map}
 use Rattle.std.proofs.lemmas.Result.{err_from_is_err_and}
-use Rattle.mysql_prepared.specs.Attributes.{attributes_read}
-use Rattle.mysql_prepared.specs.ExecuteHead.{cursor_flags}
-use Rattle.mysql_prepared.specs.ExecuteRead.{execution_front, execution_of}
+use Rattle.mysql_stmt.specs.Attributes.{attributes_read}
+use Rattle.mysql_stmt.specs.ExecuteHead.{cursor_flags}
+use Rattle.mysql_stmt.specs.ExecuteRead.{execution_front, execution_of}
 use Rattle.mysql_packets_c.specs.Execution.{HoldsParams, bound_list, bound_of, last_left, sends_types}
-use Rattle.mysql_packets_c.proofs.Executions.{all-held, all-left, all-read, attributes-refused, counted-attributes, front-sends, one-refused, types-kept}
+use Rattle.mysql_packets_c.proofs.Executions.{all-held, all-left, all-read, attributes-refused, counted-attributes, front-refused, front-sends, good-filled, one-refused}
 use Rattle.mysql_packets_c.proofs.execution.params_into.Goals as goal
+
+pub returns-in_err-sent-clause-places : goal.returns-in_err-sent-clause-places
+returns-in_err-sent-clause-places c =
+    front-refused c.args.capabilities (cursor_flags c.args.head.now) c.args.params.now c.args.buf c.args.values.now c.args.types.now c.in_err-sent.field-0.0 c.in_err-sent.ensures.refused
 
 pub returns-in_err-fill_params-clause-value : goal.returns-in_err-fill_params-clause-value
 returns-in_err-fill_params-clause-value c =
@@ -19,10 +23,10 @@ returns-in_err-fill_params-clause-value c =
     let read = ap execution_of whole ∙ c.in_ok-sent.ensures.read bound (length-map ps bound_of) in
     rw (p.1, p.2, sym read) (one-refused (last_left sent ps) (last_left c.fill_params.new.sent ps) fault c.in_err-fill_params.ensures.good.rest c.in_err-fill_params.ensures.refused)
 
-pub returns-in_err-fill_params-clause-other_types : goal.returns-in_err-fill_params-clause-other_types
-returns-in_err-fill_params-clause-other_types c =
-    let ps = c.args.params.now in
-    types-kept (length ps) (last_left c.in_ok-sent.sent ps) (last_left c.fill_params.new.sent ps) c.args.values.now c.fill_params.new.values c.args.types.now c.fill_params.new.types c.in_ok-sent.ensures.left c.in_err-fill_params.ensures.good
+pub returns-in_err-fill_params-clause-places : goal.returns-in_err-fill_params-clause-places
+returns-in_err-fill_params-clause-places c =
+    good-filled c.args.capabilities (cursor_flags c.args.head.now) c.args.params.now c.args.buf c.args.values.now c.fill_params.new.values c.args.types.now c.fill_params.new.types c.in_ok-sent.sent c.fill_params.new.sent
+    c.in_ok-sent.ensures.front c.requires.types c.in_err-fill_params.ensures.good c.in_err-fill_params.ensures.refused.0
 
 pub returns-in_err-rest-clause-value : goal.returns-in_err-rest-clause-value
 returns-in_err-rest-clause-value c =
@@ -36,6 +40,16 @@ returns-in_err-rest-clause-value c =
     let read = ap execution_of whole ∙ c.in_ok-sent.ensures.read bound (length-map ps bound_of) in
     rw (p.1, p.2) (attributes-refused c.args.capabilities flags bound c.args.buf sent c.fill_params.new.sent ps c.attributes_of-attributes.result c.attributes_of-attributes.ensures
     read c.in_ok-fill_params.ensures.good.rest c.in_ok-fill_params.ensures.all.0 fault c.in_err-rest.ensures.value)
+
+pub returns-in_err-rest-clause-places : goal.returns-in_err-rest-clause-places
+returns-in_err-rest-clause-places c =
+    good-filled c.args.capabilities (cursor_flags c.args.head.now) c.args.params.now c.args.buf c.args.values.now c.fill_params.new.values c.args.types.now c.fill_params.new.types c.in_ok-sent.sent c.fill_params.new.sent
+    c.in_ok-sent.ensures.front c.requires.types c.in_ok-fill_params.ensures.good c.in_ok-fill_params.ensures.all.1
+
+pub returns-clause-places : goal.returns-clause-places
+returns-clause-places c =
+    good-filled c.args.capabilities (cursor_flags c.args.head.now) c.args.params.now c.args.buf c.args.values.now c.fill_params.new.values c.args.types.now c.fill_params.new.types c.in_ok-sent.sent c.fill_params.new.sent
+    c.in_ok-sent.ensures.front c.requires.types c.in_ok-fill_params.ensures.good c.in_ok-fill_params.ensures.all.1
 
 pub returns-clause-value : goal.returns-clause-value
 returns-clause-value c =

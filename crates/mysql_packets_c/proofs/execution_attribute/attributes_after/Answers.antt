@@ -2,8 +2,8 @@ use Rattle.std.proofs.Common.{◌∙◌, Ok, false, ap, subst}
 use Rattle.std.proofs.lemmas.List.{length-map}
 use Rattle.std.proofs.lemmas.Result.{err_from_is_err_and}
 use Rattle.mysql_wire.specs.Reading.{Faults, then_read}
-use Rattle.mysql_prepared.specs.ExecuteHead.{cursor_flags}
-use Rattle.mysql_prepared.specs.ExecuteRead.{execution, execution_of}
+use Rattle.mysql_stmt.specs.ExecuteHead.{cursor_flags}
+use Rattle.mysql_stmt.specs.ExecuteRead.{execution, execution_of}
 use Rattle.mysql_packets_c.specs.Execution.{bound_list, bound_of, last_left}
 use Rattle.mysql_packets_c.proofs.Executions.{all-left, all-read, attributes-refused, one-refused, then-fault}
 use Rattle.mysql_packets_c.proofs.execution_attribute.attributes_after.Goals as goal

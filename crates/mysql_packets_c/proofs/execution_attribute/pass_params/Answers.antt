@@ -1,6 +1,6 @@
 use Rattle.std.proofs.Common.{◌∙◌, arith, refl}
 use Rattle.std.proofs.lemmas.Result.{err_from_is_err_and}
-use Rattle.mysql_prepared.specs.ExecuteRead.{read_as}
+use Rattle.mysql_stmt.specs.ExecuteRead.{read_as}
 use Rattle.mysql_packets_c.proofs.Executions.{left-with, none-given, one-given, others_at}
 use Rattle.mysql_packets_c.proofs.execution_attribute.pass_params.Goals as goal
 

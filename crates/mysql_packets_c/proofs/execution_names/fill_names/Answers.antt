@@ -1,6 +1,6 @@
 use Rattle.std.proofs.Common.{◌≡◌, ◌∙◌, ◌<◌, ◌+◌, length, arith, refl, rules}
 use Rattle.std.proofs.lemmas.Result.{err_from_is_err_and}
-use Rattle.mysql_prepared.specs.ExecuteRead.{TypedParam, read_as}
+use Rattle.mysql_stmt.specs.ExecuteRead.{TypedParam, read_as}
 use Rattle.mysql_packets_c.specs.Execution.{last_left}
 use Rattle.mysql_packets_c.proofs.ExecutionNames.{one-name}
 use Rattle.mysql_packets_c.proofs.Executions.{left-with, none-given, one-given, others_at}

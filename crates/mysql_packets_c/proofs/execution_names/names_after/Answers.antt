@@ -2,11 +2,11 @@ use Rattle.std.proofs.Common.{◌≡◌, ◌∙◌, ℕ, List, Ok, false, ap, su
 use Rattle.std.proofs.lemmas.List.{length-map}
 use Rattle.std.proofs.lemmas.Result.{err_from_is_err_and}
 use Rattle.mysql_wire.specs.Reading.{Faults, then_read}
-use Rattle.mysql_prepared.specs.ExecuteHead.{cursor_flags}
-use Rattle.mysql_prepared.specs.ExecuteRead.{execution, execution_of}
+use Rattle.mysql_stmt.specs.ExecuteHead.{cursor_flags}
+use Rattle.mysql_stmt.specs.ExecuteRead.{execution, execution_of}
 use Rattle.mysql_packets_c.specs.Execution.{bound_list, bound_of, last_left}
 use Rattle.mysql_packets_c.specs.ExecutionNames.{held, names_of}
-use Rattle.mysql_packets_c.proofs.ExecutionNames.{all-names, names-kept}
+use Rattle.mysql_packets_c.proofs.ExecutionNames.{all-names, names-filled, names-without-front}
 use Rattle.mysql_packets_c.proofs.Executions.{all-left, all-read, attributes-refused, none-left, one-refused, then-fault}
 use Rattle.mysql_packets_c.proofs.execution_names.names_after.Goals as goal
 
@@ -22,10 +22,10 @@ returns-in_err-fill_names-clause-value c =
     let refused = one-refused (last_left sent ps) (last_left c.fill_names.new.sent ps) fault c.in_err-fill_names.ensures.good.rest c.in_err-fill_names.ensures.refused in
     rw (p.1, p.2) (then-fault ((execution c.args.capabilities flags bound).reads c.args.buf) (λ x rest. Ok (names_of x.0, rest)) fault (subst (λ (r : _). Faults false fault r) read refused))
 
-pub returns-in_err-fill_names-clause-others : goal.returns-in_err-fill_names-clause-others
-returns-in_err-fill_names-clause-others c =
-    let ps = c.args.params.now in
-    names-kept (length ps) (last_left c.in_ok-sent.sent ps) (last_left c.fill_names.new.sent ps) c.args.names.now c.fill_names.new.names c.in_ok-sent.ensures.left c.in_err-fill_names.ensures.good
+pub returns-in_err-fill_names-clause-places : goal.returns-in_err-fill_names-clause-places
+returns-in_err-fill_names-clause-places c =
+    names-filled c.args.capabilities (cursor_flags c.args.head.now) c.args.params.now c.args.buf c.args.names.now c.fill_names.new.names c.in_ok-sent.sent c.fill_names.new.sent
+    c.in_ok-sent.ensures.front c.requires c.in_err-fill_names.ensures.good c.in_err-fill_names.ensures.refused.0
 
 pub returns-in_err-_rest-clause-value : goal.returns-in_err-_rest-clause-value
 returns-in_err-_rest-clause-value c =
@@ -40,10 +40,10 @@ returns-in_err-_rest-clause-value c =
     read c.in_ok-fill_names.ensures.good.rest c.in_ok-fill_names.ensures.all fault c.in_err-_rest.ensures.value in
     rw (p.1, p.2) (then-fault ((execution c.args.capabilities flags bound).reads c.args.buf) (λ x rest. Ok (names_of x.0, rest)) fault refused)
 
-pub returns-in_err-_rest-clause-others : goal.returns-in_err-_rest-clause-others
-returns-in_err-_rest-clause-others c =
-    let ps = c.args.params.now in
-    names-kept (length ps) (last_left c.in_ok-sent.sent ps) (last_left c.fill_names.new.sent ps) c.args.names.now c.fill_names.new.names c.in_ok-sent.ensures.left c.in_ok-fill_names.ensures.good
+pub returns-in_err-_rest-clause-places : goal.returns-in_err-_rest-clause-places
+returns-in_err-_rest-clause-places c =
+    names-filled c.args.capabilities (cursor_flags c.args.head.now) c.args.params.now c.args.buf c.args.names.now c.fill_names.new.names c.in_ok-sent.sent c.fill_names.new.sent
+    c.in_ok-sent.ensures.front c.requires c.in_ok-fill_names.ensures.good (none-left c.fill_names.new.sent c.args.params.now c.in_ok-fill_names.ensures.all).none.1
 
 pub returns-clause-value : goal.returns-clause-value
 returns-clause-value c =
@@ -62,7 +62,11 @@ returns-clause-value c =
     let held_all : names_of first.params ≡ held (take (length ps) names) = subst (λ (n : ℕ). names_of first.params ≡ held (take n names)) c.in_ok-sent.ensures.left given in
     (rest, ap (λ r. then_read r (λ x rest. Ok (names_of x.0, rest))) whole ∙ ap (λ (ns : List (List ℕ)). Ok (ns, rest)) held_all)
 
-pub returns-clause-others : goal.returns-clause-others
-returns-clause-others c =
-    let ps = c.args.params.now in
-    names-kept (length ps) (last_left c.in_ok-sent.sent ps) (last_left c.fill_names.new.sent ps) c.args.names.now c.fill_names.new.names c.in_ok-sent.ensures.left c.in_ok-fill_names.ensures.good
+pub returns-clause-places : goal.returns-clause-places
+returns-clause-places c =
+    names-filled c.args.capabilities (cursor_flags c.args.head.now) c.args.params.now c.args.buf c.args.names.now c.fill_names.new.names c.in_ok-sent.sent c.fill_names.new.sent
+    c.in_ok-sent.ensures.front c.requires c.in_ok-fill_names.ensures.good (none-left c.fill_names.new.sent c.args.params.now c.in_ok-fill_names.ensures.all).none.1
+
+pub returns-in_err-sent-clause-places : goal.returns-in_err-sent-clause-places
+returns-in_err-sent-clause-places c =
+    names-without-front c.args.capabilities (cursor_flags c.args.head.now) c.args.params.now c.args.buf c.args.names.now c.in_err-sent.field-0.0 c.in_err-sent.ensures.refused

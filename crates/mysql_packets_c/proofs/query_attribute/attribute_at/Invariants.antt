@@ -1,5 +1,5 @@
 use Rattle.std.proofs.Common.{◌≡◌}
-use Rattle.mysql_prepared.specs.Attributes.{IsGood, attributes_read}
+use Rattle.mysql_stmt.specs.Attributes.{IsGood, attributes_read}
 use Rattle.mysql_packets_c.specs.QueryAttribute.{at}
 use Rattle.mysql_packets_c.proofs.query_attribute.attribute_at.Given as goal
 

@@ -1,7 +1,7 @@
 use Rattle.std.proofs.Common.{◌≡◌, ◌<◌, ◌≤◌, ◌^◌, ◌++◌, ℕ, List, length, drop, subst, sym, ap, ◌∙◌, arith}
 use Rattle.std.proofs.lemmas.List.{length-take-le}
 use Rattle.mysql_wire.specs.Writing.{saturated}
-use Rattle.mysql_prepared.specs.BinaryRow.{IsRowBytes, row_len}
+use Rattle.mysql_stmt.specs.BinaryRow.{IsRowBytes, row_len}
 use Rattle.mysql_values.specs.Value.{Content}
 use Rattle.mysql_packets_c.specs.ColumnType.{type_of, unsigned_of}
 use Rattle.mysql_packets_c.specs.Value.{values_contents}

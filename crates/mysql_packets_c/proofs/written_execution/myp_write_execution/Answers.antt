@@ -1,5 +1,5 @@
 use Rattle.std.proofs.Common.{◌≡◌, ◌∙◌, Bool, true, ◌&&◌, ◌==◌, refl, rules, subst, sym, ap}
-use Rattle.mysql_prepared.specs.Execution.{Execution}
+use Rattle.mysql_stmt.specs.Execution.{Execution}
 use Rattle.mysql_packets_c.specs.Parameter.{are_parameters, if_agreed, sent}
 use Rattle.mysql_packets_c.specs.WrittenExecution.{PutsExecution, execution_of, flags_sent, is_spelled, iterations_sent}
 use Rattle.mysql_packets_c.proofs.WrittenExecutions.{and-first, and-second, same-asked}

@@ -1,6 +1,6 @@
 use Rattle.std.proofs.Common.{◌≡◌, ◌≤◌, length, ◌∙◌, arith}
 use Rattle.std.proofs.lemmas.List.{length-take-le}
-use Rattle.mysql_prepared.specs.Execution.{execution_bytes}
+use Rattle.mysql_stmt.specs.Execution.{execution_bytes}
 use Rattle.mysql_wire.specs.Writing.{saturated}
 use Rattle.mysql_packets_c.specs.CheckedExecution.{plain_of}
 use Rattle.mysql_packets_c.proofs.written_execution.put_counted.Goals as goal

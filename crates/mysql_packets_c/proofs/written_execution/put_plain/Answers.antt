@@ -1,9 +1,9 @@
 use Rattle.std.proofs.Common.{◌≡◌, List, not, is_some, false, refl, sym, subst, ap, ◌∙◌, arith}
-use Rattle.mysql_prepared.specs.ExecuteHead.{with_count}
-use Rattle.mysql_prepared.specs.ExecuteWithOptions.{asked}
-use Rattle.mysql_prepared.specs.Execution.{Execution, execution_bytes}
-use Rattle.mysql_prepared.specs.SentParam.{first_unspelled}
-use Rattle.mysql_prepared.proofs.ExecutionBytes.{not-long}
+use Rattle.mysql_stmt.specs.ExecuteHead.{with_count}
+use Rattle.mysql_stmt.specs.ExecuteWithOptions.{asked}
+use Rattle.mysql_stmt.specs.Execution.{Execution, execution_bytes}
+use Rattle.mysql_stmt.specs.SentParam.{first_unspelled}
+use Rattle.mysql_stmt.proofs.ExecutionBytes.{not-long}
 use Rattle.mysql_packets_c.specs.CheckedParams.{plainly}
 use Rattle.mysql_packets_c.specs.Output.{PutsUnlessTooLong}
 use Rattle.mysql_packets_c.specs.Parameter.{are_parameters, named_type, param_given, sent}

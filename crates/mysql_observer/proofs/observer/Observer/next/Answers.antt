@@ -1,4 +1,4 @@
-use Rattle.std.proofs.Common.{◌≡◌, ◌↔◌, ◌∷◌, ◌++◌, [], Some, arith, sym, ap, subst, ◌∙◌}
+use Rattle.std.proofs.Common.{◌↔◌, ◌∷◌, ◌++◌, [], Some, arith, sym, ap, subst, ◌∙◌}
 use Rattle.mysql_conversation.specs.Piped.{place}
 use Rattle.mysql_conversation.specs.Session.{AsksForTls, IsEncrypted, IsResumedSession, IsSession, SessionResumed, SessionTaken}
 use Rattle.mysql_observer.specs.Latest.{latest_after, none}

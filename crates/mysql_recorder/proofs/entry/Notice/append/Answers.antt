@@ -1,4 +1,4 @@
-use Rattle.std.proofs.Common.{◌≡◌, ◌++◌, ap, refl, ◌∙◌, string_bytes, arith, rules}
+use Rattle.std.proofs.Common.{◌≡◌, ◌++◌, ap, ◌∙◌, string_bytes, arith, rules}
 use Rattle.std.proofs.lemmas.Grind.{common_steps}
 use Rattle.mysql_recorder.specs.Entries.{notice_front, notice_line}
 use Rattle.mysql_recorder.proofs.Stays.{stays_same}

@@ -1,4 +1,4 @@
-use Rattle.std.proofs.Common.{◌≡◌, ◌++◌, ap, refl, ◌∙◌, string_bytes, arith, rules}
+use Rattle.std.proofs.Common.{◌≡◌, ◌++◌, ap, ◌∙◌, string_bytes, arith, rules}
 use Rattle.std.proofs.lemmas.Grind.{common_steps}
 use Rattle.mysql_recorder.specs.Entries.{entry_as, entry_front, entry_line}
 use Rattle.mysql_recorder.proofs.Stays.{stays_same}

@@ -7,9 +7,11 @@ use Rattle.mysql_conversation.specs.Pipelined.{Numbered}
 use Rattle.mysql_observer.specs.Observed.{Observed}
 use Rattle.mysql_recorder.specs.Refused.{ShowsRefused}
 use Rattle.mysql_recorder.specs.Refusals.{IfRefused}
-use Rattle.mysql_recorder.specs.Shown.{Appends}
+use Rattle.mysql_recorder.specs.RecordFields.{AreFields}
+use Rattle.mysql_recorder.specs.Shown.{AppendsFields, AreFieldsOf, item}
 use Rattle.mysql_recorder.specs.declared.packets.Taken.TheVariants as taken_as
 use Rattle.mysql_recorder.proofs.Refusals.{refused_ok, refused_err, refused_stays}
+use Rattle.mysql_recorder.proofs.Refused.{appends_as}
 use Rattle.mysql_recorder.proofs.Stays.{appended_stays}
 use Rattle.mysql_recorder.proofs.packets.Packets.take.Goals as goal
 
@@ -18,11 +20,15 @@ returns-in_ok-show-in-Ok-clause-shown c = λ e items h. (
   c.in-Ok.seen.kind,
   c.in-Ok.seen.exchange,
   subst (λ f. Observed f (items ++ place c.args.side c.args.payload.now c.in-Ok.seen.kind c.in-Ok.seen.exchange ∷ [])) (sym c.show.ensures.observer) (c.in-Ok.ensures.taken items h),
-  subst (λ w. Appends c.args.self.now.layout (record { side = c.args.side; sequence = c.args.sequence; exchange = c.in-Ok.seen.exchange; kind = w; payload = c.args.payload.now })
-      (string_bytes c.args.out.now) (string_bytes c.show.new.out))
+  appends_as (λ fields. AreFields c.next.new.self.observer c.args.side c.in-Ok.seen.kind c.args.payload.now fields)
+      (AreFieldsOf items (item c.args.sequence c.args.side c.args.payload.now c.in-Ok.seen.kind c.in-Ok.seen.exchange)) c.args.self.now.layout _ (string_bytes c.args.out.now) (string_bytes c.show.new.out)
+      (λ fields are. (c.next.new.self.observer, c.in-Ok.ensures.taken items h, are))
+      (subst (λ w. AppendsFields (λ fields. AreFields c.next.new.self.observer c.args.side c.in-Ok.seen.kind c.args.payload.now fields) c.args.self.now.layout
+      (record { side = c.args.side; sequence = c.args.sequence; exchange = c.in-Ok.seen.exchange; kind = w; payload = c.args.payload.now }) (string_bytes c.args.out.now) (string_bytes c.show.new.out))
       (c.as_str.ensures.value ∙ ap text_of c.name.ensures.value)
-      (subst (λ l. Appends l (record { side = c.args.side; sequence = c.args.sequence; exchange = c.in-Ok.seen.exchange; kind = c.as_str.result.now; payload = c.args.payload.now })
-      (string_bytes c.args.out.now) (string_bytes c.show.new.out)) c.next.ensures.layout c.in_ok-show-in-Ok.ensures.ok),
+      (subst (λ l. AppendsFields (λ fields. AreFields c.next.new.self.observer c.args.side c.in-Ok.seen.kind c.args.payload.now fields) l
+      (record { side = c.args.side; sequence = c.args.sequence; exchange = c.in-Ok.seen.exchange; kind = c.as_str.result.now; payload = c.args.payload.now })
+      (string_bytes c.args.out.now) (string_bytes c.show.new.out)) c.next.ensures.layout c.in_ok-show-in-Ok.ensures.ok)),
 )
 
 pub returns-in-Err-clause-lost : goal.returns-in-Err-clause-lost
@@ -40,7 +46,8 @@ returns-in-Err-clause-refused c =
     c.in-Err.ensures.err (λ items kind number. c.in-Err.ensures.refused items kind number) c.in-Err.ensures.reason c.refuse.result c.refuse.ensures.err)
 
 pub returns-in_ok-show-in-Ok-clause-stays : goal.returns-in_ok-show-in-Ok-clause-stays
-returns-in_ok-show-in-Ok-clause-stays c = appended_stays c.next.new.self.layout _ (string_bytes c.args.out.now) (string_bytes c.show.new.out) c.in_ok-show-in-Ok.ensures.ok
+returns-in_ok-show-in-Ok-clause-stays c =
+    appended_stays (λ fields. AreFields c.next.new.self.observer c.args.side c.in-Ok.seen.kind c.args.payload.now fields) c.next.new.self.layout _ (string_bytes c.args.out.now) (string_bytes c.show.new.out) c.in_ok-show-in-Ok.ensures.ok
 
 pub returns-in-Err-clause-stays : goal.returns-in-Err-clause-stays
 returns-in-Err-clause-stays c =

@@ -1,8 +1,0 @@
-use Rattle.std.proofs.Common.{◌≡◌}
-use Rattle.mysql_prepared.proofs.binary_row_view.read_through.Given as goal
-
-abbrev pub invariant-values : goal.invariant-values
-invariant-values g l = l.row.end ≡ l.fn.row.end
-
-abbrev pub decreases-values : goal.decreases-values
-decreases-values g l = l.row.left

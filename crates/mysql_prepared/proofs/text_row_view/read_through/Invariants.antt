@@ -1,8 +1,0 @@
-use Rattle.std.proofs.Common.{◌≡◌}
-use Rattle.mysql_prepared.proofs.text_row_view.read_through.Given as goal
-
-abbrev pub invariant-values : goal.invariant-values
-invariant-values l = l.row.end ≡ l.fn.row.end
-
-abbrev pub decreases-values : goal.decreases-values
-decreases-values l = l.row.left

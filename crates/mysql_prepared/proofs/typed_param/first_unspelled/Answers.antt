@@ -1,6 +1,0 @@
-use Rattle.std.proofs.Common.{sym, ◌∙◌}
-use Rattle.mysql_prepared.proofs.SentBytes.{first-sent}
-use Rattle.mysql_prepared.proofs.typed_param.first_unspelled.Goals as goal
-
-pub returns : goal.returns
-returns g c = record { value = c.unspelled_at.ensures.value ∙ sym (first-sent g.V.AsExecuteParam.param g.V.AsExecuteParam.named_type c.args.values.now) }

@@ -1,0 +1,109 @@
+-- The sent bytes of parameters and attributes.
+use Rattle.std.proofs.Common.{◌≡◌, ℕ, ◌+◌, ◌*◌, Bool, true, false, not, if◌then◌else◌, List, [], ◌∷◌, ◌++◌, length, map, position, Some, is_some, cond, refl, ap, ◌∙◌, arith}
+use Rattle.std.specs.List.{flat_map, position_or_len}
+use Rattle.std.proofs.lemmas.List.{append-nil, length-append, length-map}
+use Rattle.std.proofs.lemmas.List.Folds.{flat_map-map}
+use Rattle.mysql_wire.specs.LenEnc.{lenenc_string_bytes}
+use Rattle.mysql_wire.specs.Writing.{le_bytes}
+use Rattle.mysql_values.specs.ParamType.{param_type, type_of}
+use Rattle.mysql_values.specs.ParamValue.{Plain, WithOffset, param_spelled}
+use Rattle.mysql_values.specs.Value.{Content, NULL, Bytes, Int, UInt, Float, Double, Date, Time, bin}
+use Rattle.mysql_values.specs.declared.param_type.ParamType.{ParamType}
+use Rattle.mysql_stmt.specs.ExecuteParam.{Param, Sent, SentAhead, AsSent, param_bytes, value_of}
+use Rattle.mysql_stmt.specs.SentParam.{bytes_under, first_unspelled, is_spelled, is_spelled_under, sent_param, sent_params, type_bytes, value_bytes}
+use Rattle.mysql_stmt.specs.ExecuteRead.{TypedParam}
+use Rattle.mysql_stmt.specs.SentTypes.{NamedType}
+
+-- ---- values without chosen types
+
+-- the type of a value encodes it in its binary form
+own-type : (v : Content) → param_spelled (type_of v) (Plain v) ≡ Some (bin v)
+own-type NULL = refl
+own-type (Bytes bytes) = refl
+own-type (Int n) = refl
+own-type (UInt n) = refl
+own-type (Float bits) = refl
+own-type (Double bits) = refl
+own-type (Date date) = refl
+own-type (Time time) = refl
+
+pub plain-spelled : (p : Param) → is_spelled_under (type_of (value_of p)) p ≡ true
+plain-spelled (Sent (Plain v)) = ap is_some (own-type v)
+plain-spelled (Sent (WithOffset date)) = refl
+plain-spelled SentAhead = refl
+plain-spelled (AsSent has_null_bit bytes) = refl
+
+pub plain-bytes : (l : Bool) (p : Param) → bytes_under l (type_of (value_of p)) p ≡ param_bytes l p
+plain-bytes true (Sent (Plain NULL)) = refl
+plain-bytes true (Sent (Plain (Bytes bytes))) = refl
+plain-bytes true (Sent (Plain (Int n))) = refl
+plain-bytes true (Sent (Plain (UInt n))) = refl
+plain-bytes true (Sent (Plain (Float bits))) = refl
+plain-bytes true (Sent (Plain (Double bits))) = refl
+plain-bytes true (Sent (Plain (Date date))) = refl
+plain-bytes true (Sent (Plain (Time time))) = refl
+plain-bytes false (Sent (Plain NULL)) = refl
+plain-bytes false (Sent (Plain (Bytes bytes))) = refl
+plain-bytes false (Sent (Plain (Int n))) = refl
+plain-bytes false (Sent (Plain (UInt n))) = refl
+plain-bytes false (Sent (Plain (Float bits))) = refl
+plain-bytes false (Sent (Plain (Double bits))) = refl
+plain-bytes false (Sent (Plain (Date date))) = refl
+plain-bytes false (Sent (Plain (Time time))) = refl
+plain-bytes true (Sent (WithOffset date)) = refl
+plain-bytes false (Sent (WithOffset date)) = refl
+plain-bytes true SentAhead = refl
+plain-bytes false SentAhead = refl
+plain-bytes true (AsSent has_null_bit bytes) = refl
+plain-bytes false (AsSent has_null_bit bytes) = refl
+
+-- ---- types
+
+pub length-type : (t : ParamType) → length (param_type.bytes t) ≡ 2
+unfolding param_type le_bytes
+length-type t = refl
+
+pub length-typed : (p : TypedParam) → length (type_bytes false p) ≡ 2
+length-typed p = omega (arith, length-append (param_type.bytes p.named_type.param_type) [], length-type p.named_type.param_type)
+
+pub length-named : (p : TypedParam) → length (type_bytes true p) ≡ 2 + length (lenenc_string_bytes p.named_type.name)
+length-named p = omega (arith, length-append (param_type.bytes p.named_type.param_type) (lenenc_string_bytes p.named_type.name), length-type p.named_type.param_type)
+
+pub length-types : (ps : List TypedParam) → length (flat_map (type_bytes false) ps) ≡ 2 * length ps
+length-types [] = refl
+length-types (p ∷ ps) = omega (arith, length-append (type_bytes false p) (flat_map (type_bytes false) ps), length-typed p, length-types ps)
+
+position-mapped : {A B : Type 0} (p : B → Bool) (f : A → B) (xs : List A) → position_or_len p (map f xs) ≡ position_or_len (λ x. p (f x)) xs
+position-mapped p f [] = refl
+position-mapped p f (x ∷ xs) = ap (λ (n : ℕ). cond (not (p (f x))) (1 + n) 0) (position-mapped p f xs)
+
+-- ---- lists of values of a type of the caller's
+
+module _ {V : Type 0} (param : V → Param) (named_type : V → NamedType) where
+  pub types-sent : (has_names : Bool) (vs : List V) → flat_map (λ v. type_bytes has_names (sent_param param named_type v)) vs ≡ flat_map (type_bytes has_names) (sent_params param named_type vs)
+  types-sent has_names [] = refl
+  types-sent has_names (v ∷ vs) = ap (λ (l : List ℕ). type_bytes has_names (sent_param param named_type v) ++ l) (types-sent has_names vs)
+
+  pub values-sent : (l : Bool) (vs : List V) → flat_map (λ v. value_bytes l (sent_param param named_type v)) vs ≡ flat_map (value_bytes l) (sent_params param named_type vs)
+  values-sent l [] = refl
+  values-sent l (v ∷ vs) = ap (λ (bytes : List ℕ). value_bytes l (sent_param param named_type v) ++ bytes) (values-sent l vs)
+
+  pub length-sent : (vs : List V) → length (sent_params param named_type vs) ≡ length vs
+  length-sent vs = length-map vs (sent_param param named_type)
+
+  pub length-unnamed : (has_names : Bool) (vs : List V) → has_names ≡ false → length (flat_map (λ v. type_bytes has_names (sent_param param named_type v)) vs) ≡ 2 * length vs
+  length-unnamed has_names vs is = rw is (ap length (types-sent false vs) ∙ length-types (sent_params param named_type vs) ∙ ap (λ (n : ℕ). 2 * n) (length-sent vs))
+
+  pub first-sent : (vs : List V) → first_unspelled (sent_params param named_type vs) ≡ position (λ v. not (is_spelled_under (named_type v).param_type (param v))) vs
+  first-sent vs =
+      let unspelled : TypedParam → Bool = λ p. not (is_spelled p) in
+      let same = position-mapped unspelled (sent_param param named_type) vs in
+      rw (same, length-sent vs) refl
+
+pub ruleset plain = (plain-spelled, plain-bytes)
+
+pub ruleset written = (plain-bytes, append-nil, length-typed, length-named, length-types, types-sent, length-sent)
+
+pub ruleset first_of = (first-sent)
+
+pub ruleset cells = (flat_map-map)

@@ -1,0 +1,11 @@
+use Rattle.std.proofs.Common.{refl}
+use Rattle.mysql_stmt.specs.StoredRow.{AreStored, stored_values}
+use Rattle.mysql_stmt.proofs.stored_row.StoredRow.new.Goals as goal
+
+pub invariant_of-result : goal.invariant_of-result
+unfolding AreStored
+invariant_of-result c = tt
+
+pub returns : goal.returns
+unfolding stored_values
+returns c = record { values = refl }

@@ -1,0 +1,8 @@
+use Rattle.std.proofs.Common.{◌≡◌}
+use Rattle.mysql_stmt.proofs.text_row_view.read_through.Given as goal
+
+abbrev pub invariant-values : goal.invariant-values
+invariant-values l = l.row.end ≡ l.fn.row.end
+
+abbrev pub decreases-values : goal.decreases-values
+decreases-values l = l.row.left
