@@ -206,7 +206,15 @@ pub(crate) fn attributes_of(
 impl Clone for Attributes<'_> {
     ghost is_clone = { λ a copy. copy ≡ a };
 
+    ghost is_infallible = { λ a. a ≡ [] };
+
     fn clone(&self) -> Result<Self, AllocError> {
+        // By its contract, cloning a list may fail.
+        if self.list.is_empty() {
+            return Ok(Attributes {
+                list: Vec::new(*self.list.allocator()),
+            });
+        }
         Ok(Attributes {
             list: self.list.clone()?,
         })

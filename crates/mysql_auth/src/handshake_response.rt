@@ -112,7 +112,7 @@ fn collation_for(server_version: (u16, u16, u16)) -> u8
 }
 
 impl<'a> HandshakeResponse<'a> {
-    /// Creates a response without MariaDB capabilities.
+    /// Creates a response without MariaDB capabilities and without a compression level.
     ///
     /// The flags for a database, a plugin and attributes are set exactly if these are given; the other flags are those of
     /// `capabilities`. A missing scramble or user is empty. The collation is one that a server of that version supports: 45
@@ -156,6 +156,7 @@ impl<'a> HandshakeResponse<'a> {
         ensures plugin_flag { IfOk result (λ p. has (spec.capabilities p).0 CLIENT_PLUGIN_AUTH ≡ is_some auth_plugin.entry) }
         ensures attributes_flag { IfOk result (λ p. has (spec.capabilities p).0 CLIENT_CONNECT_ATTRS ≡ is_some connect_attributes) }
         ensures other_flags { IfOk result (λ p. (i : ℕ) → i < 32 → i ≢ 3 → i ≢ 19 → i ≢ 20 → bit_at (spec.capabilities p).0 i ≡ bit_at capabilities.0 i) }
+        ensures zstd_level { IfOk result (λ p. spec.zstd_level p ≡ None) }
     {
         let capabilities = with_options(
             capabilities,

@@ -10,7 +10,7 @@ use Rattle.mysql_cuts.specs.Cut.{PartFits, rows_in, request_size}
 use Rattle.mysql_values.specs.declared.param_type.ParamType.{ParamType}
 use Rattle.mysql_values.specs.declared.value.Value.{Value}
 use Rattle.mysql_values.specs.Value.{Content, content_of, contents_of}
-use Rattle.mysql_bulk.specs.Builder.{BuilderState, packing, IsStoredAs, waiting_size, WaitingFits, TakesArity, TakesRow, RowFits, after_row, arity_after, IsConsistent}
+use Rattle.mysql_bulk.specs.Builder.{Builder, BuilderState, HasRoom, packing, IsStoredAs, waiting_size, WaitingFits, TakesArity, TakesRow, RowFits, after_row, arity_after, IsConsistent}
 use Rattle.mysql_bulk.specs.ColumnTypes.{TakesTypes, types_of_rows, types_so_far, types_after_row, MayFollow}
 use Rattle.mysql_bulk.specs.Row.{row_size, rows_packing, first_length, EqualLengths}
 use Rattle.mysql_bulk.specs.BuilderRows.{rows_of, waiting_rows}
@@ -64,6 +64,20 @@ held_by_copies [] [] a = refl
 held_by_copies [] (y ∷ copies) a = absurd a
 held_by_copies (x ∷ values) [] a = absurd a
 held_by_copies (x ∷ values) (y ∷ copies) a = λ i. a.0 i ∷ held_by_copies values copies a.1 i
+
+-- equal builders have equal states
+pub same_state : {a b : Builder} → a ≡ b → a.state ≡ b.state
+same_state e = ap (λ (builder : Builder). builder.state) e
+
+-- no row, no type
+no_types : (due : Bool) (columns : Option (List ParamType)) (rows : List (List Content)) → rows ≡ [] → (if due then types_so_far columns rows else []) ≡ []
+no_types false columns rows e = refl
+no_types true None rows e = ap (types_so_far None) e
+no_types true (Some declared) rows e = ap (types_so_far (Some declared)) e
+
+no_contents : (values : List Value) → contents_of values ≡ [] → values ≡ []
+no_contents [] e = refl
+no_contents (value ∷ values) e = cc
 
 module _ {s : BuilderState} {count size : ℕ} {values : List Content} {types : List ParamType} (k : IsStoredAs s count size values types) where
   pub stored_rows : count ≢ 0 → s.waiting ≢ []
@@ -197,15 +211,38 @@ module _ {s : BuilderState} {count size : ℕ} {values : List Content} {types : 
         taken = subst (All (TakesTypes (Some declared))) (sym no_row) (All-nil (TakesTypes (Some declared)));
         types_is = k.types_is ∙ no_types s.types_due s.columns s.waiting e ∙ ap (types_so_far (Some declared)) (sym no_row);
       }
-    where
-      no_types : (due : Bool) (columns : Option (List ParamType)) (rows : List (List Content)) → rows ≡ [] → (if due then types_so_far columns rows else []) ≡ []
-      no_types false columns rows e = refl
-      no_types true None rows e = ap (types_so_far None) e
-      no_types true (Some declared) rows e = ap (types_so_far (Some declared)) e
 
   pub state_declared : (declared : List ParamType) → s.waiting ≡ [] → declared_state declared ≡ record s { columns = Some declared; arity = Some (length declared); types_due = true }
   state_declared declared e =
       ap (λ (w : List (List Content)). record s { columns = Some declared; arity = Some (length declared); types_due = true; waiting = w }) (flat_some (Some (length declared)) count values (none_wait e) ∙ sym e)
+
+  -- a builder without rows has no values and no types
+  pub stored_no_values : (items : List Value) → values ≡ contents_of items → s.waiting ≡ [] → items ≡ []
+  stored_no_values items held e = no_contents items (sym held ∙ stored_values ∙ ap rows_in e)
+
+  pub stored_no_types : s.waiting ≡ [] → types ≡ []
+  stored_no_types e = k.types_is ∙ no_types s.types_due s.columns s.waiting e
+
+  -- the rows that wait are counted
+  pub stored_count : count ≡ length s.waiting
+  stored_count = sym (ap length k.rows_is ∙ length-rows_of (unwrap_or s.arity 0) count values)
+
+  -- lists with capacity for a row are not full
+  pub stored_not_full : (values_capacity types_capacity arity held : ℕ) → held ≡ length values → HasRoom (record { state = s; values_capacity = values_capacity; types_capacity = types_capacity }) arity
+      → (values_capacity < held + arity) ⊎ ((s.types_due ≡ true) × (types_capacity < arity)) → ⊥
+  stored_not_full values_capacity types_capacity arity held long spare (inl less) =
+      let all : length values ≡ length (rows_in s.waiting) = ap length stored_values in
+      let has = spare.0 in
+      omega (arith, has, less, long, all)
+  stored_not_full values_capacity types_capacity arity held long spare (inr less) =
+      let has = spare.1 less.0 in
+      let lacks = less.1 in
+      omega (arith, has, lacks)
+
+  pub stored_countable : (values_capacity types_capacity arity : ℕ) → HasRoom (record { state = s; values_capacity = values_capacity; types_capacity = types_capacity }) arity → count + 1 < 2 ^ 64
+  stored_countable values_capacity types_capacity arity spare =
+      let most = spare.2 in
+      omega (arith, most, stored_count)
 
   pub stored_fits : count ≢ 0 → 7 + 2 * length types + size < 2 ^ 64
   stored_fits n = omega (arith, stored_size n, stored_bound n, k.limit_is)

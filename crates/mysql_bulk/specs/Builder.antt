@@ -1,6 +1,7 @@
 -- A builder of bulk requests, and its steps.
-use Rattle.std.specs.Prelude.{◌≡◌, ◌≢◌, ℕ, ◌^◌, ◌<◌, Bool, true, false, if◌then◌else◌, List, [], ◌∷◌, ◌++◌, length, Option, Some, None, Result, Ok, Err, map, All, position, not, IsTrue, unwrap_or}
+use Rattle.std.specs.Prelude.{◌≡◌, ◌≢◌, ℕ, ◌+◌, ◌^◌, ◌<◌, ◌≤◌, Bool, true, false, if◌then◌else◌, List, [], ◌∷◌, ◌++◌, length, Option, Some, None, Result, Ok, Err, map, All, position, not, IsTrue, unwrap_or}
 use Rattle.std.specs.Global.{Vec}
+use Rattle.std.specs.List.{list_any}
 use Rattle.mysql_cuts.specs.declared.rule.BulkRule.{BulkRule}
 use Rattle.mysql_cuts.specs.Cut.{Packing, PartFits, rows_in, request_size}
 use Rattle.mysql_values.specs.declared.params.Params.{Params}
@@ -8,6 +9,7 @@ use Rattle.mysql_values.specs.declared.param_type.ParamType.{ParamType}
 use Rattle.mysql_values.specs.declared.value.Value.{Value}
 use Rattle.mysql_values.specs.Params as given_by
 use Rattle.mysql_values.specs.Value.{Content}
+use Rattle.mysql_values.specs.ValueDeserializer.{has_bytes}
 use Rattle.mysql_bulk.specs.declared.error.BulkColumnTypeError.{BulkColumnTypeError}
 use Rattle.mysql_bulk.specs.declared.error.BulkExecuteRequestError.{BulkExecuteRequestError}
 use Rattle.mysql_bulk.specs.declared.error.BulkExecuteRequestError.TheVariants.{MixedArity, MixedTypes, RowTooLarge, MemoryRow, NoParams, Memory}
@@ -38,6 +40,17 @@ pub record BuilderState : Type 0 where
   -- the next request sends types
   pub types_due : Bool
   pub waiting : List (List Content)
+
+-- a builder, with the numbers of values and of types that its lists can hold without more memory
+pub record Builder : Type 0 where
+  pub state : BuilderState
+  pub values_capacity : ℕ
+  pub types_capacity : ℕ
+
+-- a builder without its capacity, or the error
+abbrev pub state_in : {E : Type 0} → Result Builder E → Result BuilderState E
+state_in (Ok builder) = Ok builder.state
+state_in (Err e) = Err e
 
 -- a builder with these settings and a given number of rows, whose values are in one list
 abbrev pub builder_state : (stmt_id limit : ℕ) (results : Bool) → BulkRule → (names : Option (List (Vec ℕ))) → (columns : Option (List ParamType)) → (arity : Option ℕ) → (types_due : Bool) → (count : ℕ) → List Content → BuilderState
@@ -114,6 +127,23 @@ abbrev pub AddsParams : BuilderState → Params → Result (Option (Vec Value)) 
 AddsParams s params (Ok back) t = (row : Vec Value) × (given_by.values_of params s.names ≡ Ok (contents_of_row row)) × Adds s row (Ok back) t
 AddsParams s params (Err (refused.Request e)) t = (row : Vec Value) × (given_by.values_of params s.names ≡ Ok (contents_of_row row)) × Adds s row (Err e) t
 AddsParams s params (Err (refused.Params e)) t = given_by.Refuses params s.names e × (t ≡ s)
+
+-- ---- memory
+
+-- the lists have capacity for a row of this length, and the rows can be counted
+abbrev pub HasRoom : Builder → (arity : ℕ) → Type 0
+HasRoom b arity =
+    (length (rows_in b.state.waiting) + arity ≤ b.values_capacity)
+    × (b.state.types_due ≡ true → arity ≤ b.types_capacity)
+    × (length b.state.waiting + 1 < 2 ^ 64)
+
+-- the lists have at least the capacity that they had
+abbrev pub KeepsCapacity : Builder → Builder → Type 0
+KeepsCapacity b c = (b.values_capacity ≤ c.values_capacity) × (b.types_capacity ≤ c.types_capacity)
+
+-- they have capacity for a copy of a row, none of whose values has bytes
+abbrev pub HasRoomForCopy : Builder → List Content → Type 0
+HasRoomForCopy b row = HasRoom b (length row) × (list_any has_bytes row ≡ false)
 
 -- ---- building a request
 

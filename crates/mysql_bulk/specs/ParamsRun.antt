@@ -10,7 +10,7 @@ use Rattle.mysql_bulk.specs.declared.error.BulkExecuteRequestBuilderError.{BulkE
 use Rattle.mysql_bulk.specs.declared.error.BulkExecuteRequestBuilderError.TheVariants as refused
 use Rattle.mysql_bulk.specs.declared.params_run.BulkParamsRequests.{BulkParamsRequests}
 use Rattle.mysql_bulk.specs.Request.{BulkRequest}
-use Rattle.mysql_bulk.specs.Builder.{BuilderState}
+use Rattle.mysql_bulk.specs.Builder.{Builder, BuilderState}
 use Rattle.mysql_bulk.specs.Row.{contents_of_row, contents_of_rows}
 use Rattle.mysql_bulk.specs.Run.{Accepts, NextRow, AcceptsUntilFull, RunState, NextRequest}
 
@@ -63,7 +63,7 @@ module _ {I R : Type 0} where
   carried_of run = run.carried
 
   -- the builder of a run
-  abbrev pub builder_of : BulkParamsRequests I R → BuilderState
+  abbrev pub builder_of : BulkParamsRequests I R → Builder
   builder_of run = run.builder.now
 
   -- two runs have the same reference to a builder
@@ -72,8 +72,8 @@ module _ {I R : Type 0} where
 
   -- the names by which parameters become rows
   abbrev pub names_of : BulkParamsRequests I R → Names
-  names_of run = run.builder.now.names
+  names_of run = run.builder.now.state.names
 
 -- the state of the iterator
 abbrev pub state_of : {I : Type 0} → BulkParamsRequests I (Vec Value) → RunState I
-state_of run = record { builder = run.builder.now; carried = run.carried; rows = run.params; ended = run.ended }
+state_of run = record { builder = run.builder.now.state; carried = run.carried; rows = run.params; ended = run.ended }

@@ -8,7 +8,7 @@ use Rattle.mysql_bulk.specs.declared.error.BulkExecuteRequestError.{BulkExecuteR
 use Rattle.mysql_bulk.specs.declared.error.BulkExecuteRequestBuilderError.{BulkExecuteRequestBuilderError}
 use Rattle.mysql_bulk.specs.declared.error.BulkExecuteRequestBuilderError.TheVariants.{Request, Params}
 use Rattle.mysql_bulk.specs.declared.run.BulkRequests.{BulkRequests}
-use Rattle.mysql_bulk.specs.Builder.{BuilderState, TakesRow, RowFits, after_row, Adds, BuildsRequest}
+use Rattle.mysql_bulk.specs.Builder.{Builder, BuilderState, TakesRow, RowFits, after_row, Adds, BuildsRequest}
 use Rattle.mysql_bulk.specs.Request.{BulkRequest}
 use Rattle.mysql_bulk.specs.Row.{contents_of_row, contents_of_rows}
 
@@ -46,7 +46,7 @@ abbrev pub carried_of : {I R : Type 0} → BulkRequests I R → Option R
 carried_of run = run.carried
 
 -- the builder of a run
-abbrev pub builder_of : {I R : Type 0} → BulkRequests I R → BuilderState
+abbrev pub builder_of : {I R : Type 0} → BulkRequests I R → Builder
 builder_of run = run.builder.now
 
 -- two runs have the same reference to a builder
@@ -55,7 +55,7 @@ SameBuilder s t = t.builder.ghost_name ≡ s.builder.ghost_name
 
 -- the state of the iterator
 abbrev pub state_of : {I : Type 0} → BulkRequests I (Vec Value) → RunState I
-state_of run = record { builder = run.builder.now; carried = run.carried; rows = run.rows; ended = run.ended }
+state_of run = record { builder = run.builder.now.state; carried = run.carried; rows = run.rows; ended = run.ended }
 
 module _ {S : Type 0} (steps : S → Option (Vec Value) → S → Type 0) where
   -- rows were accepted, so that m contains them, up to one that didn't fit with the waiting rows and is kept now, or up to the end of the

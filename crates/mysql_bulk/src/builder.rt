@@ -4,7 +4,7 @@
 //! `builder/borrowed.rt`, runs over rows and over parameters in `run.rt` and `params_run.rt`, and a whole run
 //! in `whole_run.rt`.
 
-ghost use Rattle.std.specs.Prelude.{◌≡◌, ◌≢◌, ◌+◌, ◌≤◌, ◌-◌, ◌↔◌, ◌++◌, ◌∷◌, [], length, map, IsTrue, MatchOption, IfSome, Some, None, true, false, sum_by, List, ℕ};
+ghost use Rattle.std.specs.Prelude.{◌≡◌, ◌≢◌, ◌+◌, ◌≤◌, ◌-◌, ◌↔◌, ◌++◌, ◌∷◌, [], length, map, IsTrue, MatchOption, IfSome, OnOk, OnErr, Some, None, true, false, sum_by, List, ℕ};
 ghost use Rattle.std.specs.Option.{option_copied};
 ghost use Rattle.mysql_cuts.specs.Cut.{PartFits};
 ghost use Rattle.mysql_values.specs.Value.{Content};
@@ -15,7 +15,7 @@ ghost use Rattle.mysql_bulk.specs.Row.{row_size, rows_packing};
 
 use crate::error::BulkExecuteRequestError;
 use crate::request::ComStmtBulkExecuteRequest;
-use crate::row::{row_len, row_len_by_call};
+use crate::row::{clone_list, row_len, row_len_by_call};
 use crate::row_value::RowValue;
 use crate::size::size_within;
 use mysql_cuts::BulkRule;
@@ -45,6 +45,9 @@ mod owned;
 ///   which sends no types, is rejected if the column has a value, after the rows of the first one are stored.
 ///
 /// With declared types neither happens.
+///
+/// In a clause, `state` is the settings and the waiting rows, and the capacities are those of the lists of values
+/// and of types.
 ///
 /// ```
 /// let mut builder = ComStmtBulkExecuteRequestBuilder::new(alloc, 1, 31);
@@ -92,19 +95,26 @@ impl Drop for ComStmtBulkExecuteRequestBuilder<'_> {
 }
 
 impl<'a> Model for ComStmtBulkExecuteRequestBuilder<'a> {
+    ghost use Rattle.std.specs.Prelude.{vec_capacity};
     ghost use Rattle.std.specs.Option.{option_copied};
-    ghost use Rattle.mysql_bulk.specs.Builder.{BuilderState, IsStoredAs, builder_state};
+    ghost use Rattle.mysql_bulk.specs.Builder.{Builder, IsStoredAs, builder_state};
     ghost use Rattle.mysql_values.specs.Value.{contents_of};
 
-    ghost Value = { BuilderState };
+    ghost Value = { Builder };
 
-    ghost view = { λ a. builder_state a.stmt_id a.limit a.results a.rule (option_copied a.names) (option_copied a.columns) a.arity a.types_due a.count (contents_of a.values.items) };
+    ghost view = { λ a. record {
+      state = builder_state a.stmt_id a.limit a.results a.rule (option_copied a.names) (option_copied a.columns) a.arity a.types_due a.count (contents_of a.values.items);
+      values_capacity = vec_capacity a.values;
+      types_capacity = vec_capacity a.types;
+    } };
 
     ghost invariant = { λ a. IsStoredAs (builder_state a.stmt_id a.limit a.results a.rule (option_copied a.names) (option_copied a.columns) a.arity a.types_due a.count (contents_of a.values.items)) a.count a.size (contents_of a.values.items) a.types.items };
 }
 
 impl<'a> Clone for ComStmtBulkExecuteRequestBuilder<'a> {
-    ghost is_clone = { λ builder copy. copy ≡ builder };
+    ghost is_clone = { λ builder copy. copy.state ≡ builder.state };
+
+    ghost is_infallible = { λ builder. builder.state.waiting ≡ [] };
 
     fn clone(&self) -> Result<Self, AllocError> {
         Ok(ComStmtBulkExecuteRequestBuilder {
@@ -119,21 +129,22 @@ impl<'a> Clone for ComStmtBulkExecuteRequestBuilder<'a> {
             types_due: self.types_due,
             count: self.count,
             size: self.size,
-            values: self.values.clone()?,
-            types: self.types.clone()?,
+            values: clone_list(&self.values)?,
+            types: clone_list(&self.types)?,
         })
     }
 }
 
 /// Compares the settings, and the values of the waiting rows.
 impl<'a> PartialEq for ComStmtBulkExecuteRequestBuilder<'a> {
+    ghost use Rattle.std.specs.Cmp.{on_per};
     ghost use Rattle.mysql_bulk.specs.BuilderEq.{builder_eq, builder_per};
     ghost use Rattle.mysql_cuts.specs.contracts.rule.BulkRulePartialEq.TheImpl.Laws as of_rules;
     ghost use Rattle.mysql_values.specs.contracts.param_type.ParamTypePartialEq.TheImpl.Laws as of_types;
 
-    ghost eq = { builder_eq ⟦<BulkRule as PartialEq>⟧.eq ⟦<ParamType as PartialEq>⟧.eq };
+    ghost eq = { λ a b. builder_eq ⟦<BulkRule as PartialEq>⟧.eq ⟦<ParamType as PartialEq>⟧.eq a.state b.state };
 
-    ghost laws = { builder_per ⟦<BulkRule as PartialEq>⟧.eq ⟦<ParamType as PartialEq>⟧.eq of_rules.laws-law of_types.laws-law };
+    ghost laws = { on_per (λ builder. builder.state) (builder_per ⟦<BulkRule as PartialEq>⟧.eq ⟦<ParamType as PartialEq>⟧.eq of_rules.laws-law of_types.laws-law) };
 
     fn eq(&self, other: &Self) -> bool {
         self.stmt_id == other.stmt_id
@@ -205,7 +216,7 @@ impl<'a> ComStmtBulkExecuteRequestBuilder<'a> {
     /// Creates a builder without rows. A request may be as long as a packet, minus four bytes. It takes no memory.
     pub fn new(alloc: Global, stmt_id: u32, max_allowed_packet: usize) -> Self
         requires { 4 ≤ max_allowed_packet }
-        ensures { result ≡ record { stmt_id = stmt_id; limit = max_allowed_packet - 4; results = false; rule = record { types_always = false; max_rows = None }; names = None; columns = None; arity = None; types_due = true; waiting = [] } }
+        ensures { result ≡ record { state = record { stmt_id = stmt_id; limit = max_allowed_packet - 4; results = false; rule = record { types_always = false; max_rows = None }; names = None; columns = None; arity = None; types_due = true; waiting = [] }; values_capacity = 0; types_capacity = 0 } }
     {
         ComStmtBulkExecuteRequestBuilder {
             names: None,
@@ -226,7 +237,7 @@ impl<'a> ComStmtBulkExecuteRequestBuilder<'a> {
 
     /// Sets the names of the parameters, in the order of the statement, for `add_params`.
     pub fn with_named_params(self, names: Option<&'a [Vec<u8>]>) -> Self
-        ensures { result ≡ record self.entry { names = option_copied names.entry } }
+        ensures { result ≡ record self.entry { state = record self.entry.state { names = option_copied names.entry } } }
     {
         let mut builder = self;
         builder.names = names;
@@ -235,7 +246,7 @@ impl<'a> ComStmtBulkExecuteRequestBuilder<'a> {
 
     /// Requests a result for each row from the server.
     pub fn with_results(self) -> Self
-        ensures { result ≡ record self.entry { results = true } }
+        ensures { result ≡ record self.entry { state = record self.entry.state { results = true } } }
     {
         let mut builder = self;
         builder.results = true;
@@ -244,8 +255,8 @@ impl<'a> ComStmtBulkExecuteRequestBuilder<'a> {
 
     /// Sends types in every request from now on, even if a request was built before.
     pub fn with_types_always(self) -> Self
-        requires { self.waiting ≡ [] }
-        ensures { result ≡ record self.entry { types_due = true; rule = record self.entry.rule { types_always = true } } }
+        requires { self.state.waiting ≡ [] }
+        ensures { result ≡ record self.entry { state = record self.entry.state { types_due = true; rule = record self.entry.state.rule { types_always = true } } } }
     {
         let mut builder = self;
         builder.types_due = true;
@@ -258,9 +269,9 @@ impl<'a> ComStmtBulkExecuteRequestBuilder<'a> {
 
     /// Sends at most `k` rows in a request.
     pub fn with_max_rows(self, k: usize) -> Self
-        requires none_waits { self.waiting ≡ [] }
+        requires none_waits { self.state.waiting ≡ [] }
         requires some { 1 ≤ k }
-        ensures { result ≡ record self.entry { rule = record self.entry.rule { max_rows = Some k } } }
+        ensures { result ≡ record self.entry { state = record self.entry.state { rule = record self.entry.state.rule { max_rows = Some k } } } }
     {
         let mut builder = self;
         builder.rule = BulkRule {
@@ -272,28 +283,28 @@ impl<'a> ComStmtBulkExecuteRequestBuilder<'a> {
 
     /// The current rule: when types are sent, and the maximum number of rows.
     pub fn rule(&self) -> BulkRule
-        ensures { result ≡ self.now.rule }
+        ensures { result ≡ self.now.state.rule }
     {
         self.rule
     }
 
     /// Whether rows wait for a request.
     pub fn has_rows(&self) -> bool
-        ensures { IsTrue result ↔ (self.now.waiting ≢ []) }
+        ensures { IsTrue result ↔ (self.now.state.waiting ≢ []) }
     {
         self.count != 0
     }
 
     /// Whether both have the same names, and the same declared types.
     fn same_columns(&self, other: &Self) -> bool
-        ensures { result ≡ columns_eq ⟦<ParamType as PartialEq>⟧.eq self.now other.now }
+        ensures { result ≡ columns_eq ⟦<ParamType as PartialEq>⟧.eq self.now.state other.now.state }
     {
         self.names == other.names && self.columns == other.columns
     }
 
     /// Whether the waiting rows of both are equal, given that their rows have the same length.
     fn same_rows_wait(&self, other: &Self) -> bool
-        ensures { self.now.arity ≡ other.now.arity → result ≡ rows_eq self.now.waiting other.now.waiting }
+        ensures { self.now.state.arity ≡ other.now.state.arity → result ≡ rows_eq self.now.state.waiting other.now.state.waiting }
     {
         self.count == other.count && self.values == other.values
     }
@@ -301,21 +312,21 @@ impl<'a> ComStmtBulkExecuteRequestBuilder<'a> {
     /// Does nothing; its contract states the invariant of every builder, for the proof of a run.
     #[inline(always)]
     pub(crate) fn is_consistent(&self)
-        ensures { IsConsistent self.now }
+        ensures { IsConsistent self.now.state }
     {
         let _names = &self.names;
     }
 
     /// The number of waiting rows.
     pub(crate) fn rows_waiting(&self) -> usize
-        ensures { result ≡ length self.now.waiting }
+        ensures { result ≡ length self.now.state.waiting }
     {
         self.count
     }
 
     /// Whether a row of `arity` values may follow the rows that were accepted.
     fn takes_arity(&self, arity: usize) -> bool
-        ensures { IsTrue result ↔ TakesArity self.now.arity arity }
+        ensures { IsTrue result ↔ TakesArity self.now.state.arity arity }
     {
         match self.arity {
             Some(known) => arity == known,
@@ -326,8 +337,8 @@ impl<'a> ComStmtBulkExecuteRequestBuilder<'a> {
     /// The length in bytes of the waiting rows with one more, if these fit in one request.
     #[inline(always)]
     fn size_after<V: RowValue>(&self, row: &[V]) -> Option<u64>
-        ensures { MatchOption result (RowFits self.now (map V.content row.now) → ⊥)
-            (λ n. RowFits self.now (map V.content row.now) × (n ≡ sum_by row_size (self.now.waiting ++ map V.content row.now ∷ []))) }
+        ensures { MatchOption result (RowFits self.now.state (map V.content row.now) → ⊥)
+            (λ n. RowFits self.now.state (map V.content row.now) × (n ≡ sum_by row_size (self.now.state.waiting ++ map V.content row.now ∷ []))) }
     {
         size_by_call(
             self.rule,
@@ -344,7 +355,10 @@ impl<'a> ComStmtBulkExecuteRequestBuilder<'a> {
     ///
     /// The error is `NoParams` exactly if no row waits; the builder is unchanged then.
     pub fn build(&mut self) -> Result<ComStmtBulkExecuteRequest, BulkExecuteRequestError>
-        ensures { Builds self.old result self.new }
+        ensures builds { Builds self.old.state result self.new.state }
+        ensures stays { OnErr result (self.new ≡ self.old) }
+        // The lists of the next request have no memory yet.
+        ensures no_buffer { OnOk result ((self.new.values_capacity ≡ 0) × (self.new.types_capacity ≡ 0)) }
     {
         if self.count == 0 {
             return Err(BulkExecuteRequestError::NoParams);

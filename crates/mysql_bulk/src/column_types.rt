@@ -100,7 +100,8 @@ pub(crate) fn join_types<V: RowValue>(
 )
     requires may_follow { types_due ≡ true → spec.MayFollow (option_copied columns) types.old.items (map V.content row.now) }
     requires capacity { types_due ≡ true → length row.now ≤ vec_capacity types.old }
-    ensures { types.new.items ≡ (if types_due then spec.types_after_row (option_copied columns.entry) types.old.items (map V.content row.now) else types.old.items) }
+    ensures items { types.new.items ≡ (if types_due then spec.types_after_row (option_copied columns.entry) types.old.items (map V.content row.now) else types.old.items) }
+    ensures kept { vec_capacity types.old ≤ vec_capacity types.new }
 {
     match columns {
         None => join_row(types, types_due, row),
@@ -116,7 +117,8 @@ pub(crate) fn join_types<V: RowValue>(
 fn declare(types: &mut Vec<ParamType>, declared: &[ParamType])
     requires empty { types.old.items ≡ [] }
     requires capacity { length declared.now ≤ vec_capacity types.old }
-    ensures { types.new.items ≡ declared.now }
+    ensures items { types.new.items ≡ declared.now }
+    ensures kept { vec_capacity types.old ≤ vec_capacity types.new }
 {
     for kind in declared {
         types.push_reserved(*kind);

@@ -30,7 +30,8 @@ fn join_value<V: RowValue>(kind: &mut ParamType, value: &V)
 fn first_types<V: RowValue>(types: &mut Vec<ParamType>, row: &[V])
     requires empty { types.old.items ≡ [] }
     requires capacity { length row.now ≤ vec_capacity types.old }
-    ensures { types.new.items ≡ types_with_row [] (map V.content row.now) }
+    ensures items { types.new.items ≡ types_with_row [] (map V.content row.now) }
+    ensures kept { vec_capacity types.old ≤ vec_capacity types.new }
 {
     for value in row {
         types.push_reserved(value.param_type());
@@ -54,7 +55,8 @@ fn further_types<V: RowValue>(types: &mut [ParamType], row: &[V])
 pub(crate) fn join_row<V: RowValue>(types: &mut Vec<ParamType>, types_due: bool, row: &[V])
     requires lengths { types_due ≡ true → (length types.old.items ≡ length row.now) ⊎ (types.old.items ≡ []) }
     requires capacity { types_due ≡ true → length row.now ≤ vec_capacity types.old }
-    ensures { types.new.items ≡ (if types_due then types_with_row types.old.items (map V.content row.now) else types.old.items) }
+    ensures items { types.new.items ≡ (if types_due then types_with_row types.old.items (map V.content row.now) else types.old.items) }
+    ensures kept { vec_capacity types.old ≤ vec_capacity types.new }
 {
     if !types_due {
         return;

@@ -8,6 +8,7 @@ ghost use Rattle.mysql_bulk.specs.ParamValue.{with_indicator};
 ghost use Rattle.mysql_bulk.specs.ParamValues.{reads_first, values_of_columns};
 
 use crate::param_value::StmtBulkExecuteParamValue;
+use crate::row::clone_list;
 use mysql_values::Value;
 use mysql_wire::{
     AnyWidth, Buffer, ColumnFlags, ColumnType, FaultOf, MyDeserialize, MySerialize, ParseBuf,
@@ -67,9 +68,11 @@ impl StmtBulkExecuteParamValues {
 impl Clone for StmtBulkExecuteParamValues {
     ghost is_clone = { λ row copy. copy ≡ row };
 
+    ghost is_infallible = { λ row. row ≡ [] };
+
     fn clone(&self) -> Result<Self, AllocError> {
         Ok(StmtBulkExecuteParamValues {
-            values: self.values.clone()?,
+            values: clone_list(&self.values)?,
         })
     }
 }

@@ -19,9 +19,9 @@ fn take_params<I: Iterator<Item = Params>>(
 ) -> Result<Option<Vec<Value>>, BulkExecuteRequestBuilderError>
     requires can { I.can_next params.old }
     requires ends { IsFinite (I.remaining params.old) }
-    ensures accepts { AcceptsParamsUntilFull I.next_gives builder.old.names builder.old None params.old result builder.new params.new }
+    ensures accepts { AcceptsParamsUntilFull I.next_gives builder.old.state.names builder.old.state None params.old result builder.new.state params.new }
     ensures progress { IfOk result (λ last. IfSome last (λ _. I.can_next params.new × IsFinite (I.remaining params.new)
-        × (length builder.new.waiting + 1 + size (I.remaining params.new) ≤ length builder.old.waiting + size (I.remaining params.old)))) }
+        × (length builder.new.state.waiting + 1 + size (I.remaining params.new) ≤ length builder.old.state.waiting + size (I.remaining params.old)))) }
 {
     while let Some(entry) = params.next() {
         if let Some(row) = builder.add_params(entry)? {
@@ -39,9 +39,9 @@ fn fill_params<I: Iterator<Item = Params>>(
 ) -> Result<Option<Vec<Value>>, BulkExecuteRequestBuilderError>
     requires can { I.can_next params.old }
     requires ends { IsFinite (I.remaining params.old) }
-    ensures accepts { AcceptsParamsUntilFull I.next_gives builder.old.names builder.old carried params.old result builder.new params.new }
+    ensures accepts { AcceptsParamsUntilFull I.next_gives builder.old.state.names builder.old.state carried params.old result builder.new.state params.new }
     ensures progress { IfOk result (λ last. IfSome last (λ _. I.can_next params.new × IsFinite (I.remaining params.new)
-        × (length builder.new.waiting + 1 + size (I.remaining params.new) ≤ length builder.old.waiting + length (option_to_list carried) + size (I.remaining params.old)))) }
+        × (length builder.new.state.waiting + 1 + size (I.remaining params.new) ≤ length builder.old.state.waiting + length (option_to_list carried) + size (I.remaining params.old)))) }
 {
     if let Some(row) = carried {
         if let Some(row) = builder.add_row(row)? {
@@ -73,7 +73,7 @@ impl<'a> ComStmtBulkExecuteRequestBuilder<'a> {
         requires can { I.can_next params }
         requires ends { IsFinite (I.remaining params) }
         ensures builder { result.builder.ghost_name ≡ self.entry.ghost_name }
-        ensures begins { state_of result ≡ record { builder = self.old; carried = None; rows = params; ended = false } }
+        ensures begins { state_of result ≡ record { builder = self.old.state; carried = None; rows = params; ended = false } }
     {
         BulkParamsRequests {
             builder: self,

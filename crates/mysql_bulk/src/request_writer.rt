@@ -1,6 +1,6 @@
 //! A writer of bulk requests, which keeps the bytes of the rows that are added and not their values.
 
-ghost use Rattle.std.specs.Prelude.{◌≡◌, ◌≢◌, ◌+◌, ◌++◌, ◌<◌, ◌≤◌, ◌-◌, ◌^◌, ◌↔◌, IsTrue, IfOk, IfSome, IfNone, OnErr, MatchOption, [], length, map, None, Some, true, false, if◌then◌else◌, vec_len, vec_capacity, List};
+ghost use Rattle.std.specs.Prelude.{◌≡◌, ◌≢◌, ◌+◌, ◌++◌, ◌<◌, ◌≤◌, ◌-◌, ◌^◌, ◌↔◌, IsTrue, IfOk, IfSome, IfNone, OnErr, OnSome, MatchOption, [], length, map, None, Some, true, false, if◌then◌else◌, vec_len, vec_capacity, List};
 ghost use Rattle.std.specs.Bool.{OnTrue, OnFalse};
 ghost use Rattle.mysql_values.specs.Value.{Content};
 ghost use Rattle.mysql_values.specs.ValueRef.{ref_content};
@@ -317,6 +317,8 @@ impl<'a> BulkRequestWriter<'a> {
         ensures capacity { IfSome result (λ bytes. vec_capacity bytes ≡ self.old.capacity) }
         ensures lets_go { LetsGo self.old self.new }
         ensures stays { IfNone result (self.new ≡ self.old) }
+        // The new buffer has no memory yet.
+        ensures no_buffer { OnSome result (self.new.capacity ≡ 0) }
     {
         if self.count == 0 {
             return None;

@@ -1,6 +1,7 @@
 //! Rows of a bulk request: their sizes, their lengths and their values.
 
-ghost use Rattle.std.specs.Prelude.{◌≡◌, ◌+◌, ◌<◌, ◌≤◌, ◌^◌, ◌++◌, ◌↔◌, ◌⊎◌, length, map, true, IsTrue, IfSome, IfNone, OnSome, OnOk, OnErr, MatchOption, vec_len, vec_capacity};
+ghost use Rattle.std.specs.Prelude.{◌≡◌, ◌+◌, ◌<◌, ◌≤◌, ◌^◌, ◌++◌, ◌↔◌, ◌⊎◌, [], length, map, true, IsTrue, IfSome, IfNone, IfOk, IsOk, OnSome, OnOk, OnErr, MatchOption, vec_len, vec_capacity};
+ghost use Rattle.std.specs.List.{AllZip};
 ghost use Rattle.mysql_values.specs.Value.{contents_of};
 ghost use Rattle.mysql_bulk.specs.Row.{row_size, values_size, contents_of_rows, EqualLengths, RefusesRow};
 
@@ -69,6 +70,8 @@ pub(crate) fn find_capacity(
     ensures values_capacity { OnOk result (vec_len values.new + arity ≤ vec_capacity values.new) }
     ensures types_capacity { OnOk result (types_due ≡ true → arity ≤ vec_capacity types.new) }
     ensures full { OnErr result ((vec_capacity values.old < vec_len values.old + arity) ⊎ ((types_due ≡ true) × (vec_capacity types.old < arity))) }
+    ensures values_grow { vec_capacity values.old ≤ vec_capacity values.new }
+    ensures types_grow { vec_capacity types.old ≤ vec_capacity types.new }
 {
     values.reserve(arity)?;
     if types_due && types.capacity() < arity {
@@ -77,10 +80,22 @@ pub(crate) fn find_capacity(
     Ok(())
 }
 
+/// Clones a list. An empty one takes no memory: by its contract, the clone of a `Vec` may fail even then.
+pub(crate) fn clone_list<T: Clone>(list: &Vec<T>) -> Result<Vec<T>, AllocError>
+    ensures items { IfOk result (λ copy. AllZip T.is_clone list.now.items copy.items) }
+    ensures no_memory { list.now.items ≡ [] → IsOk result }
+{
+    if list.is_empty() {
+        return Ok(Vec::new(*list.allocator()));
+    }
+    list.clone()
+}
+
 /// Appends the values of a row, for which there is capacity, by moving them.
 pub(crate) fn append_row(values: &mut Vec<Value>, row: Vec<Value>)
     requires { vec_len values.old + length row.items ≤ vec_capacity values.old }
-    ensures { values.new.items ≡ values.old.items ++ row.items }
+    ensures items { values.new.items ≡ values.old.items ++ row.items }
+    ensures capacity { vec_capacity values.old ≤ vec_capacity values.new }
 {
     let mut row = row;
     values.append(&mut row).unwrap();
@@ -102,6 +117,7 @@ pub(crate) fn append_copies<V: RowValue>(
     ensures copies { OnSome result (contents_of values.new.items ≡ contents_of values.old.items ++ map V.content row.now) }
     ensures none { IfNone result (values.new.items ≡ values.old.items) }
     ensures refused { IfNone result (RefusesRow most (map V.content row.now)) }
+    ensures capacity { vec_capacity values.old ≤ vec_capacity values.new }
 {
     let before = values.len();
     let mut left = most;

@@ -18,9 +18,9 @@ fn take_rows<I: Iterator<Item = Vec<Value>>>(
 ) -> Result<Option<Vec<Value>>, BulkExecuteRequestError>
     requires can { I.can_next rows.old }
     requires ends { IsFinite (I.remaining rows.old) }
-    ensures accepts { AcceptsUntilFull I.next_gives builder.old None rows.old result builder.new rows.new }
+    ensures accepts { AcceptsUntilFull I.next_gives builder.old.state None rows.old result builder.new.state rows.new }
     ensures progress { IfOk result (λ last. IfSome last (λ _. I.can_next rows.new × IsFinite (I.remaining rows.new)
-        × (length builder.new.waiting + 1 + size (I.remaining rows.new) ≤ length builder.old.waiting + size (I.remaining rows.old)))) }
+        × (length builder.new.state.waiting + 1 + size (I.remaining rows.new) ≤ length builder.old.state.waiting + size (I.remaining rows.old)))) }
 {
     while let Some(row) = rows.next() {
         if let Some(row) = builder.add(row)? {
@@ -38,9 +38,9 @@ pub(crate) fn fill<I: Iterator<Item = Vec<Value>>>(
 ) -> Result<Option<Vec<Value>>, BulkExecuteRequestError>
     requires can { I.can_next rows.old }
     requires ends { IsFinite (I.remaining rows.old) }
-    ensures accepts { AcceptsUntilFull I.next_gives builder.old carried rows.old result builder.new rows.new }
+    ensures accepts { AcceptsUntilFull I.next_gives builder.old.state carried rows.old result builder.new.state rows.new }
     ensures progress { IfOk result (λ last. IfSome last (λ _. I.can_next rows.new × IsFinite (I.remaining rows.new)
-        × (length builder.new.waiting + 1 + size (I.remaining rows.new) ≤ length builder.old.waiting + length (option_to_list carried) + size (I.remaining rows.old)))) }
+        × (length builder.new.state.waiting + 1 + size (I.remaining rows.new) ≤ length builder.old.state.waiting + length (option_to_list carried) + size (I.remaining rows.old)))) }
 {
     if let Some(row) = carried {
         if let Some(row) = builder.add(row)? {
@@ -54,7 +54,7 @@ pub(crate) fn fill<I: Iterator<Item = Vec<Value>>>(
 pub(crate) fn answer_waiting(
     builder: &mut ComStmtBulkExecuteRequestBuilder<'_>,
 ) -> Option<Result<ComStmtBulkExecuteRequest, BulkExecuteRequestBuilderError>>
-    ensures { AnswersWaiting builder.old result builder.new }
+    ensures { AnswersWaiting builder.old.state result builder.new.state }
 {
     match builder.build() {
         Ok(request) => Some(Ok(request)),
@@ -85,7 +85,7 @@ impl<'a> ComStmtBulkExecuteRequestBuilder<'a> {
         requires can { I.can_next rows }
         requires ends { IsFinite (I.remaining rows) }
         ensures builder { result.builder.ghost_name ≡ self.entry.ghost_name }
-        ensures begins { state_of result ≡ record { builder = self.old; carried = None; rows = rows; ended = false } }
+        ensures begins { state_of result ≡ record { builder = self.old.state; carried = None; rows = rows; ended = false } }
     {
         BulkRequests {
             builder: self,

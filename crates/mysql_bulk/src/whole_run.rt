@@ -29,11 +29,11 @@ fn send(
     ends: &mut Vec<usize>,
     sent: usize,
 ) -> Result<usize, AllocError>
-    requires { builder.old.waiting ≢ [] }
-    ensures end { IfOk result (λ end. end ≡ sent + length builder.old.waiting) }
+    requires { builder.old.state.waiting ≢ [] }
+    ensures end { IfOk result (λ end. end ≡ sent + length builder.old.state.waiting) }
     ensures ends { IfOk result (λ end. ends.new.items ≡ ends.old.items ++ end ∷ []) }
-    ensures requests { OnOk result (PutsRequest builder.old requests.old.items requests.new.items builder.new) }
-    ensures unchanged { OnErr result ((builder.new ≡ builder.old) × (requests.new.items ≡ requests.old.items) × (ends.new.items ≡ ends.old.items)) }
+    ensures requests { OnOk result (PutsRequest builder.old.state requests.old.items requests.new.items builder.new.state) }
+    ensures unchanged { OnErr result ((builder.new.state ≡ builder.old.state) × (requests.new.items ≡ requests.old.items) × (ends.new.items ≡ ends.old.items)) }
 {
     let end = sent.checked_add(builder.rows_waiting()).ok_or(AllocError)?;
     requests.reserve(1)?;
@@ -58,7 +58,7 @@ impl<'a> ComStmtBulkExecuteRequestBuilder<'a> {
     ) -> Result<(), BulkExecuteRequestError>
         requires no_requests { requests.old.items ≡ [] }
         requires no_ends { ends.old.items ≡ [] }
-        ensures { RunGives self.old (self.old.waiting ++ contents_of_rows rows.items) requests.new.items ends.new.items (refusal_of result) self.new }
+        ensures { RunGives self.old.state (self.old.state.waiting ++ contents_of_rows rows.items) requests.new.items ends.new.items (refusal_of result) self.new.state }
     {
         self.is_consistent();
         let mut input = rows.into_iter();
@@ -104,7 +104,7 @@ impl<'a> ComStmtBulkExecuteRequestBuilder<'a> {
     /// let run = builder.build_all(rows); // the fewest requests that fit, or which row has no place
     /// ```
     pub fn build_all(&mut self, rows: Vec<Vec<Value>>) -> BulkRun
-        ensures gives { RunGives self.old (self.old.waiting ++ contents_of_rows rows.items) result.requests.items result.ends.items result.refusal self.new }
+        ensures gives { RunGives self.old.state (self.old.state.waiting ++ contents_of_rows rows.items) result.requests.items result.ends.items result.refusal self.new.state }
         ensures of_rows { OfRows result.refusal }
     {
         let alloc = *rows.allocator();

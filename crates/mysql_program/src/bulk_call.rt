@@ -133,7 +133,7 @@ impl<'a> BulkCall<'a> {
 
     /// Creates the requested builder, before types are declared.
     pub fn builder(&self, alloc: Global) -> ComStmtBulkExecuteRequestBuilder<'static>
-        ensures value { result ≡ builder_of self.now }
+        ensures value { result.state ≡ builder_of self.now }
     {
         let mut builder = ComStmtBulkExecuteRequestBuilder::new(
             alloc,

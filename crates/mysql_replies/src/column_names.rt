@@ -273,6 +273,8 @@ impl ColumnNames {
 impl Clone for ColumnNames {
     ghost is_clone = { λ names copy. copy ≡ names };
 
+    ghost is_infallible = { λ names. spec.has_a_name names ≡ false };
+
     fn clone(&self) -> Result<Self, AllocError> {
         Ok(ColumnNames {
             bytes: self.bytes.clone()?,

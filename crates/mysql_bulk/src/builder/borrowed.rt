@@ -1,11 +1,11 @@
 //! Adding copies of borrowed rows.
 
-ghost use Rattle.std.specs.Prelude.{◌≡◌, ◌+◌, ◌≤◌, ◌↔◌, ◌++◌, ◌∷◌, [], length, map, IfSome, MatchOption, List, ℕ, sum_by};
+ghost use Rattle.std.specs.Prelude.{◌≡◌, ◌≢◌, ◌+◌, ◌≤◌, ◌↔◌, ◌++◌, ◌∷◌, [], length, map, Err, IsTrue, IfSome, MatchOption, List, ℕ, sum_by};
 ghost use Rattle.std.specs.Bool.{OnTrue, OnFalse};
 ghost use Rattle.mysql_cuts.specs.Cut.{PartFits};
 ghost use Rattle.mysql_values.specs.Value.{Content, contents_of};
 ghost use Rattle.mysql_values.specs.ValueRef.{ref_content};
-ghost use Rattle.mysql_bulk.specs.Builder.{TakesRow, RowFits, AddsCopy, after_row};
+ghost use Rattle.mysql_bulk.specs.Builder.{TakesRow, RowFits, AddsCopy, HasRoomForCopy, KeepsCapacity, after_row};
 ghost use Rattle.mysql_bulk.specs.Row.{row_size, rows_packing};
 
 use super::ComStmtBulkExecuteRequestBuilder;
@@ -27,7 +27,9 @@ impl<'a> ComStmtBulkExecuteRequestBuilder<'a> {
     // Inlined: a loop over rows of a known length is faster then.
     #[inline(always)]
     pub fn add_row_slice(&mut self, row: &[Value]) -> Result<bool, BulkRowError>
-        ensures { AddsCopy self.old (contents_of row.now) result self.new }
+        ensures adds { AddsCopy self.old.state (contents_of row.now) result self.new.state }
+        ensures no_memory { HasRoomForCopy self.old (contents_of row.now) → result ≢ Err BulkRowError.Memory }
+        ensures capacity { KeepsCapacity self.old self.new }
     {
         self.offer(row)
     }
@@ -37,7 +39,9 @@ impl<'a> ComStmtBulkExecuteRequestBuilder<'a> {
     // Inlined for the same reason.
     #[inline(always)]
     pub fn add_row_refs(&mut self, row: &[ValueRef<'_>]) -> Result<bool, BulkRowError>
-        ensures { AddsCopy self.old (map ref_content row.now) result self.new }
+        ensures adds { AddsCopy self.old.state (map ref_content row.now) result self.new.state }
+        ensures no_memory { HasRoomForCopy self.old (map ref_content row.now) → result ≢ Err BulkRowError.Memory }
+        ensures capacity { KeepsCapacity self.old self.new }
     {
         self.offer(row)
     }
@@ -45,7 +49,9 @@ impl<'a> ComStmtBulkExecuteRequestBuilder<'a> {
     /// Adds a copy of a row.
     #[inline(always)]
     fn offer<V: RowValue>(&mut self, row: &[V]) -> Result<bool, BulkRowError>
-        ensures { AddsCopy self.old (map V.content row.now) result self.new }
+        ensures adds { AddsCopy self.old.state (map V.content row.now) result self.new.state }
+        ensures no_memory { HasRoomForCopy self.old (map V.content row.now) → result ≢ Err BulkRowError.Memory }
+        ensures capacity { KeepsCapacity self.old self.new }
     {
         if !self.takes_arity(row.len()) {
             return Err(BulkRowError::MixedArity);
@@ -71,9 +77,11 @@ impl<'a> ComStmtBulkExecuteRequestBuilder<'a> {
     // The bytes are counted while they are copied, in one pass.
     #[inline(always)]
     fn takes_copy<V: RowValue>(&mut self, row: &[V]) -> bool
-        requires { TakesRow self.old (map V.content row.now) }
-        ensures waits { OnTrue result (RowFits self.old (map V.content row.now) × (self.new ≡ after_row self.old (map V.content row.now))) }
-        ensures stays { OnFalse result (self.new ≡ self.old) }
+        requires { TakesRow self.old.state (map V.content row.now) }
+        ensures waits { OnTrue result (RowFits self.old.state (map V.content row.now) × (self.new.state ≡ after_row self.old.state (map V.content row.now))) }
+        ensures stays { OnFalse result (self.new.state ≡ self.old.state) }
+        ensures no_memory { HasRoomForCopy self.old (map V.content row.now) → RowFits self.old.state (map V.content row.now) → IsTrue result }
+        ensures capacity { KeepsCapacity self.old self.new }
     {
         let arity = row.len();
         let Some(most) = most_bytes(

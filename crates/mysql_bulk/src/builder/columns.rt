@@ -1,7 +1,7 @@
 //! Declared column types.
 
-ghost use Rattle.std.specs.Prelude.{◌≡◌, [], map};
-ghost use Rattle.mysql_bulk.specs.Builder.{Declares};
+ghost use Rattle.std.specs.Prelude.{◌≡◌, [], IfOk, map};
+ghost use Rattle.mysql_bulk.specs.Builder.{Declares, state_in};
 ghost use Rattle.mysql_bulk.specs.ColumnTypes.{takes_types};
 ghost use Rattle.mysql_bulk.specs.ValueRows.{writer_of};
 
@@ -33,8 +33,9 @@ impl<'a> ComStmtBulkExecuteRequestBuilder<'a> {
     /// first one, and the builder is dropped. A declared type takes as many bytes as an undeclared one, so each
     /// guarantee of fewest requests holds. The types are not copied, and it takes no memory.
     pub fn with_column_types(self, types: &'a [ParamType]) -> Result<Self, BulkColumnTypeError>
-        requires { self.waiting ≡ [] }
-        ensures { Declares self.entry types.now result }
+        requires { self.state.waiting ≡ [] }
+        ensures declares { Declares self.entry.state types.now (state_in result) }
+        ensures capacity { IfOk result (λ builder. builder ≡ record self.entry { state = builder.state }) }
     {
         if let Some(place) = first_refused(types) {
             return Err(BulkColumnTypeError { place });
@@ -55,8 +56,10 @@ impl<'a> ComStmtBulkExecuteRequestBuilder<'a> {
     ///
     /// The next request sends the types. They are not copied, parameter names no longer matter, and it takes no memory.
     pub fn with_types(self, types: &'a [ParamType]) -> BulkRequestWriter<'a>
-        requires { self.waiting ≡ [] }
-        ensures settings { result ≡ writer_of self.entry types.now result.capacity }
+        requires { self.state.waiting ≡ [] }
+        ensures settings { result ≡ writer_of self.entry.state types.now result.capacity }
+        // It has no buffer yet.
+        ensures no_buffer { result.capacity ≡ 0 }
     {
         let buffer = Vec::new(self.alloc);
         let (stmt_id, limit, results, rule) = (self.stmt_id, self.limit, self.results, self.rule);
@@ -65,7 +68,7 @@ impl<'a> ComStmtBulkExecuteRequestBuilder<'a> {
 
     /// Whether the row fits the declared types, if there are any.
     pub(crate) fn takes_types<V: RowValue>(&self, row: &[V]) -> bool
-        ensures { result ≡ takes_types self.now.columns (map V.content row.now) }
+        ensures { result ≡ takes_types self.now.state.columns (map V.content row.now) }
     {
         match self.columns {
             Some(types) => spell_row(types, row),

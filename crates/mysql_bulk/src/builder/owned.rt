@@ -1,7 +1,11 @@
 //! Adding rows by value.
 
-ghost use Rattle.std.specs.Prelude.{◌≡◌, ◌++◌, ◌∷◌, [], IfErr, OnOk, sum_by};
-ghost use Rattle.mysql_bulk.specs.Builder.{TakesRow, RowFits, Adds, AddsRow, AddsParams, after_row};
+ghost use Rattle.std.specs.Prelude.{◌≡◌, ◌≢◌, ◌++◌, ◌∷◌, [], length, Ok, Err, IsOk, IfErr, OnOk, sum_by};
+ghost use Rattle.std.specs.Global.{Vec};
+ghost use Rattle.mysql_values.specs.declared.value.Value.{Value};
+ghost use Rattle.mysql_values.specs.Params as given_by;
+ghost use Rattle.mysql_bulk.specs.declared.error.BulkExecuteRequestBuilderError.TheVariants as refused;
+ghost use Rattle.mysql_bulk.specs.Builder.{TakesRow, RowFits, Adds, AddsRow, AddsParams, HasRoom, KeepsCapacity, after_row};
 ghost use Rattle.mysql_bulk.specs.Row.{contents_of_row, row_size};
 
 use super::ComStmtBulkExecuteRequestBuilder;
@@ -18,7 +22,9 @@ impl<'a> ComStmtBulkExecuteRequestBuilder<'a> {
         &mut self,
         row: Vec<Value>,
     ) -> Result<Option<Vec<Value>>, BulkExecuteRequestError>
-        ensures { Adds self.old row result self.new }
+        ensures adds { Adds self.old.state row result self.new.state }
+        ensures no_memory { HasRoom self.old (length row.items) → (back : Vec Value) → result ≢ Err (BulkExecuteRequestError.MemoryRow back) }
+        ensures capacity { KeepsCapacity self.old self.new }
     {
         if !self.takes_arity(row.len()) {
             return Err(BulkExecuteRequestError::MixedArity);
@@ -43,11 +49,13 @@ impl<'a> ComStmtBulkExecuteRequestBuilder<'a> {
     /// fails, the row is returned.
     #[inline(always)]
     fn keep(&mut self, row: Vec<Value>, size: u64) -> Result<(), Vec<Value>>
-        requires takes { TakesRow self.old (contents_of_row row) }
-        requires fits { RowFits self.old (contents_of_row row) }
-        requires size { size ≡ sum_by row_size (self.old.waiting ++ contents_of_row row ∷ []) }
-        ensures kept { OnOk result (self.new ≡ after_row self.old (contents_of_row row)) }
-        ensures back { IfErr result (λ back. (back ≡ row) × (self.new ≡ self.old)) }
+        requires takes { TakesRow self.old.state (contents_of_row row) }
+        requires fits { RowFits self.old.state (contents_of_row row) }
+        requires size { size ≡ sum_by row_size (self.old.state.waiting ++ contents_of_row row ∷ []) }
+        ensures kept { OnOk result (self.new.state ≡ after_row self.old.state (contents_of_row row)) }
+        ensures back { IfErr result (λ back. (back ≡ row) × (self.new.state ≡ self.old.state)) }
+        ensures no_memory { HasRoom self.old (length row.items) → IsOk result }
+        ensures capacity { KeepsCapacity self.old self.new }
     {
         let arity = row.len();
         let Some(count) = self.count.checked_add(1) else {
@@ -73,13 +81,15 @@ impl<'a> ComStmtBulkExecuteRequestBuilder<'a> {
     ///
     /// A row that doesn't fit with the waiting rows is returned as `Ok(Some(row))`; the caller then builds a
     /// request. Of the errors, `MixedArity` drops the row; `MixedTypes` (a value doesn't fit its declared
-    /// type), `RowTooLarge` (it doesn't fit in a request of its own) and `MemoryRow` return it. If the row
-    /// doesn't wait, the builder is unchanged.
+    /// type), `RowTooLarge` (it doesn't fit in a request of its own) and `MemoryRow` (the builder's lists couldn't
+    /// grow) return it. If the row doesn't wait, the waiting rows and the settings are unchanged.
     pub fn add_row(
         &mut self,
         row: Vec<Value>,
     ) -> Result<Option<Vec<Value>>, BulkExecuteRequestBuilderError>
-        ensures { AddsRow self.old row result self.new }
+        ensures adds { AddsRow self.old.state row result self.new.state }
+        ensures no_memory { HasRoom self.old (length row.items) → (back : Vec Value) → result ≢ Err (refused.Request (BulkExecuteRequestError.MemoryRow back)) }
+        ensures capacity { KeepsCapacity self.old self.new }
     {
         match self.add(row) {
             Ok(back) => Ok(back),
@@ -95,7 +105,9 @@ impl<'a> ComStmtBulkExecuteRequestBuilder<'a> {
         &mut self,
         params: Params,
     ) -> Result<Option<Vec<Value>>, BulkExecuteRequestBuilderError>
-        ensures { AddsParams self.old params result self.new }
+        ensures adds { AddsParams self.old.state params result self.new.state }
+        ensures no_memory { (row back : Vec Value) → given_by.values_of params self.old.state.names ≡ Ok (contents_of_row row) → HasRoom self.old (length row.items) → result ≢ Err (refused.Request (BulkExecuteRequestError.MemoryRow back)) }
+        ensures capacity { KeepsCapacity self.old self.new }
     {
         match params.into_values(self.alloc, self.names) {
             Ok(row) => self.add_row(row),

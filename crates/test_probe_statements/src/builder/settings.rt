@@ -69,7 +69,7 @@ pub struct Given<'a> {
 impl<'a> Given<'a> {
     /// The builder with these settings, except for its declared types. A limit below 4 is 4.
     fn without_types(self, alloc: Global, settings: &str) -> Builder<'a>
-        ensures { result.waiting ≡ [] }
+        ensures { result.state.waiting ≡ [] }
     {
         let limit = number(settings, "").max(4);
         let names = setting(settings, "names=").map(|_| self.names);

@@ -7,4 +7,5 @@ invariant-loop-kind l = record {
   so_far : l.types.items ≡ take l.kind-index l.declared;
   count : vec_len l.types ≡ l.kind-index;
   capacity : length l.declared ≤ vec_capacity l.types;
+  kept : vec_capacity l.initial.types ≤ vec_capacity l.types;
 }

@@ -8,4 +8,5 @@ invariant-loop-value g l = record {
   so_far : l.types.items ≡ types_with_row [] (map g.V.RowValue.content (take l.value-index l.row));
   count : vec_len l.types ≡ l.value-index;
   capacity : length l.row ≤ vec_capacity l.types;
+  kept : vec_capacity l.initial.types ≤ vec_capacity l.types;
 }

@@ -8,6 +8,6 @@ abbrev pub invariant-loop-entry : goal.invariant-loop-entry
 invariant-loop-entry g l = record {
   can : (goal.iterator-loop-entry g).can_next l.params;
   ends : (goal.iterator-loop-entry g).is_finite l.params;
-  so_far : Taken (GivesRowOfParams g.I.Iterator.next_gives l.fn.builder.names) l.fn.builder l.fn.params l.builder l.params;
-  less : length l.builder.waiting + size (g.I.Iterator.remaining l.params) ≤ length l.fn.builder.waiting + size (g.I.Iterator.remaining l.fn.params);
+  so_far : Taken (GivesRowOfParams g.I.Iterator.next_gives l.fn.builder.state.names) l.fn.builder.state l.fn.params l.builder.state l.params;
+  less : length l.builder.state.waiting + size (g.I.Iterator.remaining l.params) ≤ length l.fn.builder.state.waiting + size (g.I.Iterator.remaining l.fn.params);
 }

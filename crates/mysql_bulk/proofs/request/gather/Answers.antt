@@ -20,7 +20,7 @@ loop-row-preserved c =
     let rest = contents_of_rows (into_iter_items c.next.new.self) in
     let step : into_iter_items c.loop-row.row-iterator ≡ c.in-Some.row ∷ into_iter_items c.next.new.self = c.in-Some.ensures.steps.0 in
     let more : c.join_row.new.types.items ≡ (if sent then types_with_row types (contents_of_row c.in-Some.row) else types) =
-    c.join_row.ensures
+    c.join_row.ensures.items
     ∙ ap (λ (l : List ParamType). if sent then types_with_row l (contents_of c.as_slice.result.now) else l) c.find_capacity.ensures.types
     ∙ ap (λ (r : List Value). if sent then types_with_row types (contents_of r) else types) c.as_slice.ensures.value in
     let E : List (Vec Value) → Type 0 = λ l. EqualLengths c.args.arity (contents_of_rows l) in
@@ -30,7 +30,7 @@ loop-row-preserved c =
     record {
       types = next_types sent types c.join_row.new.types.items (contents_of_row c.in-Some.row) rest (if sent then fold types_with_row [] (contents_of_rows c.args.rows.items) else []) more (subst T step c.loop-row.invariant.types);
       values = next_values (contents_of c.loop-row.values.items) (contents_of c.append_row.new.values.items) (contents_of_row c.in-Some.row) rest (rows_in (contents_of_rows c.args.rows.items))
-          (held_after c.append_row.new.values.items c.loop-row.values.items c.in-Some.row.items (c.append_row.ensures ∙ ap (λ (l : List Value). l ++ c.in-Some.row.items) c.find_capacity.ensures.values)) (subst V step c.loop-row.invariant.values);
+          (held_after c.append_row.new.values.items c.loop-row.values.items c.in-Some.row.items (c.append_row.ensures.items ∙ ap (λ (l : List Value). l ++ c.in-Some.row.items) c.find_capacity.ensures.values)) (subst V step c.loop-row.invariant.values);
       equal = equal.1;
       before = next_before sent c.args.arity types c.join_row.new.types.items (contents_of_row c.in-Some.row) more equal.0 c.loop-row.invariant.before;
     }

@@ -29,8 +29,8 @@ invariant_of-result c =
     ∙ saturated_small (7 + 2 * length c.replace-types.result.items + row_size (contents_of c.replace-values.result.items)) (omega (arith, fits, size, bytes, same))
     ∙ sym (ap (λ (l : List Content). saturated (7 + 2 * length c.replace-types.result.items + row_size l)) (contents_of_sent _ (contents_of c.replace-values.result.items)))
 
-pub returns : goal.returns
-returns c =
+pub returns-clause-builds : goal.returns-clause-builds
+returns-clause-builds c =
     let k = c.self.invariant in
     let some = c.if-self-eq0.false in
     rw (← c.self.view_is) (record {

@@ -8,36 +8,36 @@ use Rattle.mysql_bulk.proofs.builder.ComStmtBulkExecuteRequestBuilder.send_rows.
 pub rows-init : goal.rows-init
 rows-init c =
     let same : into_iter_items c.into_iter-input.result ≡ c.args.rows.items = search rules in
-    run_begins c.args.self.now c.args.rows.items c.into_iter-input.result c.args.requests.now.items c.args.ends.now.items c.is_consistent.ensures same c.requires.no_requests c.requires.no_ends
+    run_begins c.args.self.now.state c.args.rows.items c.into_iter-input.result c.args.requests.now.items c.args.ends.now.items c.is_consistent.ensures same c.requires.no_requests c.requires.no_ends
 
 pub returns-in-Err : goal.returns-in-Err
-returns-in-Err c = ends_refused c.rows.invariant c.fill.new.builder c.fill.new.rows c.in-Err.e c.in-Err.ensures.accepts
+returns-in-Err c = ends_refused c.rows.invariant c.fill.new.builder.state c.fill.new.rows c.in-Err.e c.in-Err.ensures.accepts
 
 pub returns-then-not-has_rows : goal.returns-then-not-has_rows
 returns-then-not-has_rows c =
-    let stands = run_accepts c.rows.invariant c.fill.new.builder c.in-Ok.last c.fill.new.rows c.in-Ok.ensures.accepts in
-    let none = none_waits c.fill.new.builder.waiting c.if-not-has_rows.ensures.1 in
-    ends_done stands (accepts_empty c.rows.self c.fill.new.builder c.rows.carried c.in-Ok.last c.rows.input c.fill.new.rows c.in-Ok.ensures.accepts none) none
+    let stands = run_accepts c.rows.invariant c.fill.new.builder.state c.in-Ok.last c.fill.new.rows c.in-Ok.ensures.accepts in
+    let none = none_waits c.fill.new.builder.state.waiting c.if-not-has_rows.ensures.1 in
+    ends_done stands (accepts_empty c.rows.self.state c.fill.new.builder.state c.rows.carried c.in-Ok.last c.rows.input c.fill.new.rows c.in-Ok.ensures.accepts none) none
 
 pub returns-in-Err-send : goal.returns-in-Err-send
 returns-in-Err-send c =
-    let stands = run_accepts c.rows.invariant c.fill.new.builder c.in-Ok.last c.fill.new.rows c.in-Ok.ensures.accepts in
-    let some : c.fill.new.builder.waiting ≢ [] = search rules in
-    let end = accepts_end c.rows.self c.fill.new.builder c.rows.carried c.in-Ok.last c.rows.input c.fill.new.rows c.in-Ok.ensures.accepts in
+    let stands = run_accepts c.rows.invariant c.fill.new.builder.state c.in-Ok.last c.fill.new.rows c.in-Ok.ensures.accepts in
+    let some : c.fill.new.builder.state.waiting ≢ [] = search rules in
+    let end = accepts_end c.rows.self.state c.fill.new.builder.state c.rows.carried c.in-Ok.last c.rows.input c.fill.new.rows c.in-Ok.ensures.accepts in
     let same = c.in-Err-send.ensures.unchanged in
-    ends_memory stands c.send.new.builder c.send.new.requests.items c.send.new.ends.items some c.in-Ok.ensures.accepts.3 end same.0 same.1 same.2
+    ends_memory stands c.send.new.builder.state c.send.new.requests.items c.send.new.ends.items some c.in-Ok.ensures.accepts.3 end same.0 same.1 same.2
 
 pub returns-then-is_none : goal.returns-then-is_none
 returns-then-is_none c =
-    let stands = run_accepts c.rows.invariant c.fill.new.builder c.in-Ok.last c.fill.new.rows c.in-Ok.ensures.accepts in
-    let end = accepts_end c.rows.self c.fill.new.builder c.rows.carried c.in-Ok.last c.rows.input c.fill.new.rows c.in-Ok.ensures.accepts in
+    let stands = run_accepts c.rows.invariant c.fill.new.builder.state c.in-Ok.last c.fill.new.rows c.in-Ok.ensures.accepts in
+    let end = accepts_end c.rows.self.state c.fill.new.builder.state c.rows.carried c.in-Ok.last c.rows.input c.fill.new.rows c.in-Ok.ensures.accepts in
     let sent = c.in-Ok-send.ensures in
-    let later = run_sends stands c.send.new.builder c.send.new.requests.items c.send.new.ends.items c.in-Ok-send.end c.in-Ok.ensures.accepts.3 end sent.requests sent.ends sent.end in
+    let later = run_sends stands c.send.new.builder.state c.send.new.requests.items c.send.new.ends.items c.in-Ok-send.end c.in-Ok.ensures.accepts.3 end sent.requests sent.ends sent.end in
     ends_done later (end (none_from c.in-Ok.last c.if-is_none.ensures)) (ap (λ (b : BuilderState). b.waiting) sent.requests.2.left)
 
 pub rows-preserved : goal.rows-preserved
 rows-preserved c =
-    let stands = run_accepts c.rows.invariant c.fill.new.builder c.in-Ok.last c.fill.new.rows c.in-Ok.ensures.accepts in
-    let end = accepts_end c.rows.self c.fill.new.builder c.rows.carried c.in-Ok.last c.rows.input c.fill.new.rows c.in-Ok.ensures.accepts in
+    let stands = run_accepts c.rows.invariant c.fill.new.builder.state c.in-Ok.last c.fill.new.rows c.in-Ok.ensures.accepts in
+    let end = accepts_end c.rows.self.state c.fill.new.builder.state c.rows.carried c.in-Ok.last c.rows.input c.fill.new.rows c.in-Ok.ensures.accepts in
     let sent = c.in-Ok-send.ensures in
-    run_sends stands c.send.new.builder c.send.new.requests.items c.send.new.ends.items c.in-Ok-send.end c.in-Ok.ensures.accepts.3 end sent.requests sent.ends sent.end
+    run_sends stands c.send.new.builder.state c.send.new.requests.items c.send.new.ends.items c.in-Ok-send.end c.in-Ok.ensures.accepts.3 end sent.requests sent.ends sent.end

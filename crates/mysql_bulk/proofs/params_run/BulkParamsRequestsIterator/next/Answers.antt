@@ -8,22 +8,22 @@ use Rattle.mysql_bulk.proofs.params_run.BulkParamsRequestsIterator.next.Goals as
 
 pub returns-in-Err-clause-steps : goal.returns-in-Err-clause-steps
 returns-in-Err-clause-steps g c =
-    let b = c.args.self.now.builder.now in
-    let F : Option (Vec Value) → Type 0 = λ o. AcceptsParamsUntilFull g.I.Iterator.next_gives b.names b o c.args.self.now.params (Err c.in-Err.e) c.fill_params.new.builder c.fill_params.new.params in
-    let N : Option (Vec Value) → Type 0 = λ o. NextRequestOfParams g.I.Iterator.next_gives b.names (state b c.args.self.now.carried c.args.self.now.params c.args.self.now.ended) (Some (Err c.in-Err.e)) (state c.fill_params.new.builder o c.fill_params.new.params true) in (
+    let b = c.args.self.now.builder.now.state in
+    let F : Option (Vec Value) → Type 0 = λ o. AcceptsParamsUntilFull g.I.Iterator.next_gives b.names b o c.args.self.now.params (Err c.in-Err.e) c.fill_params.new.builder.state c.fill_params.new.params in
+    let N : Option (Vec Value) → Type 0 = λ o. NextRequestOfParams g.I.Iterator.next_gives b.names (state b c.args.self.now.carried c.args.self.now.params c.args.self.now.ended) (Some (Err c.in-Err.e)) (state c.fill_params.new.builder.state o c.fill_params.new.params true) in (
       refl,
       subst N (sym c.take.ensures.after)
-          (next_params_refuses g.I.Iterator.next_gives b.names b c.fill_params.new.builder c.args.self.now.carried c.args.self.now.params c.fill_params.new.params c.args.self.now.ended c.in-Err.e
+          (next_params_refuses g.I.Iterator.next_gives b.names b c.fill_params.new.builder.state c.args.self.now.carried c.args.self.now.params c.fill_params.new.params c.args.self.now.ended c.in-Err.e
           c.if-self.false (subst F c.take.ensures.value c.in-Err.ensures.accepts)),
     )
 
 pub returns-in-Ok-clause-steps : goal.returns-in-Ok-clause-steps
 returns-in-Ok-clause-steps g c =
-    let b = c.args.self.now.builder.now in
-    let F : Option (Vec Value) → Type 0 = λ o. AcceptsParamsUntilFull g.I.Iterator.next_gives b.names b o c.args.self.now.params (Ok c.in-Ok.last) c.fill_params.new.builder c.fill_params.new.params in
+    let b = c.args.self.now.builder.now.state in
+    let F : Option (Vec Value) → Type 0 = λ o. AcceptsParamsUntilFull g.I.Iterator.next_gives b.names b o c.args.self.now.params (Ok c.in-Ok.last) c.fill_params.new.builder.state c.fill_params.new.params in
     let waiting = c.answer_waiting.ensures in (
       refl,
-      rw (waiting.1) (next_params_builds g.I.Iterator.next_gives b.names b c.fill_params.new.builder c.answer_waiting.new.builder c.args.self.now.carried c.in-Ok.last c.args.self.now.params c.fill_params.new.params c.args.self.now.ended
+      rw (waiting.1) (next_params_builds g.I.Iterator.next_gives b.names b c.fill_params.new.builder.state c.answer_waiting.new.builder.state c.args.self.now.carried c.in-Ok.last c.args.self.now.params c.fill_params.new.params c.args.self.now.ended
           c.is_none-self.result waiting.0 c.if-self.false (subst F c.take.ensures.value c.in-Ok.ensures.accepts)
           (is_none_from c.in-Ok.last c.is_none-self.result c.is_none-self.ensures) waiting.2),
     )
