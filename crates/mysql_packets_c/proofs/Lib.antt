@@ -1,3 +1,4 @@
+pub mod CheckedExecutions
 pub mod CheckedParams
 pub mod Codes
 pub mod ExecutionNames
@@ -16,6 +17,7 @@ pub mod ReadBulkRows
 pub mod Executions
 pub mod SidHeld
 pub mod WrittenSids
+pub mod SentNumbers
 pub mod SomeZero
 pub mod HandshakeFit
 pub mod WrittenRows

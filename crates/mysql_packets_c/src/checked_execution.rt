@@ -3,12 +3,13 @@
 ghost use Rattle.std.specs.Prelude.{◌≡◌, length};
 ghost use Rattle.mysql_stmt.specs.Execution.{execution_bytes};
 ghost use Rattle.mysql_wire.specs.Writing.{saturated};
-ghost use Rattle.mysql_packets_c.specs.CheckedExecution.{plain_of};
+ghost use Rattle.mysql_packets_c.specs.CheckedExecution.{front_bytes, plain_of, types_of};
 
 use crate::checked_nulls::CheckedNulls;
-use crate::checked_params::{CheckedParams, SentTypes};
+use crate::checked_params::CheckedParams;
+use crate::typed_values::put_typed;
 use mysql_stmt::ComStmtExecuteHead;
-use mysql_wire::{Buffer, MySerialize, Parts, RawInt, Sink, parts};
+use mysql_wire::{MySerialize, Parts, RawInt, Sink, parts};
 
 /// An execution without names and attributes, and without long data.
 #[derive(Drop)]
@@ -18,69 +19,81 @@ pub(crate) struct CheckedExecution<'r, 'a> {
     pub(crate) sends_types: bool,
 }
 
-#[tactic(auto, using(mysql_wire::proofs::Packets::packets, crate::proofs::CheckedParams::plain))]
-impl Parts for CheckedExecution<'_, '_> {
-    ghost use Rattle.mysql_stmt.specs.Execution.{execution_bytes};
-    ghost use Rattle.mysql_packets_c.specs.CheckedExecution.{plain_of};
+/// What precedes the types and the values of an execution.
+#[derive(Drop)]
+struct Front<'c, 'r, 'a>(&'c CheckedExecution<'r, 'a>);
 
-    ghost bytes = { λ e. execution_bytes (plain_of e) };
+#[tactic(auto, using(mysql_wire::proofs::Packets::packets, crate::proofs::CheckedExecutions::fronts))]
+impl Parts for Front<'_, '_, '_> {
+    ghost use Rattle.mysql_packets_c.specs.CheckedExecution.{front_bytes};
+
+    ghost bytes = { λ f. front_bytes f.0.now };
 
     #[inline(always)]
     fn put<S: Sink>(&self, sink: &mut S) {
-        if self.params.items.is_empty() {
-            sink.part(&self.head);
+        let execution = self.0;
+        if execution.params.items.is_empty() {
+            sink.part(&execution.head);
             return;
         }
         let nulls = CheckedNulls {
-            params: self.params.items,
-            may_have_null: self.params.has_empty,
+            params: execution.params.items,
+            may_have_null: execution.params.has_empty,
         };
+        let flag = RawInt::<u8>::new(execution.sends_types as u8);
+        sink.part(&parts!(execution.head, nulls, flag));
+    }
+}
+
+#[tactic(auto, using(crate::proofs::CheckedExecutions::lengths), unfolding(mysql_wire::specs::Writing::saturated))]
+impl CheckedExecution<'_, '_> {
+    /// The length of the types.
+    #[inline(always)]
+    fn types_len(&self) -> usize
+        ensures { result ≡ saturated (length (types_of self.now)) }
+    {
         if self.sends_types {
-            let types = SentTypes(self.params.items);
-            let flag = RawInt::<u8>::new(1);
-            sink.part(&parts!(self.head, nulls, flag, types, self.params));
+            self.params.items.len().saturating_mul(2)
         } else {
-            let flag = RawInt::<u8>::new(0);
-            sink.part(&parts!(self.head, nulls, flag, self.params));
+            0
         }
     }
+
+    /// The length of the execution, or `usize::MAX` if it is greater.
+    #[inline(always)]
+    pub(crate) fn len(&self) -> usize
+        ensures { result ≡ saturated (length (execution_bytes (plain_of self.now))) }
+    {
+        Front(self)
+            .defined_len()
+            .saturating_add(self.types_len())
+            .saturating_add(self.params.len)
+    }
 }
 
-/// An execution whose length was computed.
-#[derive(Drop)]
-struct CountedExecution<'c, 'r, 'a> {
-    execution: &'c CheckedExecution<'r, 'a>,
-    len: usize,
-    ghost exact: { len ≡ length (execution_bytes (plain_of execution.now)) },
-}
-
-impl MySerialize for CountedExecution<'_, '_, '_> {
-    ghost use Rattle.mysql_stmt.specs.Execution.{execution_bytes};
-    ghost use Rattle.mysql_packets_c.specs.CheckedExecution.{plain_of};
-
-    ghost bytes = { λ c. execution_bytes (plain_of c.execution.now) };
-
-    #[inline(always)]
-    #[tactic(auto, unfolding(mysql_wire::specs::Writing::saturated))]
-    fn defined_len(&self) -> usize {
-        self.len
-    }
-
-    #[inline(always)]
-    fn append<O: Buffer>(&self, out: &mut O) {
-        self.execution.append(out);
-    }
+/// Writes a part of an execution over a slice of its length.
+#[inline(always)]
+fn put_part<P: MySerialize>(part: &P, out: &mut [u8])
+    requires { length out.old ≡ length (P.bytes part.now) }
+    ensures { out.new ≡ P.bytes part.now }
+{
+    let _len = part.write_to_slice(out).unwrap();
 }
 
 /// Writes an execution over a slice of its length.
 #[inline(always)]
+#[tactic(auto, using(crate::proofs::CheckedExecutions::lengths, crate::proofs::CheckedExecutions::wholes), unfolding(mysql_wire::specs::Writing::saturated))]
 pub(crate) fn put_over(execution: &CheckedExecution<'_, '_>, out: &mut [u8])
     requires { length out.old ≡ length (execution_bytes (plain_of execution.now)) }
     ensures { out.new ≡ execution_bytes (plain_of execution.now) }
 {
-    let counted = CountedExecution {
-        execution,
-        len: out.len(),
-    };
-    let _len = counted.write_to_slice(out).unwrap();
+    let front = Front(execution);
+    let (first, rest) = out.split_at_mut(front.defined_len());
+    put_part(&front, first);
+    if execution.sends_types {
+        let (types, values) = rest.split_at_mut(execution.types_len());
+        put_typed(execution.params.items, types, values);
+    } else {
+        put_part(&execution.params, rest);
+    }
 }

@@ -13,10 +13,8 @@ use crate::code::{INVALID_INPUT, OK, code_of};
 use crate::flags::capabilities_of;
 use crate::input::read;
 use crate::output::put_packet;
-use mysql_commands::{
-    BytesRef, ComFieldListRef, ComQueryRef, ComSetOption, ComStmtFetch, ComStmtReset, Command,
-};
-use mysql_stmt::ComStmtClose;
+use mysql_commands::{BytesRef, ComFieldListRef, ComQueryRef, ComSetOption, Command};
+use mysql_stmt::{ComStmtClose, ComStmtFetch, ComStmtReset};
 use mysql_wire::command_code as com;
 use std::alloc::Global;
 

@@ -4,44 +4,29 @@
 //! are written. The most frequent kinds are found by one comparison before the others: a table of all kinds
 //! takes seven instructions for each value.
 
-ghost use Rattle.std.specs.Prelude.{◌≡◌, ◌≤◌, ◌⊎◌, ◌+◌, ◌++◌, drop, length};
-ghost use Rattle.mysql_stmt.specs.BinaryRow.{bin_in};
-ghost use Rattle.mysql_stmt.specs.ExecuteParam.{param_bytes, value_of};
-ghost use Rattle.mysql_values.specs.ValueRef.{ref_content};
+ghost use Rattle.std.specs.Prelude.{◌≡◌, ◌≤◌, ◌⊎◌, ◌+◌, ◌++◌, Bool, drop, false, length};
+ghost use Rattle.mysql_stmt.specs.ExecuteParam.{param_bytes};
+ghost use Rattle.mysql_stmt.specs.SentParam.{bytes_under};
+ghost use Rattle.mysql_wire.specs.Writing.{le_bytes};
 ghost use Rattle.mysql_packets_c.specs.Execution as spec;
-ghost use Rattle.mysql_packets_c.specs.Value.{value_content};
 
 use crate::value::{CValue, is_offset_date, is_param, is_value, to_date_with_offset, to_ref};
 use mysql_stmt::{AsExecuteParam, ExecuteParam};
 use mysql_values::{ParamType, ValueRef};
-use mysql_wire::{Buffer, ColumnType};
+use mysql_wire::{Buffer, BytesRepr, ColumnType, IntRepr, LeU64, LenEnc};
 
-/// Converts a value of one of these kinds to a number of eight bytes.
+/// The eight bytes of a number, as one number: two's complement, or the bits of a float.
 #[inline(always)]
-#[tactic(auto, unfolding(crate::specs::Value::value_content))]
-fn number<'a>(value: &CValue<'a>) -> ValueRef<'a>
+#[tactic(auto, using(mysql_stmt::proofs::SentBytes::plain), unfolding(crate::specs::Value::value_content))]
+pub(crate) fn eight_bytes(value: &CValue<'_>) -> u64
     requires { (value.now.kind ≡ 2) ⊎ ((value.now.kind ≡ 3) ⊎ (value.now.kind ≡ 5)) }
-    ensures { ref_content result ≡ value_content value.now }
+    ensures sent { (as_long_data : Bool) → bytes_under as_long_data (spec.own_type value.now).param_type (spec.param value.now) ≡ le_bytes 8 result }
+    ensures not_long { bytes_under false (spec.own_type value.now).param_type (spec.param value.now) ≡ le_bytes 8 result }
 {
     match value.kind {
-        2 => ValueRef::Int(value.number.cast_signed()),
-        3 => ValueRef::UInt(value.number),
-        _ => ValueRef::Double(value.number),
+        2 => value.number.cast_signed().cast_unsigned(),
+        _ => value.number,
     }
-}
-
-/// Writes a number in a column of a binary row.
-#[inline(always)]
-fn append_number_cell<O: Buffer>(number: ValueRef<'_>, column_type: ColumnType, out: &mut O)
-    requires { length (O.held out.old) + length (bin_in column_type (ref_content number)) ≤ O.capacity out.old }
-    ensures items { O.held out.new ≡ O.held out.old ++ bin_in column_type (ref_content number.entry) }
-    ensures after { O.after out.new ≡ drop (length (bin_in column_type (ref_content number.entry))) (O.after out.old) }
-    ensures capacity { O.capacity out.old ≤ O.capacity out.new }
-    ensures kept { O.kept out.new ≡ O.kept out.old }
-{
-    let mut taken = out.taken();
-    number.append_cell(column_type, &mut taken);
-    *out = taken;
 }
 
 /// Writes a value of any kind, for which there is capacity.
@@ -72,19 +57,6 @@ fn append_apart<O: Buffer>(value: &CValue<'_>, as_long_data: bool, out: &mut O)
     let mut taken = out.taken();
     append_any(value, as_long_data, &mut taken);
     *out = taken;
-}
-
-/// Writes a value of any kind in a column of a binary row.
-#[inline(never)]
-#[tactic(auto, unfolding(crate::specs::Value::value_content))]
-fn append_any_cell<O: Buffer>(value: &CValue<'_>, column_type: ColumnType, out: &mut O)
-    requires { length (O.held out.old) + length (bin_in column_type (value_of (spec.param value.now))) ≤ O.capacity out.old }
-    ensures items { O.held out.new ≡ O.held out.old ++ bin_in column_type (value_of (spec.param value.now)) }
-    ensures after { O.after out.new ≡ drop (length (bin_in column_type (value_of (spec.param value.now)))) (O.after out.old) }
-    ensures capacity { O.capacity out.old ≤ O.capacity out.new }
-    ensures kept { O.kept out.new ≡ O.kept out.old }
-{
-    value.as_execute_param().append_cell(column_type, out);
 }
 
 #[tactic(auto, using(mysql_stmt::proofs::SentBytes::plain), unfolding(crate::specs::Value::value_content))]
@@ -144,65 +116,37 @@ impl AsExecuteParam for CValue<'_> {
     }
 
     #[inline(always)]
+    #[tactic(auto, using(mysql_stmt::proofs::SentBytes::plain), unfolding(crate::specs::Value::value_content, mysql_wire::specs::Writing::le_bytes, mysql_wire::specs::Writing::saturated))]
     fn sent_len(&self, as_long_data: bool) -> usize {
         match self.kind {
-            2 | 3 | 4 | 5 => match self.kind {
-                4 => self.as_execute_param().sent_len(as_long_data),
-                _ => number(self).sent_len(as_long_data),
-            },
-            _ => match self.kind {
-                1 => ValueRef::Bytes(self.bytes).sent_len(as_long_data),
-                _ => self.as_execute_param().sent_len(as_long_data),
-            },
+            2 | 3 | 5 => <LeU64 as IntRepr>::written_len(eight_bytes(self)),
+            1 => ValueRef::Bytes(self.bytes).sent_len(as_long_data),
+            _ => self.as_execute_param().sent_len(as_long_data),
         }
     }
 
-    // (what is called has a buffer of its own, so that the caller's stays in registers)
     #[inline(always)]
     fn append_sent<O: Buffer>(&self, as_long_data: bool, out: &mut O) {
         match self.kind {
-            2 | 3 => number(self).append_sent(as_long_data, out),
+            2 | 3 => <LeU64 as IntRepr>::append(eight_bytes(self), out),
             _ => match self.kind {
                 0 => {}
-                1 => ValueRef::Bytes(self.bytes).append_sent(as_long_data, out),
-                5 => ValueRef::Double(self.number).append_sent(as_long_data, out),
+                1 => {
+                    if !as_long_data {
+                        <LenEnc as BytesRepr>::append(self.bytes, out);
+                    }
+                }
+                5 => <LeU64 as IntRepr>::append(eight_bytes(self), out),
                 _ => append_apart(self, as_long_data, out),
             },
         }
     }
 
     #[inline(always)]
-    fn is_taken_by(&self, column_type: ColumnType, is_unsigned: bool) -> bool {
-        match self.kind {
-            1 => ValueRef::Bytes(self.bytes).is_taken_by(column_type, is_unsigned),
-            2 => ValueRef::Int(self.number.cast_signed()).is_taken_by(column_type, is_unsigned),
-            3 => ValueRef::UInt(self.number).is_taken_by(column_type, is_unsigned),
-            5 => ValueRef::Double(self.number).is_taken_by(column_type, is_unsigned),
-            _ => self
-                .as_execute_param()
-                .is_taken_by(column_type, is_unsigned),
-        }
-    }
-
-    #[inline(always)]
-    fn cell_len(&self, column_type: ColumnType) -> usize {
-        match self.kind {
-            1 => ValueRef::Bytes(self.bytes).cell_len(column_type),
-            2 => ValueRef::Int(self.number.cast_signed()).cell_len(column_type),
-            3 => ValueRef::UInt(self.number).cell_len(column_type),
-            5 => ValueRef::Double(self.number).cell_len(column_type),
-            _ => self.as_execute_param().cell_len(column_type),
-        }
-    }
-
-    #[inline(always)]
     fn append_cell<O: Buffer>(&self, column_type: ColumnType, out: &mut O) {
         match self.kind {
-            1 => ValueRef::Bytes(self.bytes).append_cell(column_type, out),
-            2 => append_number_cell(ValueRef::Int(self.number.cast_signed()), column_type, out),
-            3 => append_number_cell(ValueRef::UInt(self.number), column_type, out),
-            5 => append_number_cell(ValueRef::Double(self.number), column_type, out),
-            _ => append_any_cell(self, column_type, out),
+            2 => ValueRef::Int(self.number.cast_signed()).append_cell(column_type, out),
+            _ => self.as_execute_param().append_cell(column_type, out),
         }
     }
 }

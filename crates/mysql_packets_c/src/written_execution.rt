@@ -20,7 +20,7 @@ use crate::output::answer_count;
 use crate::parameter::{CParameter, are_agreed, are_parameters};
 use bitflags::Flags;
 use mysql_stmt::{ComStmtExecuteHead, ComStmtExecuteOptionsBuilder};
-use mysql_wire::{CursorType, MySerialize};
+use mysql_wire::CursorType;
 
 /// `myp_execution_options` of the C header: all zero means no cursor, and types are sent.
 #[repr(C)]
@@ -137,7 +137,7 @@ fn put_plain(
         params: checked,
         sends_types: builder.sends_types,
     };
-    let len = execution.defined_len();
+    let len = execution.len();
     if len > MAX_PAYLOAD_LEN {
         return put_execution(builder, params, out, written, as_long_data);
     }

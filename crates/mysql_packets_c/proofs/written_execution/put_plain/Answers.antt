@@ -29,8 +29,8 @@ returns-clause-spelled c = λ h.
     asked-plainly builder head items c.requires is_head ∙ ap (λ (l : List CParameter). plainly head l builder.sends_types) (sym c.in-Some.ensures.1) in
     record {
       is_long = false;
-      where_long = not-long false (plainly head held builder.sends_types) (asked param_given named_type builder (sent items) false) c.defined_len-len.result refl (sym same)
-          c.defined_len-len.ensures (omega (arith, c.if-len-gt-MAX_PAYLOAD_LEN.false));
+      where_long = not-long false (plainly head held builder.sends_types) (asked param_given named_type builder (sent items) false) c.len-len.result refl (sym same)
+          c.len-len.ensures (omega (arith, c.if-len-gt-MAX_PAYLOAD_LEN.false));
       puts =
           subst (λ (e : Execution). PutsUnlessTooLong (execution_bytes e) c.put_counted.result c.args.out.now c.put_counted.new.out c.put_counted.new.written) (sym same)
           c.put_counted.ensures;
