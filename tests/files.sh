@@ -1,6 +1,6 @@
 #!/usr/bin/env bash
 # Holds files to what they must say: HANDLES, the lines that documents quote, the chart of instruction counts, the lists that tables/ has,
-# and the format of the sources.
+# the libraries that README.md copies, and the format of the sources.
 # The last line is 'N passed, N failed'.
 set -uo pipefail
 cd -- "$(dirname -- "${BASH_SOURCE[0]}")/.." || exit 1
@@ -37,6 +37,15 @@ none_of_them() {
         grep -v 'Bytes behind the last sid'
 }
 expect 'a word stands there that another one stands for' none_of_them
+# lists_the_libraries: README.md's commands copy mysql_packets and the libraries below it, and no others
+lists_the_libraries() {
+    local said below
+    said=$(sed -n '/^    for name in /,/; do$/p' README.md | sed 's/for name in//; s/; do//' | tr -d '\\' | xargs -n 1 | sort)
+    below=$(cd tools && python3 -c "from libraries import below, crates
+print(*sorted(it.removeprefix('mysql_') for it in {'mysql_packets', *below('mysql_packets', crates())}), sep='\n')")
+    [[ $said == "$below" ]]
+}
+expect 'README.md copies other libraries than mysql_packets stands on' lists_the_libraries
 # laws_are_named_alike: a law of a round trip is named so
 laws_are_named_alike() {
     ! grep -rnE 'pub fn \w+_again\b' crates/*/src/laws crates/*/src/laws.rt

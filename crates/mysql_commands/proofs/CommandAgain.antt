@@ -9,6 +9,8 @@ use Rattle.mysql_wire.specs.declared.codes.server_command.ServerCommand.TheVaria
 use Rattle.mysql_stmt.specs.Close.{close}
 use Rattle.mysql_stmt.specs.ExecuteHead.{execute_head}
 use Rattle.mysql_stmt.specs.LongData.{long_data}
+use Rattle.mysql_stmt.specs.StmtFetch.{stmt_fetch}
+use Rattle.mysql_stmt.specs.StmtReset.{stmt_reset}
 use Rattle.mysql_repl.specs.BinlogDump.{binlog_dump}
 use Rattle.mysql_repl.specs.RegisterSlave.{register_slave, register_slave_head}
 use Rattle.mysql_repl.specs.TableDump.{table_dump}
@@ -19,8 +21,6 @@ use Rattle.mysql_commands.specs.FieldList.{field_list}
 use Rattle.mysql_commands.specs.Query.{query}
 use Rattle.mysql_commands.specs.SetOption.{set_option}
 use Rattle.mysql_commands.specs.StmtExecute.{stmt_execute}
-use Rattle.mysql_commands.specs.StmtFetch.{stmt_fetch}
-use Rattle.mysql_commands.specs.StmtReset.{stmt_reset}
 use Rattle.mysql_commands.specs.Unknown.{code, content, unknown, unknown_command, has_record}
 use Rattle.mysql_commands.specs.declared.unknown.UnknownCommand.{UnknownCommand}
 use Rattle.mysql_commands.specs.declared.command.Command.{Command}

@@ -7,6 +7,8 @@ use Rattle.mysql_wire.specs.Writing.{le_bytes}
 use Rattle.mysql_stmt.specs.Close.{close}
 use Rattle.mysql_stmt.specs.ExecuteHead.{execute_head}
 use Rattle.mysql_stmt.specs.LongData.{long_data}
+use Rattle.mysql_stmt.specs.StmtFetch.{stmt_fetch}
+use Rattle.mysql_stmt.specs.StmtReset.{stmt_reset}
 use Rattle.mysql_repl.specs.BinlogDump.{binlog_dump}
 use Rattle.mysql_repl.specs.RegisterSlave.{register_slave, register_slave_head, register_slave_end}
 use Rattle.mysql_repl.specs.TableDump.{table_dump}
@@ -14,8 +16,6 @@ use Rattle.mysql_commands.specs.BulkExecute.{bulk_execute}
 use Rattle.mysql_commands.specs.FieldList.{field_list}
 use Rattle.mysql_commands.specs.SetOption.{set_option}
 use Rattle.mysql_commands.specs.StmtExecute.{stmt_execute}
-use Rattle.mysql_commands.specs.StmtFetch.{stmt_fetch}
-use Rattle.mysql_commands.specs.StmtReset.{stmt_reset}
 use Rattle.mysql_commands.specs.Unknown.{unknown}
 use Rattle.mysql_commands.specs.AsRead.{AreBytes, Exact}
 use Rattle.mysql_commands.proofs.AsRead.{bytes-before, bytes-left, took, then-exact, last-exact, block-exact, const-exact, raw-exact, flags-exact, null-exact, left-exact, u8_string-exact}

@@ -1,6 +1,5 @@
 -- A query that a client sends is read back.
-use Rattle.std.proofs.Common.{◌≡◌, ℕ, ◌+◌, ◌<◌, ◌^◌, ◌==◌, Bool, true, false, is_some, List, [], ◌∷◌, ◌++◌, length, map, get_or, Option, Some, None, Ok, refl, sym, subst, ap, ◌∙◌, arith, append_assoc}
-use Rattle.std.proofs.lemmas.Grind.{common_steps}
+use Rattle.std.proofs.Common.{◌≡◌, ℕ, ◌+◌, ◌<◌, ◌^◌, true, false, is_some, List, [], ◌∷◌, ◌++◌, length, map, Option, Some, None, Ok, refl, sym, subst, ap, ◌∙◌, arith, append_assoc}
 use Rattle.std.proofs.lemmas.List.{append-nil, length-map}
 use Rattle.std.specs.List.{All, flat_map}
 use Rattle.mysql_wire.specs.Again.{lenenc-again}
@@ -11,23 +10,21 @@ use Rattle.mysql_wire.specs.Form.{either, give, bytes}
 use Rattle.mysql_wire.specs.Int.{raw_int}
 use Rattle.mysql_wire.specs.LenEnc.{lenenc_bytes}
 use Rattle.mysql_wire.specs.ServerCommand.{server_command_code}
-use Rattle.mysql_wire.specs.Spelling.{IsSpelling, byte-again, raw-again, const_byte-again}
+use Rattle.mysql_wire.specs.Spelling.{IsSpelling, raw-again, const_byte-again}
 use Rattle.mysql_wire.specs.Writing.{le_bytes}
 use Rattle.mysql_wire.specs.declared.codes.server_command.ServerCommand.TheVariants as name
 use Rattle.mysql_wire.specs.declared.lenenc.LenEnc.{LenEnc}
-use Rattle.mysql_stmt.proofs.ExecutionAgain.{attributes-again as values-again, types-again}
-use Rattle.mysql_stmt.proofs.PackedBits.{marks-nulls}
-use Rattle.mysql_stmt.specs.BindFront.{BindFront, bind_front, nothing_bound, some_bind_front}
-use Rattle.mysql_stmt.specs.Bitmap.{cell, bytes_for}
+use Rattle.mysql_stmt.proofs.ExecutionAgain.{attributes-again as values-again, front-again, second-bits}
+use Rattle.mysql_stmt.specs.BindFront.{BindFront, bind_front, nothing_bound}
 use Rattle.mysql_stmt.specs.ComQuery.{count_bytes, set_bytes, some_bytes, query_bytes}
 use Rattle.mysql_stmt.specs.ComQuery as sent
 use Rattle.mysql_stmt.specs.ExecuteParam.{value_of}
 use Rattle.mysql_stmt.specs.ExecuteParams.{where_some}
 use Rattle.mysql_stmt.specs.ExecuteRead.{TypedParam}
-use Rattle.mysql_stmt.specs.NullMarks.{bitmap_of, null_bit}
+use Rattle.mysql_stmt.specs.NullMarks.{bitmap_of}
 use Rattle.mysql_stmt.specs.ReadAgain.{SentFits, attribute_read, type_read}
 use Rattle.mysql_stmt.specs.SentParam.{attribute_type, list_of, sent_attributes, type_bytes, value_bytes}
-use Rattle.mysql_stmt.specs.SentTypes.{NamedType, types}
+use Rattle.mysql_stmt.specs.SentTypes.{NamedType}
 use Rattle.mysql_stmt.specs.declared.com_query.ComQuery.{ComQuery}
 use Rattle.mysql_stmt.specs.declared.execute_param.QueryAttribute.{QueryAttribute}
 use Rattle.mysql_commands.specs.Command.{command, command_bytes, CommandFits}
@@ -43,10 +40,6 @@ types-read : (l : List QueryAttribute) → map (λ p. type_read true p.named_typ
 types-read [] = refl
 types-read (a ∷ l) = ap (λ (ts : List NamedType). attribute_type a ∷ ts) (types-read l)
 
-bits-of : (ps : List TypedParam) → map null_bit (map (λ p. value_of p.param) ps) ≡ map (λ p. null_bit (value_of p.param)) ps
-bits-of [] = refl
-bits-of (p ∷ ps) = ap (λ (bits : List ℕ). null_bit (value_of p.param) ∷ bits) (bits-of ps)
-
 -- ---- all of them
 
 count-again : (n : ℕ) → n < 2 ^ 64 → IsSpelling lenenc_int (raw_int n) (lenenc_bytes n)
@@ -55,26 +48,6 @@ count-again n lt = raw-again LenEnc _ n (lenenc_bytes n) (lenenc-again n lt)
 one-byte : (T : Type 0) → IsSpelling (const_byte {T = T} 1) (record { 0 = record {} }) (le_bytes 1 1)
 unfolding le_bytes
 one-byte T rest = const_byte-again 1 _ rest
-
--- what precedes the values of attributes, if there are any
-front-again : (l : List QueryAttribute) → (length l == 0) ≡ false → All SentFits (sent_attributes l) → (left : List ℕ)
-    → (bind_front true (length l) 0).Spells (record { nulls = bitmap_of (map (λ p. value_of p.param) (sent_attributes l)); sends_types = true; types = map attribute_type l })
-    (bitmap_of (map (λ p. value_of p.param) (sent_attributes l)) ++ (le_bytes 1 1 ++ (flat_map (type_bytes true) (sent_attributes l) ++ left))) left
-unfolding bytes
-front-again l some fit left =
-    let ps = sent_attributes l in
-    let held = map (λ p. value_of p.param) ps in
-    let nulls = bitmap_of held in
-    let typed = flat_map (type_bytes true) ps ++ left in
-    let f : BindFront = record { nulls = nulls; sends_types = true; types = map attribute_type l } in
-    let count : length ps ≡ length l = length-map l _ in
-    let len : length nulls ≡ bytes_for 0 (length l) = (marks-nulls held).len ∙ ap (bytes_for 0) (length-map ps (λ p. value_of p.param) ∙ count) in
-    let sent : (types true (length l)).Spells (map attribute_type l) typed left =
-    subst (λ (ts : List NamedType). (types true (length l)).Spells ts typed left) (types-read l)
-    (subst (λ (n : ℕ). (types true n).Spells (map (λ p. type_read true p.named_type) ps) typed left) count (types-again true ps fit left)) in
-    let begins : (some_bind_front true (length l) 0).Spells f (nulls ++ (le_bytes 1 1 ++ typed)) left =
-    (nulls, le_bytes 1 1 ++ typed, (len, refl), (raw_int 1, typed, byte-again 1 (omega arith) typed, (map attribute_type l, left, sent, (refl, refl)))) in
-    subst (λ (none : Bool). (either none (give nothing_bound) (some_bind_front true (length l) 0)).Spells f (nulls ++ (le_bytes 1 1 ++ typed)) left) (sym some) begins
 
 attributes-again : (l : List QueryAttribute) → length l < 2 ^ 64 → All SentFits (sent_attributes l) → IsSpelling query_attributes (map attribute_read l) (attributes_bytes l)
 unfolding each
@@ -94,17 +67,19 @@ attributes-again (a ∷ l) few fit rest =
     let sent = flat_map (value_bytes false) ps in
     let left = sent ++ rest in
     let after = nulls ++ (sets ++ (typed ++ left)) in
-    let is_zero : Bool = length all == 0 in
-    let some : is_zero ≡ false = grind (arith, common_steps) in
     let inner : some_bytes ps ++ rest ≡ after =
     append_assoc nulls (sets ++ (typed ++ sent)) rest ∙ ap (λ (text : List ℕ). nulls ++ text) (append_assoc sets (typed ++ sent) rest ∙ ap (λ (text : List ℕ). sets ++ text) (append_assoc typed sent rest)) in
     let joined : count ++ sets ++ some_bytes ps ++ rest ≡ count ++ (sets ++ after) =
     append_assoc (count ++ sets) (some_bytes ps) rest ∙ append_assoc count sets (some_bytes ps ++ rest) ∙ ap (λ (text : List ℕ). count ++ (sets ++ text)) inner in
-    let f : BindFront = record { nulls = nulls; sends_types = true; types = map attribute_type all } in
-    let bits : (i : ℕ) → i < length all → cell nulls (0 + i) ≡ get_or (map (λ p. null_bit (value_of p.param)) ps) i 0 =
-    λ i lt. let same : 0 + i ≡ i = omega arith in ap (cell nulls) same ∙ (marks-nulls (map (λ p. value_of p.param) ps)).cells i ∙ ap (λ (b : List ℕ). get_or b i 0) (bits-of ps) in
+    let f : List NamedType → BindFront = λ ts. record { nulls = nulls; sends_types = true; types = ts } in
+    let long : length ps ≡ length all = length-map all _ in
+    let counted : 0 + length ps ≡ length all = omega (arith, long) in
+    let front : (bind_front true (length all) 0).Spells (f (map attribute_type all)) after left =
+    subst (λ (ts : List NamedType). (bind_front true (length all) 0).Spells (f ts) after left) (types-read all)
+    (subst (λ (n : ℕ). (bind_front true n 0).Spells (f (map (λ p. type_read true p.named_type) ps)) after left) counted
+    (front-again true true [] ps (λ e. omega (arith, e)) (λ e. absurd cc) fit left)) in
     subst (λ (text : List ℕ). query_attributes.Spells (map attribute_read all) text rest) (sym joined)
-    (raw_int (length all), sets ++ after, count-again (length all) few (sets ++ after), (record { 0 = record {} }, after, one-byte _ after, (f, left, front-again all some fit left, values-again nulls 0 all bits fit rest)))
+    (raw_int (length all), sets ++ after, count-again (length all) few (sets ++ after), (record { 0 = record {} }, after, one-byte _ after, (f (map attribute_type all), left, front, values-again nulls 0 all (λ i lt. second-bits [] ps i) fit rest)))
 
 -- ---- the query
 

@@ -11,6 +11,8 @@ use Rattle.mysql_wire.specs.declared.codes.server_command.ServerCommand.TheVaria
 use Rattle.mysql_auth.specs.ComChangeUser.{change_user_as_sent}
 use Rattle.mysql_stmt.specs.Close.{close}
 use Rattle.mysql_stmt.specs.LongData.{long_data}
+use Rattle.mysql_stmt.specs.StmtFetch.{stmt_fetch}
+use Rattle.mysql_stmt.specs.StmtReset.{stmt_reset}
 use Rattle.mysql_repl.specs.BinlogDump.{binlog_dump}
 use Rattle.mysql_repl.specs.BinlogDumpGtid.{gtid_dump}
 use Rattle.mysql_repl.specs.RegisterSlave.{register_slave}
@@ -22,8 +24,6 @@ use Rattle.mysql_commands.specs.FieldList.{field_list}
 use Rattle.mysql_commands.specs.Query.{query}
 use Rattle.mysql_commands.specs.SetOption.{set_option}
 use Rattle.mysql_commands.specs.StmtExecute.{stmt_execute}
-use Rattle.mysql_commands.specs.StmtFetch.{stmt_fetch}
-use Rattle.mysql_commands.specs.StmtReset.{stmt_reset}
 use Rattle.mysql_commands.specs.Unknown.{unknown_command}
 use Rattle.mysql_commands.specs.declared.command.Command.{Command}
 use Rattle.mysql_commands.specs.declared.command.Command.TheVariants as variant

@@ -9,7 +9,5 @@ pub mod Query
 pub mod SentQuery
 pub mod SetOption
 pub mod StmtExecute
-pub mod StmtFetch
-pub mod StmtReset
 pub mod Unknown
 pub mod Command

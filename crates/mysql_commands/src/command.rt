@@ -6,13 +6,11 @@ use crate::field_list::ComFieldListRef;
 use crate::query::ComQueryRef;
 use crate::set_option::ComSetOption;
 use crate::stmt_execute::ComStmtExecuteRef;
-use crate::stmt_fetch::ComStmtFetch;
-use crate::stmt_reset::ComStmtReset;
 use crate::unknown::UnknownCommand;
 use crate::with_raw_bytes::WithRawBytes;
 use mysql_auth::ComChangeUserRef;
 use mysql_repl::{ComBinlogDumpGtidRef, ComBinlogDumpRef, ComRegisterSlaveRef, ComTableDump};
-use mysql_stmt::{ComStmtClose, ComStmtSendLongDataRef};
+use mysql_stmt::{ComStmtClose, ComStmtFetch, ComStmtReset, ComStmtSendLongDataRef};
 
 /// A client's command: a payload of the command phase, by its first byte.
 ///

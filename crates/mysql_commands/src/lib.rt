@@ -13,8 +13,6 @@ mod query;
 mod query_attributes;
 mod set_option;
 mod stmt_execute;
-mod stmt_fetch;
-mod stmt_reset;
 mod unknown;
 mod with_raw_bytes;
 
@@ -27,7 +25,5 @@ pub use query::{ComQueryHeader, ComQueryRef, InvalidComQueryHeader};
 pub use query_attributes::{InvalidParameterSetCount, QueryAttributesRef};
 pub use set_option::{ComSetOption, ComSetOptionHeader, InvalidComSetOptionHeader, ServerOption};
 pub use stmt_execute::ComStmtExecuteRef;
-pub use stmt_fetch::{ComStmtFetch, ComStmtFetchHeader, InvalidComStmtFetchHeader};
-pub use stmt_reset::{ComStmtReset, ComStmtResetHeader, InvalidComStmtResetHeader};
 pub use unknown::UnknownCommand;
 pub use with_raw_bytes::WithRawBytes;

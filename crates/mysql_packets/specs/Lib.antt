@@ -146,6 +146,8 @@ pub use Rattle.mysql_stmt.specs.RowForm
 pub use Rattle.mysql_stmt.specs.RowView
 pub use Rattle.mysql_stmt.specs.StoredRow
 pub use Rattle.mysql_stmt.specs.Stmt
+pub use Rattle.mysql_stmt.specs.StmtFetch
+pub use Rattle.mysql_stmt.specs.StmtReset
 pub use Rattle.mysql_stmt.specs.StmtWithMetadata
 pub use Rattle.mysql_stmt.specs.TextRow
 pub use Rattle.mysql_cuts.specs.Cut
@@ -240,8 +242,6 @@ pub use Rattle.mysql_commands.specs.PartialQuery
 pub use Rattle.mysql_commands.specs.SentQuery
 pub use Rattle.mysql_commands.specs.SetOption
 pub use Rattle.mysql_commands.specs.StmtExecute
-pub use Rattle.mysql_commands.specs.StmtFetch
-pub use Rattle.mysql_commands.specs.StmtReset
 pub use Rattle.mysql_commands.specs.Unknown
 pub use Rattle.mysql_frames.specs.FrameReader
 pub use Rattle.mysql_frames.specs.Frames

@@ -32,7 +32,7 @@ use Rattle.mysql_stmt.specs.ExecuteHead.{cursor_flags, execute_head, iteration_c
 use Rattle.mysql_stmt.specs.ExecuteParams.{where_some}
 use Rattle.mysql_stmt.specs.ReadAgain.{IsReadable, KnowsAll, ParamFits, SentFits, as_read_under, attribute_read, attributes_as_read, built, bytes_after_head, param_read, params_as_read, type_read, was_sent_ahead}
 use Rattle.mysql_stmt.specs.declared.execute_head.ComStmtExecuteHead.{ComStmtExecuteHead}
-use Rattle.mysql_stmt.specs.SentParam.{attribute_type, bytes_under, is_spelled_under, sent_attributes, sent_param, type_bytes, value_bytes}
+use Rattle.mysql_stmt.specs.SentParam.{attribute_type, bound_bytes, bytes_under, is_spelled_under, sent_attributes, sent_param, type_bytes, value_bytes}
 use Rattle.mysql_stmt.specs.SentTypes.{NamedType, sent_type, types, unnamed}
 use Rattle.mysql_stmt.specs.declared.execute_param.QueryAttribute.{QueryAttribute}
 use Rattle.mysql_stmt.specs.declared.execute_view.BoundParam.{BoundParam}
@@ -300,7 +300,7 @@ module _ (caps : CapabilityFlags) (flags : ℕ) (names follow l : Bool) where
   types_of_all all = if follow then flat_map (type_bytes names) all else []
 
   abbrev params_of_all : List TypedParam → List TypedParam → List ℕ
-  params_of_all ps added = nulls_of (ps ++ added) ++ (le_bytes 1 (if follow then 1 else 0) ++ (types_of_all (ps ++ added) ++ (flat_map (value_bytes l) ps ++ flat_map (value_bytes false) added)))
+  params_of_all ps added = bound_bytes (nulls_of (ps ++ added)) follow names l ps added
 
   none-again : has_attributes caps ≡ names → (rest : List ℕ) → (execution caps flags []).Spells ([], []) (count_of_all [] [] ++ rest) rest
   unfolding each

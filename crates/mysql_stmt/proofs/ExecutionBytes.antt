@@ -1,13 +1,11 @@
 -- The bytes of an execution, by its parts.
 use Rattle.std.proofs.Common.{◌≡◌, ◌<◌, ◌≤◌, ◌↔◌, IsTrue, nat_lt, rules, ℕ, ◌+◌, ◌&&◌, ◌||◌, Bool, true, false, if◌then◌else◌, List, [], ◌∷◌, ◌++◌, length, map, Option, Some, None, is_some, unwrap_or, append_assoc, refl, sym, ap, ◌∙◌, arith}
-use Rattle.std.specs.List.{flat_map}
 use Rattle.std.specs.Option.{option_map}
 use Rattle.std.proofs.lemmas.Bool.Decides.{nat_tests}
 use Rattle.std.proofs.lemmas.List.{append-nil, length-take-le, map-append}
-use Rattle.std.proofs.lemmas.List.Concat.{flat_map-append}
 use Rattle.std.proofs.lemmas.Simd.{map-map}
 use Rattle.mysql_wire.specs.LenEnc.{lenenc_bytes}
-use Rattle.mysql_wire.specs.Writing.{le_bytes, saturated}
+use Rattle.mysql_wire.specs.Writing.{saturated}
 use Rattle.mysql_values.specs.Value.{Content}
 use Rattle.mysql_stmt.specs.ExecuteHead.{execute_head, has_parameter_count}
 use Rattle.mysql_stmt.specs.ExecuteParam.{Param, contents, value_of}
@@ -18,11 +16,11 @@ use Rattle.mysql_stmt.specs.ExecuteWithOptions as request
 use Rattle.mysql_stmt.specs.NullMarks.{bitmap_of}
 use Rattle.mysql_stmt.specs.Payload.{max_payload}
 use Rattle.mysql_stmt.specs.SentNulls.{bitmap_with, contents_with}
-use Rattle.mysql_stmt.specs.SentParam.{list_of, sent_param, sent_params, type_bytes, value_bytes}
+use Rattle.mysql_stmt.specs.SentParam.{bound_bytes, list_of, sent_param, sent_params}
 use Rattle.mysql_stmt.specs.ExecuteRead.{TypedParam}
 use Rattle.mysql_stmt.specs.SentTypes.{NamedType}
 use Rattle.mysql_stmt.specs.declared.execution.ComStmtExecuteWithOptions.{ComStmtExecuteWithOptions}
-use Rattle.mysql_stmt.proofs.SentBytes.{length-sent, types-sent, values-sent}
+use Rattle.mysql_stmt.proofs.SentBytes.{length-sent}
 
 -- ---- lists
 
@@ -52,17 +50,8 @@ listed-same : {A B : Type 0} (f : A → B) (attributes : Option (List A)) → un
 listed-same f None = refl
 listed-same f (Some l) = refl
 
--- the types of parameters and attributes
-types-apart : (has_names sends : Bool) (params attributes : List TypedParam)
-    → (if sends || has_some attributes then flat_map (type_bytes has_names) (params ++ attributes) else [])
-    ≡ flat_map (type_bytes has_names) (if sends || has_some attributes then params else []) ++ flat_map (type_bytes has_names) attributes
-types-apart n true params attributes = flat_map-append (type_bytes n) params attributes
-types-apart n false params [] = refl
-types-apart n false params (a ∷ attributes) = flat_map-append (type_bytes n) params (a ∷ attributes)
-
-regroup : (h d nulls flag types atypes values avalues : List ℕ)
-    → h ++ (d ++ (nulls ++ (flag ++ ((types ++ atypes) ++ (values ++ avalues))))) ≡ (h ++ (d ++ [])) ++ (nulls ++ (flag ++ (types ++ (atypes ++ (values ++ (avalues ++ []))))))
-regroup h d nulls flag types atypes values avalues = simp (append-nil, append_assoc)
+regroup : (h d bytes : List ℕ) → h ++ (d ++ bytes) ≡ (h ++ (d ++ [])) ++ (bytes ++ [])
+regroup h d bytes = simp (append-nil, append_assoc)
 
 module _ {V A : Type 0} (param : V → Param) (named_type : V → NamedType) (attribute : A → Param) (attribute_type : A → NamedType) (r : ComStmtExecuteWithOptions V A) where
   abbrev it : execution.Execution
@@ -115,27 +104,6 @@ module _ {V A : Type 0} (param : V → Param) (named_type : V → NamedType) (at
   nulls-are : execution.null_bytes it ≡ bitmap_with param attribute (request.params r) (request.listed r)
   nulls-are = ap bitmap_of held-are
 
-  typed-is : (b : Bool) → (if b then it.params else []) ≡ sent_params param named_type (if b then request.params r else [])
-  typed-is true = refl
-  typed-is false = refl
-
-  types-are : execution.types_bytes it ≡ flat_map (λ v. type_bytes (request.has_names r) (sent_param param named_type v)) (request.typed_params r) ++ flat_map (λ a. type_bytes (request.has_names r) (sent_param attribute attribute_type a)) (request.listed r)
-  types-are =
-      let n = execution.has_names it in
-      ap (λ (l : List TypedParam). if r.sends_types || has_some l then flat_map (type_bytes n) (it.params ++ l) else []) listed-is
-      ∙ types-apart n r.sends_types it.params attributes
-      ∙ ap (λ (b : Bool). flat_map (type_bytes n) (if r.sends_types || b then it.params else []) ++ flat_map (type_bytes n) attributes) (some-mapped (sent_param attribute attribute_type) (request.listed r))
-      ∙ ap (λ (l : List TypedParam). flat_map (type_bytes n) l ++ flat_map (type_bytes n) attributes) (typed-is (request.types_follow r))
-      ∙ ap (λ (b : Bool). flat_map (type_bytes b) (sent_params param named_type (request.typed_params r)) ++ flat_map (type_bytes b) attributes) names-are
-      ∙ ap (λ (l : List ℕ). l ++ flat_map (type_bytes (request.has_names r)) attributes) (sym (types-sent param named_type (request.has_names r) (request.typed_params r)))
-      ∙ ap (λ (l : List ℕ). flat_map (λ v. type_bytes (request.has_names r) (sent_param param named_type v)) (request.typed_params r) ++ l) (sym (types-sent attribute attribute_type (request.has_names r) (request.listed r)))
-
-  values-are : execution.values_bytes it ≡ flat_map (λ v. value_bytes r.as_long_data (sent_param param named_type v)) (request.params r) ++ flat_map (λ a. value_bytes false (sent_param attribute attribute_type a)) (request.listed r)
-  values-are =
-      ap (λ (l : List TypedParam). flat_map (value_bytes r.as_long_data) it.params ++ flat_map (value_bytes false) l) listed-is
-      ∙ ap (λ (l : List ℕ). l ++ flat_map (value_bytes false) attributes) (sym (values-sent param named_type r.as_long_data (request.params r)))
-      ∙ ap (λ (l : List ℕ). flat_map (λ v. value_bytes r.as_long_data (sent_param param named_type v)) (request.params r) ++ l) (sym (values-sent attribute attribute_type false (request.listed r)))
-
   abbrev pub head_with : List ℕ → List ℕ
   head_with count = execute_head.bytes r.head ++ (count ++ [])
 
@@ -144,26 +112,25 @@ module _ {V A : Type 0} (param : V → Param) (named_type : V → NamedType) (at
       ap (λ (l : List ℕ). execute_head.bytes r.head ++ (l ++ where_some (execution.all_params it) (execution.params_bytes it))) (count-is ∙ sym is)
       ∙ ap (λ (l : List ℕ). execute_head.bytes r.head ++ (count ++ l)) (where-none (execution.all_params it) (execution.params_bytes it) (some-is ∙ none))
 
-  pub bytes-of-some : (count : List ℕ) (flag : ℕ) (has_names : Bool) (typed : List V) (first : List A)
-      → request.has_values r ≡ true → count ≡ request.count_bytes r → flag ≡ (if request.types_follow r then 1 else 0) → has_names ≡ request.has_names r → typed ≡ request.typed_params r
-      → first ≡ request.listed r
-      → request.request_bytes param named_type attribute attribute_type r ≡ head_with count ++ (bitmap_with param attribute (request.params r) first ++ (le_bytes 1 flag
-      ++ (flat_map (λ v. type_bytes has_names (sent_param param named_type v)) typed ++ (flat_map (λ a. type_bytes has_names (sent_param attribute attribute_type a)) first
-      ++ (flat_map (λ v. value_bytes r.as_long_data (sent_param param named_type v)) (request.params r) ++ (flat_map (λ a. value_bytes false (sent_param attribute attribute_type a)) first ++ []))))))
-  bytes-of-some count flag has_names typed first some is_count is_flag is_names is_typed is_first =
-      rw (is_count, is_flag, is_names, is_typed, is_first) (
+  abbrev bound : (nulls : List ℕ) (follow has_names : Bool) → List TypedParam → List ℕ
+  bound nulls follow has_names added = bound_bytes nulls follow has_names r.as_long_data it.params added
+
+  pub bytes-of-some : (count : List ℕ) (follow has_names : Bool) (first : List A)
+      → request.has_values r ≡ true → count ≡ request.count_bytes r → follow ≡ request.types_follow r → has_names ≡ request.has_names r → first ≡ request.listed r
+      → request.request_bytes param named_type attribute attribute_type r
+      ≡ head_with count ++ (bound_bytes (bitmap_with param attribute (request.params r) first) follow has_names r.as_long_data (sent_params param named_type (request.params r)) (sent_params attribute attribute_type first) ++ [])
+  bytes-of-some count follow has_names first some is_count is_follow is_names is_first =
+      let nulls = bitmap_with param attribute (request.params r) (request.listed r) in
+      rw (is_count, is_follow, is_names, is_first) (
       ap (λ (l : List ℕ). execute_head.bytes r.head ++ (l ++ where_some (execution.all_params it) (execution.params_bytes it))) count-is
       ∙ ap (λ (l : List ℕ). execute_head.bytes r.head ++ (request.count_bytes r ++ l)) (
       where-full (execution.all_params it) (execution.params_bytes it) (some-is ∙ some)
-      ∙ ap (λ (l : List ℕ). l ++ (le_bytes 1 (if execution.types_follow it then 1 else 0) ++ (execution.types_bytes it ++ execution.values_bytes it))) nulls-are
-      ∙ ap (λ (b : Bool). bitmap_with param attribute (request.params r) (request.listed r) ++ (le_bytes 1 (if b then 1 else 0) ++ (execution.types_bytes it ++ execution.values_bytes it))) follow-is
-      ∙ ap (λ (l : List ℕ). bitmap_with param attribute (request.params r) (request.listed r) ++ (le_bytes 1 (if request.types_follow r then 1 else 0) ++ (l ++ execution.values_bytes it))) types-are
-      ∙ ap (λ (l : List ℕ). bitmap_with param attribute (request.params r) (request.listed r) ++ (le_bytes 1 (if request.types_follow r then 1 else 0)
-      ++ ((flat_map (λ v. type_bytes (request.has_names r) (sent_param param named_type v)) (request.typed_params r) ++ flat_map (λ a. type_bytes (request.has_names r) (sent_param attribute attribute_type a)) (request.listed r)) ++ l))) values-are
+      ∙ ap (λ (bits : List ℕ). bound bits (execution.types_follow it) (execution.has_names it) (execution.listed it)) nulls-are
+      ∙ ap (λ (b : Bool). bound nulls b (execution.has_names it) (execution.listed it)) follow-is
+      ∙ ap (λ (b : Bool). bound nulls (request.types_follow r) b (execution.listed it)) names-are
+      ∙ ap (λ (l : List TypedParam). bound nulls (request.types_follow r) (request.has_names r) l) listed-is
       )
-      ∙ regroup (execute_head.bytes r.head) (request.count_bytes r) (bitmap_with param attribute (request.params r) (request.listed r)) (le_bytes 1 (if request.types_follow r then 1 else 0))
-      (flat_map (λ v. type_bytes (request.has_names r) (sent_param param named_type v)) (request.typed_params r)) (flat_map (λ a. type_bytes (request.has_names r) (sent_param attribute attribute_type a)) (request.listed r))
-      (flat_map (λ v. value_bytes r.as_long_data (sent_param param named_type v)) (request.params r)) (flat_map (λ a. value_bytes false (sent_param attribute attribute_type a)) (request.listed r))
+      ∙ regroup (execute_head.bytes r.head) (request.count_bytes r) (bound nulls (request.types_follow r) (request.has_names r) attributes)
       )
 
 -- ---- whether byte strings are long data

@@ -1,5 +1,6 @@
 -- A block filled entry by entry.
 use Rattle.std.proofs.Common.{◌≡◌, ◌∙◌, sym, ap, subst, suc, ℕ, ◌+◌, ◌-◌, ◌*◌, ◌<◌, ◌≤◌, ◌^◌, ◌++◌, List, [], ◌∷◌, Ok, length, drop, take, refl, arith, length-append, append_assoc}
+use Rattle.std.specs.Prelude.{◌/◌, ◌%◌}
 use Rattle.std.proofs.lemmas.List.{drop-drop, drop_at, append-nil, take_all}
 use Rattle.mysql_wire.specs.Form.{le_value}
 use Rattle.mysql_wire.specs.LittleEndian.{length-le_bytes, value-le_bytes}
@@ -7,18 +8,19 @@ use Rattle.mysql_wire.specs.Reading.{IsTail, IsTail-refl, IsTail-trans}
 use Rattle.mysql_wire.specs.Writing.{le_bytes}
 use Rattle.mysql_values.specs.Value.{Content}
 use Rattle.mysql_stmt.specs.declared.stored_form.StoredForm.{StoredForm}
+use Rattle.mysql_stmt.specs.declared.stored_form.StoredForm.TheVariants as stored
 use Rattle.mysql_stmt.specs.RowView.{RowLeft, Gives}
-use Rattle.mysql_stmt.specs.StoredRow.{AreStored, HoldsRow, IsStored, ReadsAs, code_of, entry_reading, form_of, stored_size, stored_values, value_read}
+use Rattle.mysql_stmt.specs.StoredRow.{AreStored, HoldsRow, IsStored, ReadsAs, code_of, entry_number, entry_reading, first_entry, form_of, form_of_code, stored_size, stored_values, value_read}
 use Rattle.mysql_stmt.proofs.StoredRows.{code-again, values-append, stored-append, values-more, stored-more}
 
 -- the entries of the values read so far describe them, whatever follows in the block
 pub record Filling (row now : RowLeft) (block : List ℕ) : Type 0 where
   pub done : ℕ
   pub count : done + now.left ≡ row.left
-  pub len : length block ≡ 5 * done
+  pub len : length block ≡ 8 * done
   pub tail : IsTail now.rest row.rest
   pub end : now.end ≡ row.end
-  pub good : (final : List ℕ) → length final ≡ stored_size row → drop (5 * row.left) final ≡ row.rest → (stored_values done block final ++ now.values ≡ row.values) × AreStored done block final
+  pub good : (final : List ℕ) → length final ≡ stored_size row → drop (8 * row.left) final ≡ row.rest → (stored_values done block final ++ now.values ≡ row.values) × AreStored done block final
 
 pub filling-none : (row : RowLeft) → Filling row row []
 unfolding stored_values AreStored
@@ -44,39 +46,65 @@ tail-is tail bytes t =
     subst (λ (b : List ℕ). drop (length bytes - length tail) b ≡ tail) (sym t.parts) (drop_at t.front tail (length bytes - length tail) n)
 
 -- the bytes at the place of the next value
-at-place : (row : RowLeft) (tail final : List ℕ) (place : ℕ) → IsTail tail row.rest → drop (5 * row.left) final ≡ row.rest → place ≡ 5 * row.left + (length row.rest - length tail) → drop place final ≡ tail
+at-place : (row : RowLeft) (tail final : List ℕ) (place : ℕ) → IsTail tail row.rest → drop (8 * row.left) final ≡ row.rest → place ≡ 8 * row.left + (length row.rest - length tail) → drop place final ≡ tail
 at-place row tail final place t rest at =
-    ap (λ (n : ℕ). drop n final) at ∙ sym (drop-drop (length row.rest - length tail) (5 * row.left) final)
+    ap (λ (n : ℕ). drop n final) at ∙ sym (drop-drop (length row.rest - length tail) (8 * row.left) final)
     ∙ ap (λ (b : List ℕ). drop (length row.rest - length tail) b) rest ∙ tail-is tail row.rest t
 
-entry-place : (f : StoredForm) (place : ℕ) → place < 2 ^ 32 → le_value (take 4 (drop 1 (code_of f ∷ le_bytes 4 place))) ≡ place
-entry-place f place small =
-    ap le_value (take_all 4 (le_bytes 4 place) (let n : length (le_bytes 4 place) ≤ 4 = omega (arith, length-le_bytes 4 place) in n)) ∙ value-le_bytes 4 place small
+code-small : (f : StoredForm) → code_of f < 14
+code-small stored.Null = omega arith
+code-small stored.String = omega arith
+code-small stored.Tiny = omega arith
+code-small stored.UnsignedTiny = omega arith
+code-small stored.Short = omega arith
+code-small stored.UnsignedShort = omega arith
+code-small stored.Long = omega arith
+code-small stored.UnsignedLong = omega arith
+code-small stored.LongLong = omega arith
+code-small stored.UnsignedLongLong = omega arith
+code-small stored.Float = omega arith
+code-small stored.Double = omega arith
+code-small stored.Date = omega arith
+code-small stored.Time = omega arith
+
+-- an entry as it is read: the place, and the number of the form
+entry-is : (f : StoredForm) (place : ℕ) → place < 2 ^ 32 → first_entry (le_bytes 8 (entry_number f place)) ≡ entry_number f place
+entry-is f place small =
+    let n = entry_number f place in
+    let fits : n < 256 ^ 8 = omega (arith, small, code-small f) in
+    ap le_value (take_all 8 (le_bytes 8 n) (let l : length (le_bytes 8 n) ≤ 8 = omega (arith, length-le_bytes 8 n) in l)) ∙ value-le_bytes 8 n fits
+
+entry-place : (f : StoredForm) (place : ℕ) → place < 2 ^ 32 → first_entry (le_bytes 8 (entry_number f place)) % 2 ^ 32 ≡ place
+entry-place f place small = rw (entry-is f place small) (omega (arith, small))
+
+entry-code : (f : StoredForm) (place : ℕ) → place < 2 ^ 32 → first_entry (le_bytes 8 (entry_number f place)) / 2 ^ 32 ≡ code_of f
+entry-code f place small = rw (entry-is f place small) (omega (arith, small))
 
 entry-reads : (f : StoredForm) (place : ℕ) (final bytes : List ℕ) (x : Content) (after : List ℕ) → place < 2 ^ 32 → drop place final ≡ bytes → (form_of f).reads bytes ≡ Ok (x, after)
-    → entry_reading (code_of f ∷ le_bytes 4 place) final ≡ Ok (x, after)
+    → entry_reading (le_bytes 8 (entry_number f place)) final ≡ Ok (x, after)
 entry-reads f place final bytes x after small at reads =
-    ap (λ (g : StoredForm). (form_of g).reads (drop (le_value (take 4 (drop 1 (code_of f ∷ le_bytes 4 place)))) final)) (code-again f)
+    let entry = first_entry (le_bytes 8 (entry_number f place)) in
+    ap (λ (c : ℕ). (form_of_code c).reads (drop (entry % 2 ^ 32) final)) (entry-code f place small)
+    ∙ ap (λ (g : StoredForm). (form_of g).reads (drop (entry % 2 ^ 32) final)) (code-again f)
     ∙ ap (λ (n : ℕ). (form_of f).reads (drop n final)) (entry-place f place small) ∙ ap (λ (b : List ℕ). (form_of f).reads b) at ∙ reads
 
 -- one more entry
 pub filling-more : (row old new : RowLeft) (block : List ℕ) (f : StoredForm) (place : ℕ) → Filling row old block → (x : Content) × Gives old x new × IsTail new.rest old.rest × ReadsAs f old.rest x
-    → place ≡ 5 * row.left + length row.rest - length old.rest → stored_size row < 2 ^ 32 → Filling row new ((block ++ code_of f ∷ []) ++ le_bytes 4 place)
+    → place ≡ 8 * row.left + length row.rest - length old.rest → stored_size row < 2 ^ 32 → Filling row new (block ++ le_bytes 8 (entry_number f place))
 filling-more row old new block f place h p at small =
     let x = p.0 in
     let gives = p.1 in
     let after = p.3.0 in
     let reads = p.3.1 in
     let shorter : length old.rest ≤ length row.rest = tail-shorter old.rest row.rest h.tail in
-    let place_is : place ≡ 5 * row.left + (length row.rest - length old.rest) = omega (arith, at, shorter) in
+    let place_is : place ≡ 8 * row.left + (length row.rest - length old.rest) = omega (arith, at, shorter) in
     let fits : place < 2 ^ 32 = omega (arith, place_is, small) in
-    let entry : List ℕ = code_of f ∷ le_bytes 4 place in
-    let joined : (block ++ code_of f ∷ []) ++ le_bytes 4 place ≡ block ++ entry = append_assoc block (code_of f ∷ []) (le_bytes 4 place) in
-    let entry_len : length entry ≡ 5 = omega (arith, length-le_bytes 4 place) in
+    let entry : List ℕ = le_bytes 8 (entry_number f place) in
+    let entry_len : length entry ≡ 8 = length-le_bytes 8 (entry_number f place) in
     record {
       done = suc h.done;
       count = omega (arith, h.count, gives.0);
-      len = ap length joined ∙ length-append block entry ∙ omega (arith, h.len, entry_len);
+      len = length-append block entry ∙ omega (arith, h.len, entry_len);
       tail = IsTail-trans new.rest old.rest row.rest p.2 h.tail;
       end = gives.2 ∙ h.end;
       good = λ final len rest.
@@ -89,12 +117,11 @@ filling-more row old new block f place h p at small =
             good = (x, after, read);
           } in
           let one : value_read (entry_reading entry final) ≡ x = ap value_read read in (
-            subst (λ (b : List ℕ). stored_values (suc h.done) b final ++ new.values ≡ row.values) (sym joined)
-                (ap (λ (vs : List Content). vs ++ new.values) (values-more h.done block entry final h.len)
+            ap (λ (vs : List Content). vs ++ new.values) (values-more h.done block entry final h.len)
                 ∙ append_assoc (stored_values h.done block final) (value_read (entry_reading entry final) ∷ []) new.values
                 ∙ ap (λ (y : Content). stored_values h.done block final ++ y ∷ new.values) one
-                ∙ ap (λ (vs : List Content). stored_values h.done block final ++ vs) (sym gives.1) ∙ before.0),
-            subst (λ (b : List ℕ). AreStored (suc h.done) b final) (sym joined) (stored-more h.done block entry final h.len before.1 stored),
+                ∙ ap (λ (vs : List Content). stored_values h.done block final ++ vs) (sym gives.1) ∙ before.0,
+            stored-more h.done block entry final h.len before.1 stored,
           );
     }
 
@@ -102,9 +129,9 @@ filling-more row old new block f place h p at small =
 pub filling-all : (row now : RowLeft) (block rest : List ℕ) → Filling row now block → now.left ≡ 0 → now.values ≡ [] → now.end ≡ Ok rest → HoldsRow row (block ++ row.rest)
 filling-all row now block rest h none no_value end =
     let all : h.done ≡ row.left = omega (arith, h.count, none) in
-    let len : length block ≡ 5 * row.left = omega (arith, h.len, all) in
+    let len : length block ≡ 8 * row.left = omega (arith, h.len, all) in
     let final : List ℕ = block ++ row.rest in
-    let good = h.good final (length-append block row.rest ∙ omega (arith, len)) (drop_at block row.rest (5 * row.left) len) in
+    let good = h.good final (length-append block row.rest ∙ omega (arith, len)) (drop_at block row.rest (8 * row.left) len) in
     record {
       values =
           values-append row.left block row.rest final len

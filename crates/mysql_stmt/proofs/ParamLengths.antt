@@ -1,33 +1,22 @@
 -- The length of an execution's parameters.
-use Rattle.std.proofs.Common.{◌≡◌, ◌≢◌, ◌+◌, ◌*◌, ◌<◌, ◌≤◌, inl, inr, ◌↔◌, IsTrue, Bool, true, false, ℕ, List, [], ◌∷◌, ◌++◌, length, take, min, get_or, ap, append_assoc, refl, ◌∙◌, arith, sum_by}
+use Rattle.std.proofs.Common.{◌≡◌, ◌≢◌, ◌+◌, ◌*◌, ◌<◌, ◌≤◌, inl, inr, ◌↔◌, IsTrue, Bool, true, false, ℕ, List, [], ◌∷◌, ◌++◌, length, take, ap, append_assoc, refl, ◌∙◌, arith}
 use Rattle.std.specs.List.{flat_map}
 use Rattle.std.proofs.lemmas.Bool.{cases_lt}
 use Rattle.std.proofs.lemmas.Bool.Decides.{nat_tests}
 use Rattle.std.proofs.lemmas.List.{append-nil, length-append, length-map, length-take}
-use Rattle.std.proofs.lemmas.List.Folds.{length-flat_map-take}
-use Rattle.std.proofs.lemmas.List.Sums.{sum_by-cons}
 use Rattle.mysql_wire.specs.Writing.{le_bytes}
-use Rattle.mysql_values.specs.ParamType.{param_type, type_of}
 use Rattle.mysql_values.specs.declared.value.Value.{Value}
-use Rattle.mysql_values.specs.Value.{Content, NULL, Bytes, Int, UInt, Float, Double, Date, Time, content_of, contents_of, bin, size_of}
+use Rattle.mysql_values.specs.Value.{Content, NULL, Bytes, Int, UInt, Float, Double, Date, Time, content_of, contents_of}
 use Rattle.mysql_values.proofs.Sizes.{length-bin}
 use Rattle.mysql_stmt.specs.Bitmap.{bytes_for}
-use Rattle.mysql_stmt.specs.ExecuteParams.{types_bytes, short, data_bytes, whole_size, params_bytes, where_some}
-use Rattle.mysql_stmt.specs.NullMarks.{MarksNulls}
+use Rattle.mysql_stmt.specs.ExecuteParam.{short}
+use Rattle.mysql_stmt.specs.ExecuteParams.{params_bytes, sent_values, value_param, values_bytes, where_some, whole_size}
+use Rattle.mysql_stmt.specs.NullMarks.{MarksNulls, bitmap_of}
 use Rattle.mysql_stmt.specs.Payload.{max_payload}
+use Rattle.mysql_stmt.specs.SentParam.{type_bytes, type_of_param, value_bytes}
 use Rattle.mysql_stmt.specs.declared.execute_params.ExecuteParams.{ExecuteParams}
-
-pub length-types_bytes : (values : List Value) → length (types_bytes values) ≡ 2 * length values
-unfolding param_type le_bytes
-length-types_bytes [] = refl
-length-types_bytes (v ∷ values) =
-    omega (arith, length-append (param_type.bytes (type_of (content_of v))) (types_bytes values), length-types_bytes values)
-
--- the values have the lengths of their sizes
-pub length-values : (values : List Value) → length (data_bytes false values) ≡ sum_by size_of values
-length-values [] = refl
-length-values (v ∷ values) =
-    omega (arith, length-append (bin (content_of v)) (data_bytes false values), length-bin (content_of v), length-values values, sum_by-cons size_of v values)
+use Rattle.mysql_stmt.proofs.PackedBits.{bitmap-long}
+use Rattle.mysql_stmt.proofs.SentBytes.{length-sent, length-types, plain-bytes}
 
 -- no value other than a byte string is longer than a time
 pub short_small : (value : Content) → length (short value) ≤ 13
@@ -41,47 +30,48 @@ short_small (Double bits) = omega arith
 short_small (Date date) = rw (length-bin (Date date)) (grind (arith, nat_tests))
 short_small (Time time) = rw (length-bin (Time time)) (grind (arith, nat_tests))
 
-short_values : (values : List Value) → length (data_bytes true values) ≤ 13 * length values
+short_values : (values : List Value) → length (flat_map (value_bytes true) (sent_values values)) ≤ 13 * length values
 short_values [] = omega arith
 short_values (v ∷ values) =
-    omega (arith, length-append (short (content_of v)) (data_bytes true values), short_small (content_of v), short_values values)
+    let sent = value_bytes true (record { named_type = type_of_param (value_param v); param = value_param v }) in
+    omega (arith, length-append sent (flat_map (value_bytes true) (sent_values values)), ap length (plain-bytes true (value_param v)), short_small (content_of v), short_values values)
 
--- there is capacity for the next value
-pub next_fits : (bytes : Value → List ℕ) (values : List Value) (i : ℕ) (value : Value) (before now : List ℕ) (capacity : ℕ)
-    → i < length values
-    → value ≡ get_or values i value
-    → now ≡ before ++ flat_map bytes (take i values)
-    → length before + length (flat_map bytes values) ≤ capacity
-    → length now + length (bytes value) ≤ capacity
-next_fits bytes values i value before now capacity within is so_far fits =
-    let one = length-flat_map-take bytes values i value within in
-    let this : length (bytes value) ≡ length (bytes (get_or values i value)) = ap (λ (v : Value). length (bytes v)) is in
-    let long = ap length so_far ∙ length-append before (flat_map bytes (take i values)) in
-    omega (arith, one, this, long, fits)
-
-length-parts : (bitmap : List ℕ) (flags : ℕ) (types values : List ℕ)
-    → length (take 8192 bitmap ++ le_bytes 1 flags ++ types ++ values) ≡ min 8192 (length bitmap) + 1 + length types + length values
+length-values_bytes : (nulls : List ℕ) (long : Bool) (values : List Value)
+    → length (values_bytes nulls long values) ≡ length nulls + 1 + 2 * length values + length (flat_map (value_bytes long) (sent_values values))
 unfolding le_bytes
-length-parts bitmap flags types values =
+length-values_bytes nulls long values =
+    let all = sent_values values in
+    let types = flat_map (type_bytes false) (all ++ []) in
+    let sent = flat_map (value_bytes long) all in
     omega (
       arith,
-      length-append (take 8192 bitmap ++ le_bytes 1 flags ++ types) values,
-      length-append (take 8192 bitmap ++ le_bytes 1 flags) types,
-      length-append (take 8192 bitmap) (le_bytes 1 flags),
-      length-take 8192 bitmap,
+      length-append nulls (le_bytes 1 1 ++ (types ++ (sent ++ []))),
+      length-append (le_bytes 1 1) (types ++ (sent ++ [])),
+      length-append types (sent ++ []),
+      length-append sent [],
+      length-types (all ++ []),
+      length-append all [],
+      length-sent value_param (λ v. type_of_param (value_param v)) values,
     )
 
-some_fit : (bitmap : List ℕ) (flags : ℕ) (values : List Value) (long : Bool)
+some_fit : (bitmap : List ℕ) (values : List Value) (long : Bool)
     → length bitmap ≡ bytes_for 0 (length values)
     → IsTrue long ↔ (max_payload < whole_size values)
     → length values ≤ 65535
-    → 10 + length (take 8192 bitmap ++ le_bytes 1 flags ++ types_bytes values ++ data_bytes long values) ≤ max_payload
-some_fit bitmap flags values true len rule few =
-    omega (arith, length-parts bitmap flags (types_bytes values) (data_bytes true values), length-types_bytes values, short_values values)
-some_fit bitmap flags values false len rule few =
+    → 10 + length (values_bytes (take 8192 bitmap) long values) ≤ max_payload
+some_fit bitmap values true len rule few =
+    omega (arith, length-values_bytes (take 8192 bitmap) true values, length-take 8192 bitmap, short_values values)
+some_fit bitmap values false len rule few =
     elim (cases_lt max_payload (whole_size values)) [
       | inl past ↦ let sent : IsTrue false = rule.1 past in absurd cc
-      | inr fits ↦ omega (arith, length-parts bitmap flags (types_bytes values) (data_bytes false values), length-types_bytes values, length-values values)
+      | inr fits ↦ omega (
+        arith,
+        length-values_bytes (take 8192 bitmap) false values,
+        length-values_bytes (bitmap_of (contents_of values)) false values,
+        length-take 8192 bitmap,
+        bitmap-long (contents_of values),
+        length-map values content_of,
+      )
     ]
 
 pub where_none : {A : Type 0} (values : List A) (bytes : List ℕ) → values ≡ [] → where_some values bytes ≡ []
@@ -103,6 +93,4 @@ where_some_fits (v ∷ values) bytes fits = fits
 pub params_fit : (p : ExecuteParams) → MarksNulls 0 (contents_of p.values.now) p.bitmap.bytes → IsTrue p.as_long_data ↔ (max_payload < whole_size p.values.now) → length p.values.now ≤ 65535
     → 10 + length (params_bytes p) ≤ max_payload
 params_fit p marks rule few =
-    where_some_fits p.values.now _ (some_fit p.bitmap.bytes p.flags.0.0 p.values.now p.as_long_data (marks.len ∙ ap (bytes_for 0) (length-map p.values.now content_of)) rule few)
-
-pub ruleset param_lengths = (length-types_bytes, length-values)
+    where_some_fits p.values.now _ (some_fit p.bitmap.bytes p.values.now p.as_long_data (marks.len ∙ ap (bytes_for 0) (length-map p.values.now content_of)) rule few)

@@ -1,6 +1,5 @@
 -- The bytes of a sent query, by its parts.
 use Rattle.std.proofs.Common.{◌≡◌, ◌≢◌, ℕ, List, [], ◌∷◌, ◌++◌, length, map, append_assoc, refl, sym, ap, ◌∙◌}
-use Rattle.std.specs.List.{flat_map}
 use Rattle.std.specs.Prelude.{true, false}
 use Rattle.std.proofs.lemmas.List.{append-nil}
 use Rattle.std.proofs.lemmas.Simd.{map-map}
@@ -9,14 +8,13 @@ use Rattle.mysql_wire.specs.Writing.{le_bytes}
 use Rattle.mysql_wire.specs.declared.codes.server_command.ServerCommand.{ServerCommand}
 use Rattle.mysql_wire.specs.declared.codes.server_command.ServerCommand.TheVariants as name
 use Rattle.mysql_stmt.specs.ComQuery.{attributes, count_bytes, listed, query_bytes, set_bytes, some_bytes, text}
-use Rattle.mysql_stmt.specs.ExecuteParam.{Param, contents, value_of}
+use Rattle.mysql_stmt.specs.ExecuteParam.{Param, value_of}
 use Rattle.mysql_stmt.specs.ExecuteParams.{where_some}
 use Rattle.mysql_stmt.specs.NullMarks.{bitmap_of}
 use Rattle.mysql_stmt.specs.SentNulls.{bitmap_with}
-use Rattle.mysql_stmt.specs.SentParam.{sent_param, sent_params, type_bytes, value_bytes}
+use Rattle.mysql_stmt.specs.SentParam.{bound_bytes, sent_param, sent_params}
 use Rattle.mysql_stmt.specs.SentTypes.{NamedType}
 use Rattle.mysql_stmt.specs.declared.com_query.ComQuery.{ComQuery}
-use Rattle.mysql_stmt.proofs.SentBytes.{types-sent, values-sent}
 
 where-empty : {A : Type 0} (values : List A) (bytes : List ℕ) → length values ≡ 0 → where_some values bytes ≡ []
 where-empty [] bytes none = refl
@@ -28,10 +26,8 @@ where-full (v ∷ values) bytes some = refl
 
 module _ {A : Type 0} (attribute : A → Param) (attribute_type : A → NamedType) (q : ComQuery A) where
   -- the contents of attributes
-  held-are : (l : List A) → bitmap_with attribute attribute l [] ≡ bitmap_of (map (λ p. value_of p.param) (sent_params attribute attribute_type l))
-  held-are l =
-      let none : contents attribute l ++ [] ≡ contents attribute l = append-nil (contents attribute l) in
-      ap bitmap_of (none ∙ sym (map-map (λ p. value_of p.param) (sent_param attribute attribute_type) l))
+  held-are : (l : List A) → bitmap_with attribute attribute [] l ≡ bitmap_of (map (λ p. value_of p.param) (sent_params attribute attribute_type l))
+  held-are l = ap bitmap_of (sym (map-map (λ p. value_of p.param) (sent_param attribute attribute_type) l))
 
   -- what precedes the bitmap
   abbrev pub head_with : ServerCommand → (count sets : List ℕ) → List ℕ
@@ -44,12 +40,11 @@ module _ {A : Type 0} (attribute : A → Param) (attribute_type : A → NamedTyp
       let empty : length (listed q) ≡ 0 = ap length (sym is_listed) ∙ none in
       rw (is_command, is_count, is_sets, is_raw, where-empty (listed q) (some_bytes (sent_params attribute attribute_type (listed q))) empty) (simp (append-nil, append_assoc))
 
-  pub bytes-of-some : (command : ServerCommand) (flag : ℕ) (count sets raw : List ℕ) (l : List A) → length l ≢ 0 → command ≡ name.COM_QUERY → flag ≡ 1
-      → l ≡ listed q → count ≡ count_bytes (attributes q) → sets ≡ set_bytes (attributes q) → raw ≡ text q
-      → query_bytes attribute attribute_type q ≡ head_with command count sets ++ (bitmap_with attribute attribute l [] ++ (le_bytes 1 flag ++ (flat_map (λ a. type_bytes true (sent_param attribute attribute_type a)) l
-      ++ (flat_map (λ a. value_bytes false (sent_param attribute attribute_type a)) l ++ (raw ++ [])))))
+  pub bytes-of-some : (command : ServerCommand) (count sets raw : List ℕ) (l : List A) → length l ≢ 0 → command ≡ name.COM_QUERY → l ≡ listed q
+      → count ≡ count_bytes (attributes q) → sets ≡ set_bytes (attributes q) → raw ≡ text q
+      → query_bytes attribute attribute_type q ≡ head_with command count sets ++ (bound_bytes (bitmap_with attribute attribute [] l) true true false [] (sent_params attribute attribute_type l) ++ (raw ++ []))
   unfolding query_bytes
-  bytes-of-some command flag count sets raw l some is_command is_flag is_listed is_count is_sets is_raw =
+  bytes-of-some command count sets raw l some is_command is_listed is_count is_sets is_raw =
       let full : length (listed q) ≢ 0 = λ none. some (ap length is_listed ∙ none) in
-      rw (is_command, is_flag, is_count, is_sets, is_raw, is_listed, held-are (listed q), types-sent attribute attribute_type true (listed q), values-sent attribute attribute_type false (listed q), where-full (listed q) (some_bytes (sent_params attribute attribute_type (listed q))) full)
+      rw (is_command, is_count, is_sets, is_raw, is_listed, held-are (listed q), where-full (listed q) (some_bytes (sent_params attribute attribute_type (listed q))) full)
       (simp (append-nil, append_assoc))

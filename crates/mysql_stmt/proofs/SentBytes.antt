@@ -1,7 +1,8 @@
 -- The sent bytes of parameters and attributes.
-use Rattle.std.proofs.Common.{◌≡◌, ℕ, ◌+◌, ◌*◌, Bool, true, false, not, if◌then◌else◌, List, [], ◌∷◌, ◌++◌, length, map, position, Some, is_some, cond, refl, ap, ◌∙◌, arith}
+use Rattle.std.proofs.Common.{◌≡◌, ℕ, ◌+◌, ◌*◌, Bool, true, false, not, if◌then◌else◌, List, [], ◌∷◌, ◌++◌, length, map, position, Some, is_some, cond, append_assoc, refl, ap, ◌∙◌, arith}
 use Rattle.std.specs.List.{flat_map, position_or_len}
 use Rattle.std.proofs.lemmas.List.{append-nil, length-append, length-map}
+use Rattle.std.proofs.lemmas.List.Concat.{flat_map-append}
 use Rattle.std.proofs.lemmas.List.Folds.{flat_map-map}
 use Rattle.mysql_wire.specs.LenEnc.{lenenc_string_bytes}
 use Rattle.mysql_wire.specs.Writing.{le_bytes}
@@ -10,7 +11,7 @@ use Rattle.mysql_values.specs.ParamValue.{Plain, WithOffset, param_spelled}
 use Rattle.mysql_values.specs.Value.{Content, NULL, Bytes, Int, UInt, Float, Double, Date, Time, bin}
 use Rattle.mysql_values.specs.declared.param_type.ParamType.{ParamType}
 use Rattle.mysql_stmt.specs.ExecuteParam.{Param, Sent, SentAhead, AsSent, param_bytes, value_of}
-use Rattle.mysql_stmt.specs.SentParam.{bytes_under, first_unspelled, is_spelled, is_spelled_under, sent_param, sent_params, type_bytes, value_bytes}
+use Rattle.mysql_stmt.specs.SentParam.{bound_bytes, bytes_under, first_unspelled, is_spelled, is_spelled_under, sent_param, sent_params, type_bytes, value_bytes}
 use Rattle.mysql_stmt.specs.ExecuteRead.{TypedParam}
 use Rattle.mysql_stmt.specs.SentTypes.{NamedType}
 
@@ -99,6 +100,28 @@ module _ {V : Type 0} (param : V → Param) (named_type : V → NamedType) where
       let unspelled : TypedParam → Bool = λ p. not (is_spelled p) in
       let same = position-mapped unspelled (sent_param param named_type) vs in
       rw (same, length-sent vs) refl
+
+module _ {V A : Type 0} (param : V → Param) (named_type : V → NamedType) (attribute : A → Param) (attribute_type : A → NamedType) where
+  -- part by part, as they are written
+  pub bound-parts : (nulls : List ℕ) (follow names l : Bool) (vs : List V) (added : List A) (flag : ℕ) (typed : List V) (typed_added : List A)
+      → flag ≡ (if follow then 1 else 0) → typed ≡ (if follow then vs else []) → typed_added ≡ (if follow then added else [])
+      → bound_bytes nulls follow names l (sent_params param named_type vs) (sent_params attribute attribute_type added)
+      ≡ nulls ++ (le_bytes 1 flag ++ (flat_map (λ v. type_bytes names (sent_param param named_type v)) typed ++ (flat_map (λ a. type_bytes names (sent_param attribute attribute_type a)) typed_added
+      ++ (flat_map (λ v. value_bytes l (sent_param param named_type v)) vs ++ (flat_map (λ a. value_bytes false (sent_param attribute attribute_type a)) added ++ [])))))
+  bound-parts nulls true names l vs added flag typed typed_added is_flag is_typed is_added =
+      rw (
+        is_flag,
+        is_typed,
+        is_added,
+        types-sent param named_type names vs,
+        types-sent attribute attribute_type names added,
+        values-sent param named_type l vs,
+        values-sent attribute attribute_type false added,
+        flat_map-append (type_bytes names) (sent_params param named_type vs) (sent_params attribute attribute_type added),
+      )
+      (simp (append-nil, append_assoc))
+  bound-parts nulls false names l vs added flag typed typed_added is_flag is_typed is_added =
+      rw (is_flag, is_typed, is_added, values-sent param named_type l vs, values-sent attribute attribute_type false added) (simp append-nil)
 
 pub ruleset plain = (plain-spelled, plain-bytes)
 

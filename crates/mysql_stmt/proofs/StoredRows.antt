@@ -1,6 +1,6 @@
 -- Rows in one block: its entries, one more entry, and the entry at a place.
-use Rattle.std.proofs.Common.{◌≡◌, ◌∙◌, sym, ap, subst, zero, suc, ℕ, ◌+◌, ◌-◌, ◌*◌, ◌<◌, ◌≤◌, ◌++◌, List, [], ◌∷◌, Result, Ok, Err, Some, None, Option, Bool, true, false, length, drop, take, refl, arith, length-append, length-drop}
-use Rattle.std.specs.Prelude.{slice_index, slice_get, slice_index_or, nat_lt, map, if◌then◌else◌}
+use Rattle.std.proofs.Common.{◌≡◌, ◌∙◌, sym, ap, subst, zero, suc, ℕ, ◌+◌, ◌-◌, ◌*◌, ◌<◌, ◌≤◌, ◌^◌, ◌++◌, List, [], ◌∷◌, Result, Ok, Err, Some, None, Option, Bool, true, false, length, drop, take, refl, arith, length-append, length-drop}
+use Rattle.std.specs.Prelude.{◌/◌, ◌%◌, slice_get, slice_index_or, nat_lt, map, if◌then◌else◌}
 use Rattle.std.proofs.lemmas.List.{take-append-le, drop-append-le, drop-drop}
 use Rattle.mysql_wire.specs.declared.fault.FaultOf.{FaultOf}
 use Rattle.mysql_wire.specs.declared.fault.FaultOf.TheVariants as fault
@@ -12,7 +12,7 @@ use Rattle.mysql_values.specs.Value.{Content}
 use Rattle.mysql_stmt.specs.declared.stored_form.StoredForm.{StoredForm}
 use Rattle.mysql_stmt.specs.declared.stored_form.StoredForm.TheVariants as stored
 use Rattle.mysql_stmt.specs.RowView.{read_to}
-use Rattle.mysql_stmt.specs.StoredRow.{AreStored, IsStored, code_of, entry_reading, form_of_code, stored_forms, stored_values, value_read}
+use Rattle.mysql_stmt.specs.StoredRow.{AreStored, IsStored, code_of, entry_reading, first_entry, form_of_code, stored_forms, stored_values, value_read}
 
 -- the form of its own number
 pub code-again : (f : StoredForm) → slice_index_or stored_forms (code_of f) stored.Null ≡ f
@@ -46,87 +46,83 @@ same-fault (fault.InvalidInput text) vs ws (Err k) there same h = rw (← same) 
 pub length-stored : (n : ℕ) (entries block : List ℕ) → length (stored_values n entries block) ≡ n
 unfolding stored_values
 length-stored zero entries block = refl
-length-stored (suc n) entries block = ap suc (length-stored n (drop 5 entries) block)
+length-stored (suc n) entries block = ap suc (length-stored n (drop 8 entries) block)
 
 -- an entry doesn't depend on those after it
-same-entry : (entries later block : List ℕ) → 5 ≤ length entries → entry_reading (entries ++ later) block ≡ entry_reading entries block
-same-entry [] later block h = absurd (omega (arith, h))
-same-entry (a ∷ []) later block h = absurd (omega (arith, h))
-same-entry (a ∷ b ∷ []) later block h = absurd (omega (arith, h))
-same-entry (a ∷ b ∷ c ∷ []) later block h = absurd (omega (arith, h))
-same-entry (a ∷ b ∷ c ∷ d ∷ []) later block h = absurd (omega (arith, h))
-same-entry (a ∷ b ∷ c ∷ d ∷ e ∷ es) later block h = refl
+same-number : (entries later : List ℕ) → 8 ≤ length entries → first_entry (entries ++ later) ≡ first_entry entries
+same-number entries later h = ap le_value (take-append-le 8 entries later h)
 
-rest-append : (entries later : List ℕ) → 5 ≤ length entries → drop 5 (entries ++ later) ≡ drop 5 entries ++ later
-rest-append entries later h = drop-append-le 5 entries later h
+same-entry : (entries later block : List ℕ) → 8 ≤ length entries → entry_reading (entries ++ later) block ≡ entry_reading entries block
+same-entry entries later block h = ap (λ (n : ℕ). (form_of_code (n / 2 ^ 32)).reads (drop (n % 2 ^ 32) block)) (same-number entries later h)
 
-rest-length : (n : ℕ) (entries : List ℕ) → length entries ≡ 5 * suc n → length (drop 5 entries) ≡ 5 * n
-rest-length n entries len = omega (arith, len, length-drop 5 entries)
+rest-append : (entries later : List ℕ) → 8 ≤ length entries → drop 8 (entries ++ later) ≡ drop 8 entries ++ later
+rest-append entries later h = drop-append-le 8 entries later h
 
-pub values-append : (n : ℕ) (entries later block : List ℕ) → length entries ≡ 5 * n → stored_values n (entries ++ later) block ≡ stored_values n entries block
+rest-length : (n : ℕ) (entries : List ℕ) → length entries ≡ 8 * suc n → length (drop 8 entries) ≡ 8 * n
+rest-length n entries len = omega (arith, len, length-drop 8 entries)
+
+pub values-append : (n : ℕ) (entries later block : List ℕ) → length entries ≡ 8 * n → stored_values n (entries ++ later) block ≡ stored_values n entries block
 unfolding stored_values
 values-append zero entries later block len = refl
 values-append (suc n) entries later block len =
-    let enough : 5 ≤ length entries = omega (arith, len) in
+    let enough : 8 ≤ length entries = omega (arith, len) in
     rw (same-entry entries later block enough, rest-append entries later enough)
-    (ap (λ (vs : List Content). value_read (entry_reading entries block) ∷ vs) (values-append n (drop 5 entries) later block (rest-length n entries len)))
+    (ap (λ (vs : List Content). value_read (entry_reading entries block) ∷ vs) (values-append n (drop 8 entries) later block (rest-length n entries len)))
 
 is-stored-append : (entries later block : List ℕ) → IsStored entries block → IsStored (entries ++ later) block
-is-stored-append entries later block h =
-    let same = same-entry entries later block h.size in
-    record {
-      size = omega (arith, h.size, length-append entries later);
-      place = subst (λ (es : List ℕ). le_value (take 4 es) ≤ length block) (sym (drop-append-le 1 entries later (omega (arith, h.size)))) (rw (take-append-le 4 (drop 1 entries) later (omega (arith, h.size, length-drop 1 entries))) h.place);
-      good = (h.good.0, h.good.1, same ∙ h.good.2);
-    }
+is-stored-append entries later block h = record {
+  size = omega (arith, h.size, length-append entries later);
+  place = subst (λ (n : ℕ). n % 2 ^ 32 ≤ length block) (sym (same-number entries later h.size)) h.place;
+  good = (h.good.0, h.good.1, same-entry entries later block h.size ∙ h.good.2);
+}
 
-pub stored-append : (n : ℕ) (entries later block : List ℕ) → length entries ≡ 5 * n → AreStored n entries block → AreStored n (entries ++ later) block
+pub stored-append : (n : ℕ) (entries later block : List ℕ) → length entries ≡ 8 * n → AreStored n entries block → AreStored n (entries ++ later) block
 unfolding AreStored
 stored-append zero entries later block len h = tt
 stored-append (suc n) entries later block len h =
-    let enough : 5 ≤ length entries = omega (arith, len) in (
+    let enough : 8 ≤ length entries = omega (arith, len) in (
       is-stored-append entries later block h.0,
-      subst (λ (es : List ℕ). AreStored n es block) (sym (rest-append entries later enough)) (stored-append n (drop 5 entries) later block (rest-length n entries len) h.1),
+      subst (λ (es : List ℕ). AreStored n es block) (sym (rest-append entries later enough)) (stored-append n (drop 8 entries) later block (rest-length n entries len) h.1),
     )
 
 -- one more entry
-pub values-more : (n : ℕ) (entries entry block : List ℕ) → length entries ≡ 5 * n → stored_values (suc n) (entries ++ entry) block ≡ stored_values n entries block ++ value_read (entry_reading entry block) ∷ []
+pub values-more : (n : ℕ) (entries entry block : List ℕ) → length entries ≡ 8 * n → stored_values (suc n) (entries ++ entry) block ≡ stored_values n entries block ++ value_read (entry_reading entry block) ∷ []
 unfolding stored_values
 values-more zero [] entry block len = refl
 values-more zero (a ∷ entries) entry block len = absurd (omega (arith, len))
 values-more (suc n) entries entry block len =
-    let enough : 5 ≤ length entries = omega (arith, len) in
+    let enough : 8 ≤ length entries = omega (arith, len) in
     rw (same-entry entries entry block enough, rest-append entries entry enough)
-    (ap (λ (vs : List Content). value_read (entry_reading entries block) ∷ vs) (values-more n (drop 5 entries) entry block (rest-length n entries len)))
+    (ap (λ (vs : List Content). value_read (entry_reading entries block) ∷ vs) (values-more n (drop 8 entries) entry block (rest-length n entries len)))
 
-pub stored-more : (n : ℕ) (entries entry block : List ℕ) → length entries ≡ 5 * n → AreStored n entries block → IsStored entry block → AreStored (suc n) (entries ++ entry) block
+pub stored-more : (n : ℕ) (entries entry block : List ℕ) → length entries ≡ 8 * n → AreStored n entries block → IsStored entry block → AreStored (suc n) (entries ++ entry) block
 unfolding AreStored
 stored-more zero [] entry block len h here = (here, tt)
 stored-more zero (a ∷ entries) entry block len h here = absurd (omega (arith, len))
 stored-more (suc n) entries entry block len h here =
-    let enough : 5 ≤ length entries = omega (arith, len) in (
+    let enough : 8 ≤ length entries = omega (arith, len) in (
       is-stored-append entries entry block h.0,
-      subst (λ (es : List ℕ). AreStored (suc n) es block) (sym (rest-append entries entry enough)) (stored-more n (drop 5 entries) entry block (rest-length n entries len) h.1 here),
+      subst (λ (es : List ℕ). AreStored (suc n) es block) (sym (rest-append entries entry enough)) (stored-more n (drop 8 entries) entry block (rest-length n entries len) h.1 here),
     )
 
 -- ---- the entry at a place
 
-five-more : (i : ℕ) (entries : List ℕ) → drop (5 * i) (drop 5 entries) ≡ drop (5 * suc i) entries
-five-more i entries = drop-drop (5 * i) 5 entries ∙ ap (λ (n : ℕ). drop n entries) (let e : 5 + 5 * i ≡ 5 * suc i = omega arith in e)
+eight-more : (i : ℕ) (entries : List ℕ) → drop (8 * i) (drop 8 entries) ≡ drop (8 * suc i) entries
+eight-more i entries = drop-drop (8 * i) 8 entries ∙ ap (λ (n : ℕ). drop n entries) (let e : 8 + 8 * i ≡ 8 * suc i = omega arith in e)
 
-pub stored-at : (n i : ℕ) (entries block : List ℕ) → i < n → AreStored n entries block → IsStored (drop (5 * i) entries) block
+pub stored-at : (n i : ℕ) (entries block : List ℕ) → i < n → AreStored n entries block → IsStored (drop (8 * i) entries) block
 unfolding AreStored
 stored-at zero i entries block lt h = absurd (omega (arith, lt))
 stored-at (suc n) zero entries block lt h = h.0
 stored-at (suc n) (suc i) entries block lt h =
-    subst (λ (es : List ℕ). IsStored es block) (five-more i entries) (stored-at n i (drop 5 entries) block (omega (arith, lt)) h.1)
+    subst (λ (es : List ℕ). IsStored es block) (eight-more i entries) (stored-at n i (drop 8 entries) block (omega (arith, lt)) h.1)
 
-pub value-at : (n i : ℕ) (entries block : List ℕ) → i < n → slice_get (stored_values n entries block) i ≡ Some (value_read (entry_reading (drop (5 * i) entries) block))
+pub value-at : (n i : ℕ) (entries block : List ℕ) → i < n → slice_get (stored_values n entries block) i ≡ Some (value_read (entry_reading (drop (8 * i) entries) block))
 unfolding stored_values
 value-at zero i entries block lt = absurd (omega (arith, lt))
 value-at (suc n) zero entries block lt = refl
 value-at (suc n) (suc i) entries block lt =
-    value-at n i (drop 5 entries) block (omega (arith, lt)) ∙ ap (λ (es : List ℕ). Some (value_read (entry_reading es block))) (five-more i entries)
+    value-at n i (drop 8 entries) block (omega (arith, lt)) ∙ ap (λ (es : List ℕ). Some (value_read (entry_reading es block))) (eight-more i entries)
 
 cut-number : (short : Bool) (front rest : List ℕ) (n : ℕ) (after : List ℕ) → then_read (if short then Err fault_kind.UnexpectedEof else Ok (front, rest)) (λ x mid. Ok (le_value x, mid)) ≡ Ok (n, after)
     → (n ≡ le_value front) × (after ≡ rest)
@@ -137,40 +133,27 @@ number-is : (width : ℕ) (bytes after : List ℕ) (n : ℕ) → (number width).
 unfolding number bytes
 number-is width bytes after n h = cut-number (nat_lt (length bytes) width) (take width bytes) (drop width bytes) n after h
 
-first-is : (bytes : List ℕ) → le_value (take 1 bytes) ≡ slice_index bytes 0
-first-is [] = refl
-first-is (b ∷ bs) = omega arith
-
 -- the entry at a place, as it is read
-pub record IsEntry (i : ℕ) (block bytes mid after : List ℕ) (code place : ℕ) : Type 0 where
-  pub bytes_are : bytes ≡ drop (5 * i) block
-  pub code_is : (number 1).reads bytes ≡ Ok (code, mid)
-  pub place_is : (number 4).reads mid ≡ Ok (place, after)
+pub record IsEntry (i : ℕ) (block bytes after : List ℕ) (entry : ℕ) : Type 0 where
+  pub bytes_are : bytes ≡ drop (8 * i) block
+  pub entry_is : (number 8).reads bytes ≡ Ok (entry, after)
 
-entry-is : (i : ℕ) (block bytes mid after : List ℕ) (code place : ℕ) → IsEntry i block bytes mid after code place
-    → (code ≡ slice_index (drop (5 * i) block) 0) × (place ≡ le_value (take 4 (drop 1 (drop (5 * i) block))))
-entry-is i block bytes mid after code place h =
-    let c = number-is 1 bytes mid code h.code_is in
-    let p = number-is 4 mid after place h.place_is in (
-      c.0 ∙ first-is bytes ∙ ap (λ (b : List ℕ). slice_index b 0) h.bytes_are,
-      p.0 ∙ ap (λ (b : List ℕ). le_value (take 4 b)) (c.1 ∙ ap (λ (b : List ℕ). drop 1 b) h.bytes_are),
-    )
+first-is : (i : ℕ) (block bytes after : List ℕ) (entry : ℕ) → IsEntry i block bytes after entry → entry ≡ first_entry (drop (8 * i) block)
+first-is i block bytes after entry h = (number-is 8 bytes after entry h.entry_is).0 ∙ ap first_entry h.bytes_are
 
-pub place-there : (n i : ℕ) (block bytes mid after : List ℕ) (code place : ℕ) → i < n → AreStored n block block → IsEntry i block bytes mid after code place → place ≤ length block
-place-there n i block bytes mid after code place lt h e =
-    subst (λ (p : ℕ). p ≤ length block) (sym (entry-is i block bytes mid after code place e).1) (stored-at n i block block lt h).place
+pub place-there : (n i : ℕ) (block bytes after : List ℕ) (entry : ℕ) → i < n → AreStored n block block → IsEntry i block bytes after entry → entry % 2 ^ 32 ≤ length block
+place-there n i block bytes after entry lt h e =
+    subst (λ (m : ℕ). m % 2 ^ 32 ≤ length block) (sym (first-is i block bytes after entry e)) (stored-at n i block block lt h).place
 
 -- the value is read at its place
-reading-is : (i : ℕ) (block bytes mid after : List ℕ) (code place : ℕ) → IsEntry i block bytes mid after code place → (form_of_code code).reads (drop place block) ≡ entry_reading (drop (5 * i) block) block
-reading-is i block bytes mid after code place e =
-    let is = entry-is i block bytes mid after code place e in
-    ap (λ (m : ℕ). (form_of_code m).reads (drop place block)) is.0
-    ∙ ap (λ (p : ℕ). (form_of_code (slice_index (drop (5 * i) block) 0)).reads (drop p block)) is.1
+reading-is : (i : ℕ) (block bytes after : List ℕ) (entry : ℕ) → IsEntry i block bytes after entry
+    → (form_of_code (entry / 2 ^ 32)).reads (drop (entry % 2 ^ 32) block) ≡ entry_reading (drop (8 * i) block) block
+reading-is i block bytes after entry e = ap (λ (m : ℕ). (form_of_code (m / 2 ^ 32)).reads (drop (m % 2 ^ 32) block)) (first-is i block bytes after entry e)
 
-pub value-is : (n i : ℕ) (block bytes mid after : List ℕ) (code place : ℕ) (x : Content) (rest : List ℕ) → i < n → IsEntry i block bytes mid after code place
-    → (form_of_code code).reads (drop place block) ≡ Ok (x, rest) → slice_get (stored_values n block block) i ≡ Some x
-value-is n i block bytes mid after code place x rest lt e reads =
-    value-at n i block block lt ∙ ap (λ (r : Reading Content). Some (value_read r)) (sym (reading-is i block bytes mid after code place e) ∙ reads)
+pub value-is : (n i : ℕ) (block bytes after : List ℕ) (entry : ℕ) (x : Content) (rest : List ℕ) → i < n → IsEntry i block bytes after entry
+    → (form_of_code (entry / 2 ^ 32)).reads (drop (entry % 2 ^ 32) block) ≡ Ok (x, rest) → slice_get (stored_values n block block) i ≡ Some x
+value-is n i block bytes after entry x rest lt e reads =
+    value-at n i block block lt ∙ ap (λ (r : Reading Content). Some (value_read r)) (sym (reading-is i block bytes after entry e) ∙ reads)
 
 no-fault : (e : FaultOf) (r : Reading Content) (x : Content) (rest : List ℕ) → r ≡ Ok (x, rest) → Faults false e r → ⊥
 no-fault fault.Memory r x rest is h = cc
@@ -178,11 +161,11 @@ no-fault fault.UnexpectedEof r x rest is h = cc
 no-fault (fault.InvalidData text) r x rest is h = cc
 no-fault (fault.InvalidInput text) r x rest is h = cc
 
-pub value-good : (n i : ℕ) (block bytes mid after : List ℕ) (code place : ℕ) (e : FaultOf) → i < n → AreStored n block block → IsEntry i block bytes mid after code place
-    → Faults false e ((form_of_code code).reads (drop place block)) → ⊥
-value-good n i block bytes mid after code place e lt h entry refused =
+pub value-good : (n i : ℕ) (block bytes after : List ℕ) (entry : ℕ) (e : FaultOf) → i < n → AreStored n block block → IsEntry i block bytes after entry
+    → Faults false e ((form_of_code (entry / 2 ^ 32)).reads (drop (entry % 2 ^ 32) block)) → ⊥
+value-good n i block bytes after entry e lt h is refused =
     let good = (stored-at n i block block lt h).good in
-    no-fault e ((form_of_code code).reads (drop place block)) good.0 good.1 (reading-is i block bytes mid after code place entry ∙ good.2) refused
+    no-fault e ((form_of_code (entry / 2 ^ 32)).reads (drop (entry % 2 ^ 32) block)) good.0 good.1 (reading-is i block bytes after entry is ∙ good.2) refused
 
 pub none-at : (values : List Content) (i : ℕ) → length values ≤ i → slice_get values i ≡ None
 none-at [] i h = refl

@@ -1,6 +1,5 @@
 -- A query that is sent.
 use Rattle.std.specs.Prelude.{◌≡◌, ℕ, true, false, List, [], ◌++◌, length, map, Option, Some}
-use Rattle.std.specs.List.{flat_map}
 use Rattle.std.specs.Option.{option_copied, option_map_or}
 use Rattle.mysql_wire.specs.LenEnc.{lenenc_bytes}
 use Rattle.mysql_wire.specs.ServerCommand.{server_command_code}
@@ -9,7 +8,7 @@ use Rattle.mysql_wire.specs.declared.codes.server_command.ServerCommand.TheVaria
 use Rattle.mysql_stmt.specs.ExecuteParam.{Param, value_of}
 use Rattle.mysql_stmt.specs.ExecuteParams.{where_some}
 use Rattle.mysql_stmt.specs.NullMarks.{bitmap_of}
-use Rattle.mysql_stmt.specs.SentParam.{first_unspelled, list_of, sent_params, type_bytes, value_bytes}
+use Rattle.mysql_stmt.specs.SentParam.{bound_bytes, first_unspelled, list_of, sent_params}
 use Rattle.mysql_stmt.specs.ExecuteRead.{TypedParam}
 use Rattle.mysql_stmt.specs.declared.com_query.ComQuery.{ComQuery}
 use Rattle.mysql_stmt.specs.SentTypes.{NamedType}
@@ -35,9 +34,9 @@ module _ {A : Type 0} where
   abbrev pub set_bytes : Option (List A) → List ℕ
   set_bytes attributes = option_map_or (λ l. le_bytes 1 1) attributes []
 
--- the NULL bitmap, a byte that says that types follow, the types with names, and the values
+-- like the attributes of an execution without parameters
 abbrev pub some_bytes : List TypedParam → List ℕ
-some_bytes l = bitmap_of (map (λ p. value_of p.param) l) ++ (le_bytes 1 1 ++ (flat_map (type_bytes true) l ++ flat_map (value_bytes false) l))
+some_bytes l = bound_bytes (bitmap_of (map (λ p. value_of p.param) l)) true true false [] l
 
 -- 03; the number of attributes and of sets if both sides set CLIENT_QUERY_ATTRIBUTES; the attributes, if there are any; and the text to the
 -- end

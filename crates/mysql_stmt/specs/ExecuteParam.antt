@@ -1,12 +1,11 @@
 -- What an execution sends for its parameters and attributes.
-use Rattle.std.specs.Prelude.{ℕ, Bool, true, false, List, [], map}
+use Rattle.std.specs.Prelude.{ℕ, Bool, true, false, if◌then◌else◌, List, [], map}
 use Rattle.mysql_values.specs.DateTimeWithOffset.{date_with_offset}
 use Rattle.mysql_values.specs.ParamValue.{ParamContent, Plain, WithOffset, param_content}
-use Rattle.mysql_values.specs.Value.{Content, NULL, Bytes, Date, date_of}
+use Rattle.mysql_values.specs.Value.{Content, NULL, Bytes, Date, bin, date_of}
 use Rattle.mysql_values.specs.declared.date_time_with_offset.DateTimeWithOffset.{DateTimeWithOffset}
 use Rattle.mysql_values.specs.declared.value_ref.ValueRef.{ValueRef}
 use Rattle.mysql_values.specs.ValueRef.{ref_content}
-use Rattle.mysql_stmt.specs.ExecuteParams.{sent}
 use Rattle.mysql_stmt.specs.declared.execute_param.ExecuteParam.{ExecuteParam}
 use Rattle.mysql_stmt.specs.declared.execute_param.ExecuteParam.TheVariants as param
 use Rattle.mysql_stmt.specs.declared.execute_param.QueryAttribute.{QueryAttribute}
@@ -39,6 +38,15 @@ value_of (Sent (WithOffset date)) = date_alone date
 value_of SentAhead = Bytes []
 value_of (AsSent true bytes) = NULL
 value_of (AsSent false bytes) = Bytes bytes
+
+-- the bytes of a value, except for a byte string
+abbrev pub short : Content → List ℕ
+short (Bytes bytes) = []
+short value = bin value
+
+-- the bytes sent for a value: none for a byte string that is sent as long data
+abbrev pub sent : Bool → Content → List ℕ
+sent as_long_data value = if as_long_data then short value else bin value
 
 -- the bytes of its value: byte strings that are sent as long data are left out; a raw one keeps its bytes
 abbrev pub param_bytes : Bool → Param → List ℕ

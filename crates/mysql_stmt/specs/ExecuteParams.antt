@@ -1,47 +1,34 @@
--- The parameters of an execution.
-use Rattle.std.specs.Prelude.{ℕ, ◌+◌, ◌*◌, Bool, if◌then◌else◌, List, [], ◌∷◌, ◌++◌, length, take, sum_by}
-use Rattle.std.specs.List.{flat_map}
-use Rattle.mysql_wire.specs.Writing.{le_bytes}
+-- The parameters of a plain execution.
+use Rattle.std.specs.Prelude.{ℕ, ◌+◌, Bool, true, false, List, [], ◌∷◌, length, take}
 use Rattle.mysql_values.specs.declared.value.Value.{Value}
-use Rattle.mysql_values.specs.ParamType.{param_type, type_of}
-use Rattle.mysql_values.specs.Value.{Content, Bytes, content_of, bin, size_of}
-use Rattle.mysql_stmt.specs.Bitmap.{bytes_for}
+use Rattle.mysql_values.specs.ParamValue.{Plain}
+use Rattle.mysql_values.specs.Value.{content_of, contents_of}
+use Rattle.mysql_stmt.specs.ExecuteParam.{Param, Sent}
+use Rattle.mysql_stmt.specs.ExecuteRead.{TypedParam}
+use Rattle.mysql_stmt.specs.NullMarks.{bitmap_of}
+use Rattle.mysql_stmt.specs.SentParam.{bound_bytes, sent_params, type_of_param}
 use Rattle.mysql_stmt.specs.declared.execute_params.ExecuteParams.{ExecuteParams}
 
--- ---- the types
+-- a value as a parameter that is sent
+abbrev pub value_param : Value → Param
+value_param value = Sent (Plain (content_of value))
 
--- the types of the values, in order
-abbrev pub types_bytes : List Value → List ℕ
-types_bytes values = flat_map (λ v. param_type.bytes (type_of (content_of v))) values
+abbrev pub sent_values : List Value → List TypedParam
+sent_values values = sent_params value_param (λ v. type_of_param (value_param v)) values
 
--- ---- which values are sent
+-- this bitmap of NULLs, and the types and the values
+abbrev pub values_bytes : (nulls : List ℕ) → (as_long_data : Bool) → List Value → List ℕ
+values_bytes nulls as_long_data values = bound_bytes nulls true false as_long_data (sent_values values) []
 
--- the bytes of a value, except for a byte string
-abbrev pub short : Content → List ℕ
-short (Bytes bytes) = []
-short value = bin value
-
--- the bytes sent for a value: none for a byte string that is sent as long data
-abbrev pub sent : Bool → Content → List ℕ
-sent as_long_data value = if as_long_data then short value else bin value
-
-abbrev pub data_bytes : Bool → List Value → List ℕ
-data_bytes as_long_data values = flat_map (λ v. sent as_long_data (content_of v)) values
-
--- the size of a request that sends all its values, at least one: 11 bytes precede the bitmap or follow it
+-- the size of a request that sends all its values, at least one: 10 bytes precede the bitmap
 abbrev pub whole_size : List Value → ℕ
-whole_size params = 11 + bytes_for 0 (length params) + 2 * length params + sum_by size_of params
-
--- ---- bytes
-
--- the bitmap, the flags, the types and the values
-abbrev pub some_params_bytes : ExecuteParams → List ℕ
-some_params_bytes p = take 8192 p.bitmap.bytes ++ le_bytes 1 p.flags.0.0 ++ types_bytes p.values.now ++ data_bytes p.as_long_data p.values.now
+whole_size params = 10 + length (values_bytes (bitmap_of (contents_of params)) false params)
 
 -- the bytes, if there are values
 abbrev pub where_some : {A : Type 0} → List A → List ℕ → List ℕ
 where_some [] bytes = []
 where_some (v ∷ values) bytes = bytes
 
+-- at most 8,192 bytes of the bitmap are sent
 abbrev pub params_bytes : ExecuteParams → List ℕ
-params_bytes p = where_some p.values.now (some_params_bytes p)
+params_bytes p = where_some p.values.now (values_bytes (take 8192 p.bitmap.bytes) p.as_long_data p.values.now)

@@ -126,10 +126,6 @@ module _ {V A : Type 0} where
   abbrev pub count_bytes : ComStmtExecuteWithOptions V A → List ℕ
   count_bytes r = if has_count r then lenenc_bytes (saturated (length (params r) + length (listed r))) else []
 
-  -- the parameters whose types follow
-  abbrev pub typed_params : ComStmtExecuteWithOptions V A → List V
-  typed_params r = if types_follow r then params r else []
-
   module _ (param : V → Param) (named_type : V → NamedType) (attribute : A → Param) (attribute_type : A → NamedType) where
     abbrev pub execution_of : ComStmtExecuteWithOptions V A → Execution
     execution_of r = record {

@@ -1,15 +1,14 @@
 -- The bytes of an execution of a prepared statement.
 use Rattle.std.specs.Prelude.{ℕ, ◌+◌, ◌&&◌, ◌||◌, Bool, true, false, is_some, if◌then◌else◌, List, [], ◌∷◌, ◌++◌, length, map, Option, unwrap_or}
-use Rattle.std.specs.List.{flat_map}
 use Rattle.mysql_wire.specs.FlagMasks.{PARAMETER_COUNT_AVAILABLE}
 use Rattle.mysql_wire.specs.Flags.{has}
 use Rattle.mysql_wire.specs.LenEnc.{lenenc_bytes}
-use Rattle.mysql_wire.specs.Writing.{le_bytes, saturated}
+use Rattle.mysql_wire.specs.Writing.{saturated}
 use Rattle.mysql_stmt.specs.ExecuteHead.{cursor_flags, execute_head}
 use Rattle.mysql_stmt.specs.ExecuteParam.{value_of}
 use Rattle.mysql_stmt.specs.ExecuteParams.{where_some}
 use Rattle.mysql_stmt.specs.NullMarks.{bitmap_of}
-use Rattle.mysql_stmt.specs.SentParam.{type_bytes, value_bytes}
+use Rattle.mysql_stmt.specs.SentParam.{bound_bytes}
 use Rattle.mysql_stmt.specs.ExecuteRead.{TypedParam}
 use Rattle.mysql_stmt.specs.declared.execute_head.ComStmtExecuteHead.{ComStmtExecuteHead}
 
@@ -57,16 +56,8 @@ count_bytes e = if has_count e then lenenc_bytes (saturated (length e.params + l
 abbrev pub null_bytes : Execution → List ℕ
 null_bytes e = bitmap_of (map (λ p. value_of p.param) (all_params e))
 
-abbrev pub types_bytes : Execution → List ℕ
-types_bytes e = if types_follow e then flat_map (type_bytes (has_names e)) (all_params e) else []
-
--- attributes are never left out
-abbrev pub values_bytes : Execution → List ℕ
-values_bytes e = flat_map (value_bytes e.as_long_data) e.params ++ flat_map (value_bytes false) (listed e)
-
--- the bitmap, a byte that is 1 if types follow, the types, and the values
 abbrev pub params_bytes : Execution → List ℕ
-params_bytes e = null_bytes e ++ (le_bytes 1 (if types_follow e then 1 else 0) ++ (types_bytes e ++ values_bytes e))
+params_bytes e = bound_bytes (null_bytes e) (types_follow e) (has_names e) e.as_long_data e.params (listed e)
 
 -- the head, the count, and the rest if there are parameters or attributes
 abbrev pub execution_bytes : Execution → List ℕ

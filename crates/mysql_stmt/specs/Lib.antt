@@ -4,6 +4,8 @@ pub mod NullMarks
 pub mod SentNulls
 pub mod NullBitmap
 pub mod Close
+pub mod StmtFetch
+pub mod StmtReset
 pub mod LongData
 pub mod ExecuteParams
 pub mod Payload

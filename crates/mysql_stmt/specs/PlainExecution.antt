@@ -1,24 +1,13 @@
 -- When an execution with options has nothing but its values.
-use Rattle.std.specs.Prelude.{◌≡◌, ◌<◌, ◌≤◌, ◌^◌, List, length}
+use Rattle.std.specs.Prelude.{◌≡◌, ◌<◌, ◌≤◌, ◌^◌, length}
 use Rattle.std.specs.List.{All}
-use Rattle.mysql_values.specs.declared.value.Value.{Value}
-use Rattle.mysql_values.specs.ParamValue.{Plain}
-use Rattle.mysql_values.specs.Value.{content_of, contents_of}
-use Rattle.mysql_stmt.specs.ExecuteParam.{Param, Sent}
-use Rattle.mysql_stmt.specs.ExecuteRead.{TypedParam}
+use Rattle.mysql_values.specs.Value.{contents_of}
+use Rattle.mysql_stmt.specs.ExecuteParams.{sent_values}
 use Rattle.mysql_stmt.specs.ExecuteWithOptions.{asked_plainly}
 use Rattle.mysql_stmt.specs.Execute as plain
 use Rattle.mysql_stmt.specs.Execution.{Execution}
 use Rattle.mysql_stmt.specs.NullMarks.{MarksNulls}
-use Rattle.mysql_stmt.specs.SentParam.{sent_params, type_of_param}
 use Rattle.mysql_stmt.specs.declared.execute.ComStmtExecuteRequest.{ComStmtExecuteRequest}
-
--- a value as a parameter that is sent
-abbrev pub value_param : Value → Param
-value_param value = Sent (Plain (content_of value))
-
-abbrev pub sent_values : List Value → List TypedParam
-sent_values values = sent_params value_param (λ v. type_of_param (value_param v)) values
 
 -- Both execute the statement with the same values, the plain request as it is built. (It writes at most 8,192 bytes of its bitmap,
 -- which are those of 65,535 values.)
@@ -28,4 +17,3 @@ pub record AsksForNothing (e : Execution) (r : ComStmtExecuteRequest) : Type 0 w
   pub bitmap : MarksNulls 0 (contents_of (plain.params r)) (plain.bitmap r)
   pub bytes : All (λ b. b < 2 ^ 8) (plain.bitmap r)
   pub short : length (plain.bitmap r) ≤ 8192
-  pub params_flags : plain.params_flags r ≡ 1

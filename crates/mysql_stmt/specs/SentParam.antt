@@ -1,6 +1,8 @@
 -- A parameter or an attribute as it is sent: type, name and value.
 use Rattle.std.specs.Prelude.{ℕ, Bool, true, false, not, is_some, if◌then◌else◌, List, [], ◌++◌, map, Option, Some, None, position, unwrap_or}
+use Rattle.std.specs.List.{flat_map}
 use Rattle.mysql_wire.specs.LenEnc.{lenenc_string_bytes}
+use Rattle.mysql_wire.specs.Writing.{le_bytes}
 use Rattle.mysql_values.specs.ParamType.{param_type, type_of}
 use Rattle.mysql_values.specs.ParamValue.{ParamContent, Plain, param_spelled}
 use Rattle.mysql_values.specs.Value.{Bytes}
@@ -66,3 +68,10 @@ bytes_under l t (AsSent has_null_bit bytes) = bytes
 
 abbrev pub value_bytes : (as_long_data : Bool) → TypedParam → List ℕ
 value_bytes l p = bytes_under l p.named_type.param_type p.param
+
+-- parameters, and attributes after them: the bitmap of NULLs, a byte that is 1 if types follow, the types, and the values; attributes are
+-- never left out
+abbrev pub bound_bytes : (nulls : List ℕ) (types_follow has_names as_long_data : Bool) (params attributes : List TypedParam) → List ℕ
+bound_bytes nulls types_follow has_names as_long_data params attributes =
+    nulls ++ (le_bytes 1 (if types_follow then 1 else 0) ++ ((if types_follow then flat_map (type_bytes has_names) (params ++ attributes) else [])
+    ++ (flat_map (value_bytes as_long_data) params ++ flat_map (value_bytes false) attributes)))

@@ -1,5 +1,5 @@
--- Rows that outlive their packets, in one block of bytes: an entry of five bytes for each value, and then the bytes of the values.
-use Rattle.std.specs.Prelude.{◌≡◌, ℕ, zero, suc, ◌+◌, ◌*◌, ◌≤◌, ◌^◌, ◌&&◌, Bool, true, false, List, [], ◌∷◌, length, map, take, drop, slice_get, slice_index, slice_index_or, nat_lt, Option, Some, None, Result, Ok, Err, if◌then◌else◌}
+-- Rows that outlive their packets, in one block of bytes: an entry of eight bytes for each value, and then the bytes of the values.
+use Rattle.std.specs.Prelude.{◌≡◌, ℕ, zero, suc, ◌+◌, ◌*◌, ◌/◌, ◌%◌, ◌≤◌, ◌^◌, ◌&&◌, Bool, true, false, List, [], ◌∷◌, length, map, take, drop, slice_get, slice_index_or, nat_lt, Option, Some, None, Result, Ok, Err, if◌then◌else◌}
 use Rattle.mysql_wire.specs.declared.fault.FaultOf.{FaultOf}
 use Rattle.mysql_wire.specs.declared.fault.FaultKind.TheVariants as fault
 use Rattle.mysql_wire.specs.Reading.{Reading, Faults, IsTail}
@@ -84,11 +84,11 @@ abbrev pub PassesValue : Form Content → Result StoredForm FaultOf → (bytes r
 PassesValue form (Ok f) bytes rest = (x : Content) × (form.reads bytes ≡ Ok (x, rest)) × ReadsAs f bytes x
 PassesValue form (Err e) bytes rest = Faults false e (form.reads bytes)
 
--- the first of the values that are good was passed, which the form reads; or none is left; or the fault
+-- the first of the values that are good was passed, which the form reads; or none is left; or the fault, and all are left
 abbrev pub PassesOne : RowLeft → Result (Option StoredForm) FaultOf → RowLeft → Type 0
 PassesOne old (Ok (Some f)) new = (x : Content) × Gives old x new × IsTail new.rest old.rest × ReadsAs f old.rest x
 PassesOne old (Ok None) new = IsDone old × (new ≡ old)
-PassesOne old (Err e) new = RefusesNext e old
+PassesOne old (Err e) new = RefusesNext e old × (new ≡ old)
 
 -- all values are good, or the first fault
 abbrev pub ChecksRow : Result (Unit {0}) FaultOf → RowLeft → Type 0
@@ -97,9 +97,15 @@ ChecksRow (Err e) row = Faults false e (read_of row)
 
 -- ---- the block
 
--- an entry: the number of the form, and the place of the value's bytes in the block, in four bytes
+-- an entry is a number: the place of the value's bytes in the block, and in the upper half the number of its form
+abbrev pub entry_number : StoredForm → (place : ℕ) → ℕ
+entry_number form place = code_of form * 2 ^ 32 + place
+
+abbrev pub first_entry : List ℕ → ℕ
+first_entry entries = le_value (take 8 entries)
+
 abbrev pub entry_reading : (entries block : List ℕ) → Reading Content
-entry_reading entries block = (form_of_code (slice_index entries 0)).reads (drop (le_value (take 4 (drop 1 entries))) block)
+entry_reading entries block = (form_of_code (first_entry entries / 2 ^ 32)).reads (drop (first_entry entries % 2 ^ 32) block)
 
 abbrev pub value_read : Reading Content → Content
 value_read (Ok x) = x.0
@@ -108,17 +114,17 @@ value_read (Err e) = NULL
 -- the values of the first entries, by their number
 unfoldable pub stored_values : ℕ → (entries block : List ℕ) → List Content
 stored_values zero entries block = []
-stored_values (suc n) entries block = value_read (entry_reading entries block) ∷ stored_values n (drop 5 entries) block
+stored_values (suc n) entries block = value_read (entry_reading entries block) ∷ stored_values n (drop 8 entries) block
 
 -- the entry is there, and so is its value
 pub record IsStored (entries block : List ℕ) : Type 0 where
-  pub size : 5 ≤ length entries
-  pub place : le_value (take 4 (drop 1 entries)) ≤ length block
+  pub size : 8 ≤ length entries
+  pub place : first_entry entries % 2 ^ 32 ≤ length block
   pub good : (x : Content) × (rest : List ℕ) × (entry_reading entries block ≡ Ok (x, rest))
 
 unfoldable pub AreStored : ℕ → (entries block : List ℕ) → Type 0
 AreStored zero entries block = Unit {0}
-AreStored (suc n) entries block = IsStored entries block × AreStored n (drop 5 entries) block
+AreStored (suc n) entries block = IsStored entries block × AreStored n (drop 8 entries) block
 
 -- ---- rows
 
@@ -127,9 +133,9 @@ pub record Stored : Type 0 where
   pub values : List Content
   pub capacity : ℕ
 
--- the bytes that a row takes: five for each value, and those that are left of the packet
+-- the bytes that a row takes: eight for each value, and those that are left of the packet
 abbrev pub stored_size : RowLeft → ℕ
-stored_size row = 5 * row.left + length row.rest
+stored_size row = 8 * row.left + length row.rest
 
 -- the places fit four bytes
 abbrev pub is_storable : RowLeft → Bool

@@ -1,6 +1,6 @@
 //! Binary rows that are read value by value, without memory.
 
-ghost use Rattle.std.specs.Prelude.{false, ◌≡◌, ◌<◌, ◌≤◌, Ok, Some, length, IfOk, IfErr, OnOk, OnErr};
+ghost use Rattle.std.specs.Prelude.{false, ◌≡◌, ◌<◌, ◌≤◌, ℕ, List, Ok, Some, length, IfOk, IfErr, OnOk, OnErr};
 ghost use Rattle.mysql_wire.specs.Reading.{Answers, Faults};
 ghost use Rattle.mysql_values.specs.ValueDeserializer.{bin_value, value_of_kind};
 ghost use Rattle.mysql_values.specs.ValueRef.{refs_contents};
@@ -13,7 +13,8 @@ use crate::row_view::RowView;
 use crate::stored_form::StoredForm;
 use crate::typed_column::TypedColumn;
 use mysql_values::{
-    SerializationSide, ValueKind, ValueRef, read_bin_ref, read_kind_ref, string_type,
+    SerializationSide, ValueKind, ValueRef, read_bin_ref, read_kind_ref, read_long_ref,
+    read_longlong_ref, read_string_ref, string_type,
 };
 use mysql_wire::{ColumnType, FaultOf, MyDeserialize, ParseBuf, Skip};
 use std::borrow::CowSlice;
@@ -108,20 +109,22 @@ fn put_unless<'s, 'de, C: TypedColumn>(
         MYSQL_TYPE_DOUBLE,)
 }
 
-/// Reads a value of this kind, and returns how it is encoded.
+/// The form in which a value of this kind is stored, once it is read.
 #[inline(always)]
-fn pass_kind<'s, 'de>(
+fn stored_as<'s>(
     kind: ValueKind,
     is_unsigned: bool,
-    buf: &mut ParseBuf<'de>,
+    read: Result<ValueRef<'_>, FaultOf<'s>>,
 ) -> Result<StoredForm, FaultOf<'s>>
-    ensures value { PassesValue (value_of_kind kind is_unsigned) result buf.old buf.new }
+    ensures value { (bytes rest : List ℕ) → Answers false (refs_contents read.entry) rest ((value_of_kind kind is_unsigned).reads bytes) → PassesValue (value_of_kind kind is_unsigned) result bytes rest }
 {
-    let _value = read_kind_ref(kind, is_unsigned, buf)?;
-    Ok(StoredForm::of(kind, is_unsigned))
+    match read {
+        Ok(_value) => Ok(StoredForm::of(kind, is_unsigned)),
+        Err(fault) => Err(fault),
+    }
 }
 
-/// Reads a value of a less frequent kind.
+/// Reads a value of a less frequent kind, and returns how it is encoded.
 #[inline(never)]
 fn pass_seldom<'s, 'de>(
     kind: ValueKind,
@@ -130,7 +133,7 @@ fn pass_seldom<'s, 'de>(
 ) -> Result<StoredForm, FaultOf<'s>>
     ensures value { PassesValue (value_of_kind kind is_unsigned) result buf.old buf.new }
 {
-    pass_kind(kind, is_unsigned, buf)
+    stored_as(kind, is_unsigned, read_kind_ref(kind, is_unsigned, buf))
 }
 
 /// Reads a value through a buffer of its own, so that the caller's stays in registers.
@@ -158,11 +161,21 @@ fn pass_value<'s, 'de>(
     ensures value { PassesValue (bin_value column_type is_unsigned) result buf.old buf.new }
 {
     match column_type {
-        string_type!() => pass_kind(ValueKind::String, false, buf),
+        string_type!() => stored_as(ValueKind::String, is_unsigned, read_string_ref(buf)),
         ColumnType::MYSQL_TYPE_LONG | ColumnType::MYSQL_TYPE_INT24 => {
-            pass_kind(ValueKind::Long, is_unsigned, buf)
+            stored_as(
+                ValueKind::Long,
+                is_unsigned,
+                read_long_ref(is_unsigned, buf),
+            )
         }
-        ColumnType::MYSQL_TYPE_LONGLONG => pass_kind(ValueKind::LongLong, is_unsigned, buf),
+        ColumnType::MYSQL_TYPE_LONGLONG => {
+            stored_as(
+                ValueKind::LongLong,
+                is_unsigned,
+                read_longlong_ref(is_unsigned, buf),
+            )
+        }
         other => pass_apart(ValueKind::of(other), is_unsigned, buf),
     }
 }
@@ -345,6 +358,11 @@ impl<'a, 'c, S: SerializationSide, C: TypedColumn> RowView<'a> for BinaryRowView
     #[inline(always)]
     fn rest(&self) -> ParseBuf<'a> {
         self.rest()
+    }
+
+    #[inline(always)]
+    fn next_value<'s>(&mut self) -> Result<Option<ValueRef<'a>>, FaultOf<'s>> {
+        self.next_value()
     }
 
     fn check<'s>(&self) -> Result<(), FaultOf<'s>> {

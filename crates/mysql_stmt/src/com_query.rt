@@ -6,9 +6,8 @@ ghost use Rattle.mysql_stmt.specs.ComQuery as spec;
 ghost use Rattle.mysql_stmt.specs.SentParam.{first_unspelled, sent_params};
 
 use crate::execute_param::{AsExecuteParam, QueryAttribute};
-use crate::items::Items;
 use crate::sent_nulls::SentNulls;
-use crate::sent_params::{AsValues, WrittenTypes};
+use crate::sent_params::SentParams;
 use crate::typed_param::{TypedExecutionError, first_unspelled};
 use mysql_wire::{
     Const, EofBytes, LenEnc, MySerialize, Parts, RawBytes, RawInt, ServerCommand, Sink, parts,
@@ -145,21 +144,17 @@ impl<A: AsExecuteParam> Parts for ComQuery<'_, A> {
             return;
         }
         let none: &[A] = &[];
-        let nulls = SentNulls {
-            params: attributes,
-            attributes: none,
-        };
-        let new_params_bound: RawInt<u8> = RawInt::new(1);
-        let types = WrittenTypes {
-            items: attributes,
-            has_names: true,
-        };
-        let values = Items {
-            items: attributes,
-            form: AsValues {
-                as_long_data: false,
+        let sent = SentParams {
+            nulls: SentNulls {
+                params: none,
+                attributes,
             },
+            types_follow: true,
+            has_names: true,
+            params: none,
+            attributes,
+            as_long_data: false,
         };
-        sink.part(&parts!(head, nulls, new_params_bound, types, values, text));
+        sink.part(&parts!(head, sent, text));
     }
 }

@@ -287,13 +287,25 @@ impl AsExecuteParam for Value {
     }
 
     #[inline(always)]
+    #[tactic(auto, unfolding(mysql_wire::specs::Writing::saturated))]
     fn sent_len(&self, as_long_data: bool) -> usize {
-        plain_len(ExecuteParam::Value(self.as_ref()), as_long_data)
+        // (a guard of the arm would be tested for each value)
+        match self {
+            Value::Bytes(_) => { if as_long_data { 0 } else { self.defined_len() } }
+            value => value.defined_len(),
+        }
     }
 
     #[inline(always)]
     fn append_sent<O: Buffer>(&self, as_long_data: bool, out: &mut O) {
-        append_plain(ExecuteParam::Value(self.as_ref()), as_long_data, out);
+        match self {
+            Value::Bytes(_) => {
+                if !as_long_data {
+                    self.append(out);
+                }
+            }
+            value => value.append(out),
+        }
     }
 }
 

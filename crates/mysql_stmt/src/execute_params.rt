@@ -3,18 +3,19 @@
 ghost use Rattle.std.specs.Prelude.{◌≡◌, ◌+◌, ◌≤◌, ◌<◌, ◌↔◌, IsTrue, IfOk, IsOk, [], length};
 ghost use Rattle.mysql_wire.specs.Writing.{saturated};
 ghost use Rattle.mysql_values.specs.Value.{contents_of};
-ghost use Rattle.mysql_stmt.specs.ExecuteParams.{whole_size, params_bytes};
+ghost use Rattle.mysql_stmt.specs.ExecuteParams.{params_bytes, values_bytes, whole_size};
 ghost use Rattle.mysql_stmt.specs.NullMarks.{MarksNulls};
 ghost use Rattle.mysql_stmt.specs.Payload.{max_payload};
 
-use crate::items::Items;
+use crate::execute::ComStmtExecuteRequestBuilder;
 use crate::null_bitmap::NullBitmap;
 use crate::null_marks::nulls_of;
 use crate::payload::MAX_PAYLOAD_LEN;
-use crate::sent_values::{AsSent, ParamTypes};
+use crate::sent_nulls::SentNulls;
+use crate::sent_params::SentParams;
 use mysql_values::{ClientSide, Value};
 use mysql_wire::{
-    BareBytes, Const, Parts, RawBytes, Sink, StmtExecuteParamsFlags, items_len, parts,
+    BareBytes, Const, MySerialize, Parts, RawBytes, Sink, StmtExecuteParamsFlags, parts,
 };
 use std::alloc::{AllocError, Global};
 use std::borrow::CowSlice;
@@ -22,12 +23,37 @@ use std::borrow::CowSlice;
 /// The written form of a bitmap: 8,192 bytes hold the bits of the maximum number of parameters of a statement.
 type WrittenBitmap = BareBytes<8192>;
 
+/// Returns the types and the values as they are written after this bitmap.
+#[inline(always)]
+fn sent<N: MySerialize>(
+    nulls: N,
+    values: &[Value],
+    as_long_data: bool,
+) -> SentParams<'_, N, Value, Value>
+    ensures value { ⟦<SentParams<'static, N, Value, Value> as MySerialize>⟧.bytes result ≡ values_bytes (N.bytes nulls) as_long_data values.now }
+{
+    SentParams {
+        nulls,
+        types_follow: true,
+        has_names: false,
+        params: values,
+        attributes: &[],
+        as_long_data,
+    }
+}
+
 /// The length in bytes of a request that sends all its values, of which there is at least one.
 fn whole_len(params: &[Value]) -> usize
     ensures { result ≡ saturated (whole_size params.now) }
 {
-    let head = 11 + NullBitmap::<ClientSide>::bitmap_len(params.len()) + 2 * params.len();
-    items_len(params).saturating_add(head)
+    let none: &[Value] = &[];
+    let nulls = SentNulls {
+        params,
+        attributes: none,
+    };
+    sent(nulls, params, false)
+        .defined_len()
+        .saturating_add(ComStmtExecuteRequestBuilder::NULL_BITMAP_OFFSET)
 }
 
 /// The parameters of an execution: nothing if there are none, otherwise
@@ -76,13 +102,7 @@ impl Parts for ExecuteParams<'_> {
             let bitmap: RawBytes<'_, WrittenBitmap> = RawBytes::new(CowSlice::Borrowed(
                 self.bitmap.as_bytes(),
             ));
-            let values = Items {
-                items: self.values,
-                form: AsSent {
-                    as_long_data: self.as_long_data,
-                },
-            };
-            sink.part(&parts!(bitmap, self.flags, ParamTypes(self.values), values));
+            sink.part(&sent(bitmap, self.values, self.as_long_data));
         }
     }
 }

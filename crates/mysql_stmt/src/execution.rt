@@ -1,14 +1,13 @@
 //! An execution of a prepared statement, with options.
 
-ghost use Rattle.std.specs.Prelude.{◌≡◌, if◌then◌else◌};
+ghost use Rattle.std.specs.Prelude.{◌≡◌};
 ghost use Rattle.std.specs.Option.{option_copied};
 ghost use Rattle.mysql_stmt.specs.ExecuteWithOptions as request;
 
 use crate::execute_head::ComStmtExecuteHead;
 use crate::execute_param::{AsExecuteParam, QueryAttribute};
-use crate::items::Items;
 use crate::sent_nulls::SentNulls;
-use crate::sent_params::{AsValues, WrittenTypes};
+use crate::sent_params::SentParams;
 use mysql_wire::{CursorType, LenEnc, MySerialize, Parts, RawInt, Sink, parts};
 
 /// `COM_STMT_EXECUTE` with the options that [`ComStmtExecuteOptionsBuilder`](crate::ComStmtExecuteOptionsBuilder) has.
@@ -152,26 +151,6 @@ impl<'a, V, A> ComStmtExecuteWithOptions<'a, V, A> {
             None
         }
     }
-
-    /// The parameters whose types follow.
-    #[inline(always)]
-    fn typed_params(&self) -> &'a [V]
-        ensures value { result.now ≡ request.typed_params self.now }
-    {
-        if self.types_follow() {
-            self.params
-        } else {
-            &[]
-        }
-    }
-}
-
-/// The byte that says whether types follow.
-#[inline(always)]
-fn types_flag(types_follow: bool) -> RawInt<u8>
-    ensures value { result.0 ≡ (if types_follow then 1 else 0) }
-{
-    RawInt::new(if types_follow { 1 } else { 0 })
 }
 
 impl<V: AsExecuteParam, A: AsExecuteParam> Parts for ComStmtExecuteWithOptions<'_, V, A> {
@@ -186,40 +165,17 @@ impl<V: AsExecuteParam, A: AsExecuteParam> Parts for ComStmtExecuteWithOptions<'
             return;
         }
         let attributes = self.listed();
-        let nulls = SentNulls {
+        let sent = SentParams {
+            nulls: SentNulls {
+                params: self.params,
+                attributes,
+            },
+            types_follow: self.types_follow(),
+            has_names: self.has_names(),
             params: self.params,
             attributes,
+            as_long_data: self.as_long_data,
         };
-        let flag = types_flag(self.types_follow());
-        let has_names = self.has_names();
-        let param_types = WrittenTypes {
-            items: self.typed_params(),
-            has_names,
-        };
-        let attribute_types = WrittenTypes {
-            items: attributes,
-            has_names,
-        };
-        let param_values = Items {
-            items: self.params,
-            form: AsValues {
-                as_long_data: self.as_long_data,
-            },
-        };
-        let attribute_values = Items {
-            items: attributes,
-            form: AsValues {
-                as_long_data: false,
-            },
-        };
-        sink.part(&parts!(
-            head,
-            nulls,
-            flag,
-            param_types,
-            attribute_types,
-            param_values,
-            attribute_values
-        ));
+        sink.part(&parts!(head, sent));
     }
 }

@@ -1,5 +1,6 @@
 //! Lists whose items are written in a form that their values don't determine.
 
+ghost use Rattle.std.specs.List.{flat_map};
 ghost use Rattle.std.specs.Prelude.{◌≡◌, ◌+◌, ◌++◌, ◌≤◌, length, drop, List, ℕ};
 ghost use Rattle.mysql_wire.specs.Writing.{saturated};
 
@@ -57,6 +58,23 @@ pub trait ItemForm<T> {
         ensures kept { O.kept out.new ≡ O.kept out.old };
 }
 
+/// Writes items in this form, for which there is capacity.
+// A local buffer: writes to its bytes can't alias the buffer itself, so each number is one store.
+#[tactic(auto, using(mysql_wire::proofs::After::after))]
+fn append_all<T, F: ItemForm<T>, O: Buffer>(items: &[T], form: &F, out: &mut O)
+    requires { length (O.held out.old) + length (flat_map (F.item_bytes form.now) items.now) ≤ O.capacity out.old }
+    ensures items { O.held out.new ≡ O.held out.old ++ flat_map (F.item_bytes form.now) items.now }
+    ensures after { O.after out.new ≡ drop (length (flat_map (F.item_bytes form.now) items.now)) (O.after out.old) }
+    ensures capacity { O.capacity out.old ≤ O.capacity out.new }
+    ensures kept { O.kept out.new ≡ O.kept out.old }
+{
+    let mut bytes = out.taken();
+    for item in items {
+        form.append_item(item, &mut bytes);
+    }
+    *out = bytes;
+}
+
 /// The items of a list, one after another, each in this form.
 #[derive(Drop)]
 pub struct Items<'a, T, F> {
@@ -81,13 +99,12 @@ impl<T, F: ItemForm<T>> MySerialize for Items<'_, T, F> {
         total
     }
 
-    // A local buffer: writes to its bytes can't alias the buffer itself, so each number is one store.
+    #[inline(always)]
     #[tactic(auto, using(mysql_wire::proofs::After::after))]
     fn append<O: Buffer>(&self, out: &mut O) {
-        let mut bytes = out.taken();
-        for item in self.items {
-            self.form.append_item(item, &mut bytes);
+        // (where the list is known to be empty, this is no call)
+        if !self.items.is_empty() {
+            append_all(self.items, &self.form, out);
         }
-        *out = bytes;
     }
 }

@@ -62,12 +62,15 @@ pub fn stmt_packet_with_metadata_round_trips()
         (stmt_with_metadata.form capabilities).reads (stmt_with_metadata.bytes p ++ rest) ≡ Ok (p, rest) }
 {}
 
-/// A statement packet takes 12 bytes, the head of an execution 10, a close 5, and no other packet has a constant size.
+/// A statement packet takes 12 bytes, the head of an execution 10, a fetch 9, a reset and a close 5, and no other packet has a
+/// constant size.
 pub fn each_packet_has_its_size() -> bool
     ensures value { IsTrue result }
 {
     crate::StmtPacket::SIZE == Some(12)
         && crate::ComStmtClose::SIZE == Some(5)
+        && crate::ComStmtFetch::SIZE == Some(9)
+        && crate::ComStmtReset::SIZE == Some(5)
         && crate::ComStmtExecuteHead::SIZE == Some(10)
         && crate::StmtPacketWithMetadata::SIZE.is_none()
         && crate::ComStmtSendLongData::SIZE.is_none()

@@ -1,5 +1,5 @@
-//! Prepared statements: the answer to a preparation, executions, long data and closes, NULL bitmaps, and the
-//! rows of results.
+//! Prepared statements: the answer to a preparation, executions, long data, fetches, resets and closes,
+//! NULL bitmaps, and the rows of results.
 #![tactic(auto)]
 
 mod attributes_view;
@@ -32,8 +32,9 @@ mod row_view;
 mod sent_nulls;
 mod sent_params;
 mod sent_types;
-mod sent_values;
 mod stmt;
+mod stmt_fetch;
+mod stmt_reset;
 mod stmt_with_metadata;
 mod stored_form;
 mod stored_row;
@@ -70,6 +71,8 @@ pub use row_protocol::RowProtocol;
 pub use row_view::RowView;
 pub use sent_types::SentParamTypes;
 pub use stmt::{InvalidStmtPacketStatus, StmtPacket};
+pub use stmt_fetch::{ComStmtFetch, ComStmtFetchHeader, InvalidComStmtFetchHeader};
+pub use stmt_reset::{ComStmtReset, ComStmtResetHeader, InvalidComStmtResetHeader};
 pub use stmt_with_metadata::StmtPacketWithMetadata;
 pub use stored_form::StoredForm;
 pub use stored_row::StoredRow;

@@ -1,7 +1,7 @@
 //! The types and the values of an execution's parameters and attributes, as they are sent.
 #![tactic(auto, using(crate::proofs::SentBytes::written), unfolding(mysql_wire::specs::Writing::saturated))]
 
-ghost use Rattle.std.specs.Prelude.{◌≡◌, ◌+◌, ◌++◌, ◌≤◌, [], length, drop, unwrap_or};
+ghost use Rattle.std.specs.Prelude.{◌≡◌, ◌+◌, ◌++◌, ◌≤◌, [], if◌then◌else◌, length, drop, unwrap_or};
 ghost use Rattle.std.specs.Option.{option_map};
 ghost use Rattle.mysql_wire.specs.Writing.{saturated};
 ghost use Rattle.mysql_values.specs.ParamValue.{param_content};
@@ -13,7 +13,7 @@ ghost use Rattle.mysql_stmt.specs.SentParam.{bytes_under, is_spelled_under};
 use crate::execute_param::{AsExecuteParam, ExecuteParam};
 use crate::items::{ItemForm, Items};
 use mysql_values::{ParamType, ParamValue, TypedValue, ValueRef};
-use mysql_wire::{Buffer, BytesRepr, LenEnc, MySerialize};
+use mysql_wire::{Buffer, BytesRepr, LenEnc, MySerialize, Parts, RawInt, Sink, parts};
 
 /// The value that determines the type a parameter is sent as: a byte string if it was sent ahead, a date if it
 /// has an offset. A parameter as it was sent is NULL if its bit is set, otherwise a byte string.
@@ -238,5 +238,79 @@ impl<V: AsExecuteParam> ItemForm<V> for AsValues {
     #[inline(always)]
     fn append_item<O: Buffer>(&self, value: &V, out: &mut O) {
         value.append_sent(self.as_long_data, out);
+    }
+}
+
+/// Returns the byte that says whether types follow.
+#[inline(always)]
+fn types_flag(types_follow: bool) -> RawInt<u8>
+    ensures value { result.0 ≡ (if types_follow then 1 else 0) }
+{
+    RawInt::new(if types_follow { 1 } else { 0 })
+}
+
+/// Returns the values whose types are sent: all of them, or none if no types follow.
+#[inline(always)]
+fn typed<V>(values: &[V], types_follow: bool) -> &[V]
+    ensures value { result.now ≡ (if types_follow then values.now else []) }
+{
+    if types_follow { values } else { &[] }
+}
+
+/// The parameters and attributes of an execution or a query, of which there is at least one:
+///
+/// | Bytes | Field |
+/// |---|---|
+/// | 1 for 8 of them | `nulls`: the NULL bitmap |
+/// | 1 | `types_follow` |
+/// | 2 and a name | if types follow, the type of each, and if `has_names` its name |
+/// | to the end | the values, without those that were sent ahead |
+#[derive(Drop)]
+pub(crate) struct SentParams<'a, N, V, A> {
+    pub(crate) nulls: N,
+    pub(crate) types_follow: bool,
+    pub(crate) has_names: bool,
+    pub(crate) params: &'a [V],
+    pub(crate) attributes: &'a [A],
+    pub(crate) as_long_data: bool,
+}
+
+impl<N: MySerialize, V: AsExecuteParam, A: AsExecuteParam> Parts for SentParams<'_, N, V, A> {
+    ghost use Rattle.mysql_stmt.specs.SentParam.{bound_bytes, sent_params};
+
+    ghost bytes = { λ s. bound_bytes (N.bytes s.nulls) s.types_follow s.has_names s.as_long_data (sent_params V.param V.named_type s.params.now) (sent_params A.param A.named_type s.attributes.now) };
+
+    #[inline(always)]
+    fn put<S: Sink>(&self, sink: &mut S) {
+        let flag = types_flag(self.types_follow);
+        let has_names = self.has_names;
+        let param_types = WrittenTypes {
+            items: typed(self.params, self.types_follow),
+            has_names,
+        };
+        let attribute_types = WrittenTypes {
+            items: typed(self.attributes, self.types_follow),
+            has_names,
+        };
+        let param_values = Items {
+            items: self.params,
+            form: AsValues {
+                as_long_data: self.as_long_data,
+            },
+        };
+        let attribute_values = Items {
+            items: self.attributes,
+            form: AsValues {
+                as_long_data: false,
+            },
+        };
+        sink.part(&parts!(
+            self.nulls,
+            flag,
+            param_types,
+            attribute_types,
+            param_values,
+            attribute_values
+        ));
     }
 }

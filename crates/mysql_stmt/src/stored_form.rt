@@ -1,11 +1,14 @@
 //! How the values of a stored row are encoded.
 
-ghost use Rattle.std.specs.Prelude.{false, ◌≡◌};
+ghost use Rattle.std.specs.Prelude.{false, ◌≡◌, List, ℕ};
 ghost use Rattle.mysql_wire.specs.Reading.{Answers};
+ghost use Rattle.mysql_values.specs.ValueDeserializer.{value_of_kind};
 ghost use Rattle.mysql_values.specs.ValueRef.{refs_contents};
 ghost use Rattle.mysql_stmt.specs.StoredRow.{IsStoredAs, code_of, form_of_code};
 
-use mysql_values::{ValueKind, ValueRef, read_kind_ref};
+use mysql_values::{
+    ValueKind, ValueRef, read_kind_ref, read_long_ref, read_longlong_ref, read_string_ref,
+};
 use mysql_wire::{FaultOf, ParseBuf};
 
 /// How a value of a [`StoredRow`](crate::StoredRow) is encoded: its kind, and whether a number is signed.
@@ -89,28 +92,59 @@ impl StoredForm {
     }
 }
 
-/// Reads a value of the form with this number.
+/// The kind of the values whose form has this number, and whether they are unsigned.
+#[inline(always)]
+fn kind_of_code(code: u64) -> (ValueKind, bool)
+    ensures reads { (bytes : List ℕ) → (form_of_code code).reads bytes ≡ (value_of_kind result.0 result.1).reads bytes }
+{
+    match code {
+        1 => (ValueKind::String, false),
+        2 => (ValueKind::Tiny, false),
+        3 => (ValueKind::Tiny, true),
+        4 => (ValueKind::Short, false),
+        5 => (ValueKind::Short, true),
+        6 => (ValueKind::Long, false),
+        7 => (ValueKind::Long, true),
+        8 => (ValueKind::LongLong, false),
+        9 => (ValueKind::LongLong, true),
+        10 => (ValueKind::Float, false),
+        11 => (ValueKind::Double, false),
+        12 => (ValueKind::Date, false),
+        13 => (ValueKind::Time, false),
+        _ => (ValueKind::Null, false),
+    }
+}
+
+/// Reads a value of a less frequent form.
+#[inline(never)]
+fn read_seldom<'s, 'de>(code: u64, buf: &mut ParseBuf<'de>) -> Result<ValueRef<'de>, FaultOf<'s>>
+    ensures value { Answers false (refs_contents result) buf.new ((form_of_code code).reads buf.old) }
+{
+    let (kind, is_unsigned) = kind_of_code(code);
+    read_kind_ref(kind, is_unsigned, buf)
+}
+
+/// Reads a value of the form with this number, by code of its own for the most frequent forms.
 #[inline(always)]
 pub(crate) fn read_coded<'s, 'de>(
-    code: u8,
+    code: u64,
     buf: &mut ParseBuf<'de>,
 ) -> Result<ValueRef<'de>, FaultOf<'s>>
     ensures value { Answers false (refs_contents result) buf.new ((form_of_code code).reads buf.old) }
 {
     match code {
-        1 => read_kind_ref(ValueKind::String, false, buf),
-        2 => read_kind_ref(ValueKind::Tiny, false, buf),
-        3 => read_kind_ref(ValueKind::Tiny, true, buf),
-        4 => read_kind_ref(ValueKind::Short, false, buf),
-        5 => read_kind_ref(ValueKind::Short, true, buf),
-        6 => read_kind_ref(ValueKind::Long, false, buf),
-        7 => read_kind_ref(ValueKind::Long, true, buf),
-        8 => read_kind_ref(ValueKind::LongLong, false, buf),
-        9 => read_kind_ref(ValueKind::LongLong, true, buf),
-        10 => read_kind_ref(ValueKind::Float, false, buf),
-        11 => read_kind_ref(ValueKind::Double, false, buf),
-        12 => read_kind_ref(ValueKind::Date, false, buf),
-        13 => read_kind_ref(ValueKind::Time, false, buf),
-        _ => Ok(ValueRef::NULL),
+        0 => Ok(ValueRef::NULL),
+        1 => read_string_ref(buf),
+        6 => read_long_ref(false, buf),
+        7 => read_long_ref(true, buf),
+        8 => read_longlong_ref(false, buf),
+        9 => read_longlong_ref(true, buf),
+        _ => {
+            // (a buffer of its own, so that those of the other arms stay in registers)
+            let mut rest = buf.rest();
+            let value = read_seldom(code, &mut rest)?;
+            *buf = rest;
+            Ok(value)
+        }
     }
 }

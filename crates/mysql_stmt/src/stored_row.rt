@@ -6,22 +6,34 @@ ghost use Rattle.std.specs.Rc.{rc_slice_items};
 ghost use Rattle.mysql_values.specs.Cells.{held};
 ghost use Rattle.mysql_values.specs.ValueRef.{ref_content};
 ghost use Rattle.mysql_stmt.specs.RowView.{read_of};
-ghost use Rattle.mysql_stmt.specs.StoredRow.{FindsValue, HoldsRow, StoresRow, is_storable, reads_to_store, stored_size};
+ghost use Rattle.mysql_stmt.specs.StoredRow.{FindsValue, HoldsRow, StoresRow, entry_number, is_storable, reads_to_store, stored_size};
 
 use crate::column_index::ColumnIndex;
 use crate::row::{Row, new_row_raw};
 use crate::row_view::RowView;
-use crate::stored_form::read_coded;
+use crate::stored_form::{StoredForm, read_coded};
 use mysql_replies::Column;
 use mysql_values::ValueRef;
-use mysql_wire::{Buffer, FaultOf, FixedInt, IntRepr, LeU32, ParseBuf};
+use mysql_wire::{Buffer, FaultOf, FixedInt, IntRepr, LeU64, ParseBuf};
 use std::alloc::{AllocError, Global};
 use std::marker::Model;
 use std::mem;
 use std::rc::RcSlice;
 
-/// The length of an entry: the form of a value and its offset.
-const ENTRY: usize = 5;
+/// The length of an entry: a number of eight bytes, which holds the place of a value's bytes and its form.
+const ENTRY: usize = 8;
+
+/// How many places there are: the form is in the entry's upper half.
+const PLACES: u64 = 1 << 32;
+
+/// The entry of a value.
+#[inline(always)]
+fn entry_of(form: StoredForm, place: usize) -> u64
+    requires { place < 2 ^ 32 }
+    ensures value { result ≡ entry_number form place }
+{
+    u64::from(form.code()) * PLACES + place as u64
+}
 
 /// The length of a row's block, if each offset in it fits four bytes.
 #[inline(always)]
@@ -59,15 +71,14 @@ fn filled<'a, 's, V: RowView<'a>>(view: V, block: Vec<u8>) -> Result<Vec<u8>, Fa
         let Some(form) = view.next_form()? else {
             break;
         };
-        block.push_byte(form.code());
-        <LeU32 as IntRepr>::append(place as u32, &mut block);
+        <LeU64 as IntRepr>::append(entry_of(form, place), &mut block);
     }
     view.rest();
     block.push_bytes(source.eat_all());
     Ok(block)
 }
 
-/// A row that outlives its packet, in one block of memory: an entry of five bytes for each value, and the bytes of the values.
+/// A row that outlives its packet, in one block of memory: an entry of eight bytes for each value, and the bytes of the values.
 ///
 /// It holds the values that remained in the [`RowView`] of a text row or a binary row. They borrow from the
 /// block, and convert by [`FromValueRef`](mysql_values::FromValueRef).
@@ -100,6 +111,7 @@ impl StoredRow {
     /// Creates a row without values. It takes no memory.
     pub fn new(alloc: Global) -> Self
         ensures values { result.values ≡ [] }
+        ensures no_buffer { result.capacity ≡ 0 }
     {
         StoredRow {
             block: Vec::new(alloc),
@@ -169,11 +181,10 @@ impl StoredRow {
             return None;
         }
         let alloc = *self.block.allocator();
-        let mut entry = ParseBuf::new(alloc, &self.block[ENTRY * index..]);
-        let code = u8::take(&mut entry);
-        let place = LeU32::take(&mut entry) as usize;
-        let mut bytes = ParseBuf::new(alloc, &self.block[place..]);
-        match read_coded(code, &mut bytes) {
+        let mut entries = ParseBuf::new(alloc, &self.block[ENTRY * index..]);
+        let entry = LeU64::take(&mut entries);
+        let mut bytes = ParseBuf::new(alloc, &self.block[(entry % PLACES) as usize..]);
+        match read_coded(entry / PLACES, &mut bytes) {
             Ok(value) => Some(value),
             Err(_) => None,
         }

@@ -139,6 +139,11 @@ impl<'a> RowView<'a> for TextRowView<'a> {
         self.rest()
     }
 
+    #[inline(always)]
+    fn next_value<'s>(&mut self) -> Result<Option<ValueRef<'a>>, FaultOf<'s>> {
+        self.next_value()
+    }
+
     fn check<'s>(&self) -> Result<(), FaultOf<'s>> {
         read_through(TextRowView {
             buf: self.buf.rest(),

@@ -32,4 +32,6 @@ pub use value::Value;
 pub use value_deserializer::{BinValue, TextValue, ValueDeserializer};
 pub use value_kind::ValueKind;
 pub use value_ref::ValueRef;
-pub use value_ref_reader::{read_bin_ref, read_kind_ref, read_text_ref};
+pub use value_ref_reader::{
+    read_bin_ref, read_kind_ref, read_long_ref, read_longlong_ref, read_string_ref, read_text_ref,
+};

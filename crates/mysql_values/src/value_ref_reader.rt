@@ -3,6 +3,7 @@
 ghost use Rattle.std.specs.Prelude.{false, ◌≡◌, IsFalse, IsTrue, OnErr};
 ghost use Rattle.mysql_wire.specs.Reading.{Answers};
 ghost use Rattle.mysql_values.specs.Value.{Int};
+ghost use Rattle.mysql_values.specs.declared.value_kind.ValueKind.TheVariants as kind;
 ghost use Rattle.mysql_values.specs.ValueRef.{ref_content, refs_contents};
 ghost use Rattle.mysql_values.specs.ValueDeserializer.{text_value, bin_value, value_of_kind, string_value, long_integer, date_value, time_value};
 
@@ -11,9 +12,9 @@ use crate::value_kind::ValueKind;
 use crate::value_ref::ValueRef;
 use mysql_wire::{BytesRepr, ColumnType, FaultOf, LeU16, LeU32, LeU64, LenEnc, ParseBuf, RawInt};
 
-/// The content of a length-encoded string.
+/// Reads a length-encoded string. It takes no memory, and on an error the buffer is unchanged.
 #[inline(always)]
-fn string_ref<'s, 'de>(buf: &mut ParseBuf<'de>) -> Result<ValueRef<'de>, FaultOf<'s>>
+pub fn read_string_ref<'s, 'de>(buf: &mut ParseBuf<'de>) -> Result<ValueRef<'de>, FaultOf<'s>>
     ensures value { Answers false (refs_contents result) buf.new (string_value.reads buf.old) }
     ensures stays { OnErr result (buf.new ≡ buf.old) }
 {
@@ -39,7 +40,7 @@ pub fn read_text_ref<'s, 'de>(buf: &mut ParseBuf<'de>) -> Result<ValueRef<'de>, 
         buf.skip(1);
         return Ok(ValueRef::NULL);
     }
-    string_ref(buf)
+    read_string_ref(buf)
 }
 
 #[inline(never)]
@@ -84,10 +85,25 @@ fn short_integer<'de>(is_unsigned: bool, unsigned: i64, signed: i64) -> ValueRef
     ValueRef::Int(if is_unsigned { unsigned } else { signed })
 }
 
-/// An integer of eight bytes.
+/// Reads an integer of four bytes. It takes no memory, and on an error the buffer is unchanged.
 #[tactic(auto, unfolding(mysql_wire::specs::Int::raw))]
 #[inline(always)]
-fn longlong_ref<'s, 'de>(
+pub fn read_long_ref<'s, 'de>(
+    is_unsigned: bool,
+    buf: &mut ParseBuf<'de>,
+) -> Result<ValueRef<'de>, FaultOf<'s>>
+    ensures value { Answers false (refs_contents result) buf.new ((value_of_kind kind.Long is_unsigned).reads buf.old) }
+    ensures stays { OnErr result (buf.new ≡ buf.old) }
+{
+    let number: RawInt<LeU32> = buf.parse(())?;
+    let signed = i64::from(number.0.cast_signed());
+    Ok(short_integer(is_unsigned, i64::from(number.0), signed))
+}
+
+/// Reads an integer of eight bytes. It takes no memory, and on an error the buffer is unchanged.
+#[tactic(auto, unfolding(mysql_wire::specs::Int::raw))]
+#[inline(always)]
+pub fn read_longlong_ref<'s, 'de>(
     is_unsigned: bool,
     buf: &mut ParseBuf<'de>,
 ) -> Result<ValueRef<'de>, FaultOf<'s>>
@@ -114,7 +130,7 @@ pub fn read_kind_ref<'s, 'de>(
     ensures stays { OnErr result (buf.new ≡ buf.old) }
 {
     match kind {
-        ValueKind::String => string_ref(buf),
+        ValueKind::String => read_string_ref(buf),
         ValueKind::Tiny => {
             let number: RawInt<u8> = buf.parse(())?;
             let signed = i64::from(number.0.cast_signed());
@@ -125,12 +141,8 @@ pub fn read_kind_ref<'s, 'de>(
             let signed = i64::from(number.0.cast_signed());
             Ok(short_integer(is_unsigned, i64::from(number.0), signed))
         }
-        ValueKind::Long => {
-            let number: RawInt<LeU32> = buf.parse(())?;
-            let signed = i64::from(number.0.cast_signed());
-            Ok(short_integer(is_unsigned, i64::from(number.0), signed))
-        }
-        ValueKind::LongLong => longlong_ref(is_unsigned, buf),
+        ValueKind::Long => read_long_ref(is_unsigned, buf),
+        ValueKind::LongLong => read_longlong_ref(is_unsigned, buf),
         ValueKind::Float => {
             let bits: RawInt<LeU32> = buf.parse(())?;
             Ok(ValueRef::Float(bits.0))

@@ -2,7 +2,7 @@ use Rattle.std.proofs.Common.{rules, ◌≡◌, ◌+◌, ◌-◌, ◌*◌, ◌++
 use Rattle.mysql_wire.specs.LittleEndian.{length-le_bytes}
 use Rattle.mysql_wire.specs.Writing.{le_bytes}
 use Rattle.mysql_stmt.specs.RowView.{RowLeft}
-use Rattle.mysql_stmt.specs.StoredRow.{HoldsRow, PassesOne, code_of}
+use Rattle.mysql_stmt.specs.StoredRow.{HoldsRow, PassesOne, entry_number}
 use Rattle.mysql_stmt.proofs.FilledBlocks.{Filling, filling-none, filling-more, filling-all}
 use Rattle.mysql_stmt.proofs.stored_row.filled.Goals as goal
 
@@ -21,8 +21,7 @@ append-requires g c =
     let new = g.V.RowView.remains c.next_form.new.self in
     let passed : PassesOne old (Ok (Some c.in-Some.form)) new = rw c.in-Some.is at c.in_ok-form.ensures.value in
     let f = c.values.invariant.filling in
-    let bytes : length c.push_byte.new.self.items ≡ length c.values.block.items + 1 = ap length c.push_byte.ensures.items ∙ length-append c.values.block.items (c.code.result ∷ []) in
-    omega (arith, bytes, f.count, f.len, passed.1.0, length-le_bytes 4 (5 * c.left.result + c.len.result - c.len-in-values.result), c.requires.capacity, c.values.invariant.capacity, c.push_byte.ensures.capacity)
+    omega (arith, f.count, f.len, passed.1.0, length-le_bytes 8 c.entry_of.result, c.requires.capacity, c.values.invariant.capacity)
 
 pub values-preserved : goal.values-preserved
 values-preserved g c =
@@ -30,17 +29,16 @@ values-preserved g c =
     let old = g.V.RowView.remains c.values.view in
     let new = g.V.RowView.remains c.next_form.new.self in
     let passed : PassesOne old (Ok (Some c.in-Some.form)) new = rw c.in-Some.is at c.in_ok-form.ensures.value in
-    let place : ℕ = 5 * c.left.result + c.len.result - c.len-in-values.result in
-    let place_is : place ≡ 5 * row.left + length row.rest - length old.rest =
+    let place : ℕ = 8 * c.left.result + c.len.result - c.len-in-values.result in
+    let place_is : place ≡ 8 * row.left + length row.rest - length old.rest =
     let a : c.len.result ≡ length row.rest = c.len.ensures ∙ ap length c.rest-source.ensures.read in
     let b : c.len-in-values.result ≡ length old.rest = c.len-in-values.ensures ∙ ap length c.rest.ensures.read in
     rw (c.left.ensures.value, a, b) (search rules) in
-    let block_is : c.append.new.out.items ≡ (c.values.block.items ++ code_of c.in-Some.form ∷ []) ++ le_bytes 4 place =
-    c.append.ensures.items
-    ∙ ap (λ (b : List ℕ). b ++ le_bytes 4 place) (c.push_byte.ensures.items ∙ ap (λ (n : ℕ). c.values.block.items ++ n ∷ []) c.code.ensures.value) in
+    let block_is : c.append.new.out.items ≡ c.values.block.items ++ le_bytes 8 (entry_number c.in-Some.form place) =
+    c.append.ensures.items ∙ ap (λ (n : ℕ). c.values.block.items ++ le_bytes 8 n) c.entry_of.ensures.value in
     record {
       filling = subst (λ (b : List ℕ). Filling row new b) (sym block_is) (filling-more row old new c.values.block.items c.in-Some.form place c.values.invariant.filling passed place_is c.requires.small);
-      capacity = omega (arith, c.values.invariant.capacity, c.push_byte.ensures.capacity, c.append.ensures.capacity);
+      capacity = omega (arith, c.values.invariant.capacity, c.append.ensures.capacity);
     }
 
 pub returns-clause-holds : goal.returns-clause-holds

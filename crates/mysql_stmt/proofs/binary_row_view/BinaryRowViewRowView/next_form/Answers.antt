@@ -20,7 +20,7 @@ returns-in_err-form g c =
     let fault = c.in_err-form.field-0.0 in
     let row = first-fault g.C.TypedColumn.type_of g.C.TypedColumn.unsigned v.nulls.bytes offset v.place c.in-Some.column.now c.in-Some.columns.now v.columns.now v.buf c.rest-rest.result c.is_null_at-is_null.result c.is_null_at-is_null.ensures.value c.in-Some.ensures.cases.0 c.rest-rest.ensures fault c.in_err-form.ensures.value in
     let p = err_from_is_err_and c.from_residual.result c.from_residual.ensures.1 in
-    record { value = rw (p.1, p.2) (subst (RefusesNext fault) c.self.view_is row) }
+    record { value = rw (p.1, p.2) (subst (RefusesNext fault) c.self.view_is row, refl) }
 
 pub invariant_of-self : goal.invariant_of-self
 invariant_of-self g c =

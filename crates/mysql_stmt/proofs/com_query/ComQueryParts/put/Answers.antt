@@ -23,7 +23,7 @@ pub part-requires-2 : goal.part-requires-2
 part-requires-2 g c =
     let some : length c.listed-attributes.result.now ≢ 0 = search rules in
     subst (λ (l : List ℕ). g.S.Sink.capacity c.args.sink.now (length l))
-    (bytes-of-some g.A.AsExecuteParam.param g.A.AsExecuteParam.named_type c.args.self.now c.new-code.result.0 c.new-new_params_bound.result.0 _ _ c.raw_text-text.result c.listed-attributes.result.now some c.new-code.ensures (c.new-new_params_bound.ensures) c.listed-attributes.ensures.value c.count-count.ensures.value c.sets-sets.ensures.value c.raw_text-text.ensures.value)
+    (bytes-of-some g.A.AsExecuteParam.param g.A.AsExecuteParam.named_type c.args.self.now c.new-code.result.0 _ _ c.raw_text-text.result c.listed-attributes.result.now some c.new-code.ensures c.listed-attributes.ensures.value c.count-count.ensures.value c.sets-sets.ensures.value c.raw_text-text.ensures.value)
     c.requires
 
 pub returns : goal.returns
@@ -32,6 +32,6 @@ returns g c =
     record {
       value =
           subst (λ (l : List ℕ). g.S.Sink.took c.args.sink.now l c.part-2.new.self)
-          (sym (bytes-of-some g.A.AsExecuteParam.param g.A.AsExecuteParam.named_type c.args.self.now c.new-code.result.0 c.new-new_params_bound.result.0 _ _ c.raw_text-text.result c.listed-attributes.result.now some c.new-code.ensures (c.new-new_params_bound.ensures) c.listed-attributes.ensures.value c.count-count.ensures.value c.sets-sets.ensures.value c.raw_text-text.ensures.value))
+          (sym (bytes-of-some g.A.AsExecuteParam.param g.A.AsExecuteParam.named_type c.args.self.now c.new-code.result.0 _ _ c.raw_text-text.result c.listed-attributes.result.now some c.new-code.ensures c.listed-attributes.ensures.value c.count-count.ensures.value c.sets-sets.ensures.value c.raw_text-text.ensures.value))
           c.part-2.ensures;
     }

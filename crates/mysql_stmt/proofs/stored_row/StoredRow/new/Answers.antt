@@ -6,6 +6,6 @@ pub invariant_of-result : goal.invariant_of-result
 unfolding AreStored
 invariant_of-result c = tt
 
-pub returns : goal.returns
+pub returns-clause-values : goal.returns-clause-values
 unfolding stored_values
-returns c = record { values = refl }
+returns-clause-values c = refl

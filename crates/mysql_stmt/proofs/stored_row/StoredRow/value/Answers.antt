@@ -1,5 +1,5 @@
-use Rattle.std.proofs.Common.{◌≡◌, ◌≤◌, ◌*◌, ◌-◌, ℕ, List, Ok, Some, false, length, drop, subst, sym, ap, ◌∙◌, arith, length-drop}
-use Rattle.std.specs.Prelude.{slice_get}
+use Rattle.std.proofs.Common.{◌≡◌, ◌≤◌, ◌*◌, ◌-◌, ◌^◌, ℕ, List, Ok, Some, false, length, drop, subst, sym, ap, ◌∙◌, arith, length-drop}
+use Rattle.std.specs.Prelude.{◌/◌, ◌%◌, slice_get}
 use Rattle.std.proofs.lemmas.List.{take_rest}
 use Rattle.mysql_wire.specs.Reading.{Faults}
 use Rattle.mysql_values.specs.ValueRef.{ref_content}
@@ -16,81 +16,69 @@ returns-then-index-self c =
 pub overflow_mul-index : goal.overflow_mul-index
 overflow_mul-index c =
     let r = c.self.inside in
-    let s : IsStored (drop (5 * c.args.index) r.block.items) r.block.items = stored-at r.count c.args.index r.block.items r.block.items c.if-index-self.false c.self.invariant in
-    omega (arith, s.size, length-drop (5 * c.args.index) r.block.items, ap length c.deref.ensures.value)
+    let s : IsStored (drop (8 * c.args.index) r.block.items) r.block.items = stored-at r.count c.args.index r.block.items r.block.items c.if-index-self.false c.self.invariant in
+    omega (arith, s.size, length-drop (8 * c.args.index) r.block.items, ap length c.deref.ensures.value)
 
 pub slice_bounds-new-count : goal.slice_bounds-new-count
 slice_bounds-new-count c =
     let r = c.self.inside in
-    let s : IsStored (drop (5 * c.args.index) r.block.items) r.block.items = stored-at r.count c.args.index r.block.items r.block.items c.if-index-self.false c.self.invariant in
-    omega (arith, s.size, length-drop (5 * c.args.index) r.block.items, ap length c.deref.ensures.value)
+    let s : IsStored (drop (8 * c.args.index) r.block.items) r.block.items = stored-at r.count c.args.index r.block.items r.block.items c.if-index-self.false c.self.invariant in
+    omega (arith, s.size, length-drop (8 * c.args.index) r.block.items, ap length c.deref.ensures.value)
 
 pub slice_bounds-new-start : goal.slice_bounds-new-start
 slice_bounds-new-start c =
     let r = c.self.inside in
-    let s : IsStored (drop (5 * c.args.index) r.block.items) r.block.items = stored-at r.count c.args.index r.block.items r.block.items c.if-index-self.false c.self.invariant in
-    omega (arith, s.size, length-drop (5 * c.args.index) r.block.items, ap length c.deref.ensures.value)
+    let s : IsStored (drop (8 * c.args.index) r.block.items) r.block.items = stored-at r.count c.args.index r.block.items r.block.items c.if-index-self.false c.self.invariant in
+    omega (arith, s.size, length-drop (8 * c.args.index) r.block.items, ap length c.deref.ensures.value)
 
-pub take-code-requires : goal.take-code-requires
-take-code-requires c =
+pub take-entry-requires : goal.take-entry-requires
+take-entry-requires c =
     let r = c.self.inside in
-    let s : IsStored (drop (5 * c.args.index) r.block.items) r.block.items = stored-at r.count c.args.index r.block.items r.block.items c.if-index-self.false c.self.invariant in
-    let bytes : c.new-entry.result ≡ drop (5 * c.args.index) r.block.items =
-    c.new-entry.ensures ∙ take_rest c.deref.result.now (5 * c.args.index) ∙ ap (λ (b : List ℕ). drop (5 * c.args.index) b) c.deref.ensures.value in
+    let s : IsStored (drop (8 * c.args.index) r.block.items) r.block.items = stored-at r.count c.args.index r.block.items r.block.items c.if-index-self.false c.self.invariant in
+    let bytes : c.new-entries.result ≡ drop (8 * c.args.index) r.block.items =
+    c.new-entries.ensures ∙ take_rest c.deref.result.now (8 * c.args.index) ∙ ap (λ (b : List ℕ). drop (8 * c.args.index) b) c.deref.ensures.value in
     omega (arith, s.size, ap length bytes)
-
-pub take-place-requires : goal.take-place-requires
-take-place-requires c =
-    let r = c.self.inside in
-    let s : IsStored (drop (5 * c.args.index) r.block.items) r.block.items = stored-at r.count c.args.index r.block.items r.block.items c.if-index-self.false c.self.invariant in
-    let bytes : c.new-entry.result ≡ drop (5 * c.args.index) r.block.items =
-    c.new-entry.ensures ∙ take_rest c.deref.result.now (5 * c.args.index) ∙ ap (λ (b : List ℕ). drop (5 * c.args.index) b) c.deref.ensures.value in
-    omega (arith, s.size, ap length bytes, c.take-code.ensures.exact)
 
 pub slice_bounds-new-count-2 : goal.slice_bounds-new-count-2
 slice_bounds-new-count-2 c =
     let r = c.self.inside in
-    let bytes : c.new-entry.result ≡ drop (5 * c.args.index) r.block.items =
-    c.new-entry.ensures ∙ take_rest c.deref.result.now (5 * c.args.index) ∙ ap (λ (b : List ℕ). drop (5 * c.args.index) b) c.deref.ensures.value in
-    let entry : IsEntry c.args.index r.block.items c.new-entry.result c.take-code.new.buf c.take-place.new.buf c.take-code.result c.take-place.result =
-    record { bytes_are = bytes; code_is = c.take-code.ensures.value; place_is = c.take-place.ensures.value } in
-    subst (λ (b : List ℕ). c.take-place.result ≤ length b) (sym c.deref-2.ensures.value)
-    (place-there r.count c.args.index r.block.items c.new-entry.result c.take-code.new.buf c.take-place.new.buf c.take-code.result c.take-place.result c.if-index-self.false c.self.invariant entry)
+    let bytes : c.new-entries.result ≡ drop (8 * c.args.index) r.block.items =
+    c.new-entries.ensures ∙ take_rest c.deref.result.now (8 * c.args.index) ∙ ap (λ (b : List ℕ). drop (8 * c.args.index) b) c.deref.ensures.value in
+    let entry : IsEntry c.args.index r.block.items c.new-entries.result c.take-entry.new.buf c.take-entry.result = record { bytes_are = bytes; entry_is = c.take-entry.ensures.value } in
+    subst (λ (b : List ℕ). (c.take-entry.result % 2 ^ 32) ≤ length b) (sym c.deref-2.ensures.value)
+    (place-there r.count c.args.index r.block.items c.new-entries.result c.take-entry.new.buf c.take-entry.result c.if-index-self.false c.self.invariant entry)
 
 pub slice_bounds-new-start-2 : goal.slice_bounds-new-start-2
 slice_bounds-new-start-2 c =
     let r = c.self.inside in
-    let bytes : c.new-entry.result ≡ drop (5 * c.args.index) r.block.items =
-    c.new-entry.ensures ∙ take_rest c.deref.result.now (5 * c.args.index) ∙ ap (λ (b : List ℕ). drop (5 * c.args.index) b) c.deref.ensures.value in
-    let entry : IsEntry c.args.index r.block.items c.new-entry.result c.take-code.new.buf c.take-place.new.buf c.take-code.result c.take-place.result =
-    record { bytes_are = bytes; code_is = c.take-code.ensures.value; place_is = c.take-place.ensures.value } in
-    let there : c.take-place.result ≤ length c.deref-2.result.now = subst (λ (b : List ℕ). c.take-place.result ≤ length b) (sym c.deref-2.ensures.value)
-    (place-there r.count c.args.index r.block.items c.new-entry.result c.take-code.new.buf c.take-place.new.buf c.take-code.result c.take-place.result c.if-index-self.false c.self.invariant entry) in
+    let bytes : c.new-entries.result ≡ drop (8 * c.args.index) r.block.items =
+    c.new-entries.ensures ∙ take_rest c.deref.result.now (8 * c.args.index) ∙ ap (λ (b : List ℕ). drop (8 * c.args.index) b) c.deref.ensures.value in
+    let entry : IsEntry c.args.index r.block.items c.new-entries.result c.take-entry.new.buf c.take-entry.result = record { bytes_are = bytes; entry_is = c.take-entry.ensures.value } in
+    let there : (c.take-entry.result % 2 ^ 32) ≤ length c.deref-2.result.now = subst (λ (b : List ℕ). (c.take-entry.result % 2 ^ 32) ≤ length b) (sym c.deref-2.ensures.value)
+    (place-there r.count c.args.index r.block.items c.new-entries.result c.take-entry.new.buf c.take-entry.result c.if-index-self.false c.self.invariant entry) in
     omega (arith, there)
 
 pub returns-in-Ok : goal.returns-in-Ok
 returns-in-Ok c =
     let r = c.self.inside in
-    let bytes : c.new-entry.result ≡ drop (5 * c.args.index) r.block.items =
-    c.new-entry.ensures ∙ take_rest c.deref.result.now (5 * c.args.index) ∙ ap (λ (b : List ℕ). drop (5 * c.args.index) b) c.deref.ensures.value in
-    let entry : IsEntry c.args.index r.block.items c.new-entry.result c.take-code.new.buf c.take-place.new.buf c.take-code.result c.take-place.result =
-    record { bytes_are = bytes; code_is = c.take-code.ensures.value; place_is = c.take-place.ensures.value } in
-    let there : c.new-bytes.result ≡ drop c.take-place.result r.block.items =
-    c.new-bytes.ensures ∙ take_rest c.deref-2.result.now c.take-place.result ∙ ap (λ (b : List ℕ). drop c.take-place.result b) c.deref-2.ensures.value in
+    let bytes : c.new-entries.result ≡ drop (8 * c.args.index) r.block.items =
+    c.new-entries.ensures ∙ take_rest c.deref.result.now (8 * c.args.index) ∙ ap (λ (b : List ℕ). drop (8 * c.args.index) b) c.deref.ensures.value in
+    let entry : IsEntry c.args.index r.block.items c.new-entries.result c.take-entry.new.buf c.take-entry.result = record { bytes_are = bytes; entry_is = c.take-entry.ensures.value } in
+    let there : c.new-bytes.result ≡ drop (c.take-entry.result % 2 ^ 32) r.block.items =
+    c.new-bytes.ensures ∙ take_rest c.deref-2.result.now (c.take-entry.result % 2 ^ 32) ∙ ap (λ (b : List ℕ). drop (c.take-entry.result % 2 ^ 32) b) c.deref-2.ensures.value in
     let x = ref_content c.in-Ok.value in
-    let reads : (form_of_code c.take-code.result).reads (drop c.take-place.result r.block.items) ≡ Ok (x, c.read_coded.new.buf) =
-    subst (λ (b : List ℕ). (form_of_code c.take-code.result).reads b ≡ Ok (x, c.read_coded.new.buf)) there c.in-Ok.ensures.value in
-    let found = value-is r.count c.args.index r.block.items c.new-entry.result c.take-code.new.buf c.take-place.new.buf c.take-code.result c.take-place.result x c.read_coded.new.buf c.if-index-self.false entry reads in
+    let reads : (form_of_code (c.take-entry.result / 2 ^ 32)).reads (drop (c.take-entry.result % 2 ^ 32) r.block.items) ≡ Ok (x, c.read_coded.new.buf) =
+    subst (λ (b : List ℕ). (form_of_code (c.take-entry.result / 2 ^ 32)).reads b ≡ Ok (x, c.read_coded.new.buf)) there c.in-Ok.ensures.value in
+    let found = value-is r.count c.args.index r.block.items c.new-entries.result c.take-entry.new.buf c.take-entry.result x c.read_coded.new.buf c.if-index-self.false entry reads in
     record { value = sym (subst (λ (s : Stored). slice_get s.values c.args.index ≡ Some x) c.self.view_is found) }
 
 pub returns-in-Err : goal.returns-in-Err
 returns-in-Err c =
     let r = c.self.inside in
-    let bytes : c.new-entry.result ≡ drop (5 * c.args.index) r.block.items =
-    c.new-entry.ensures ∙ take_rest c.deref.result.now (5 * c.args.index) ∙ ap (λ (b : List ℕ). drop (5 * c.args.index) b) c.deref.ensures.value in
-    let entry : IsEntry c.args.index r.block.items c.new-entry.result c.take-code.new.buf c.take-place.new.buf c.take-code.result c.take-place.result =
-    record { bytes_are = bytes; code_is = c.take-code.ensures.value; place_is = c.take-place.ensures.value } in
-    let there : c.new-bytes.result ≡ drop c.take-place.result r.block.items =
-    c.new-bytes.ensures ∙ take_rest c.deref-2.result.now c.take-place.result ∙ ap (λ (b : List ℕ). drop c.take-place.result b) c.deref-2.ensures.value in
-    let refused = subst (λ (b : List ℕ). Faults false c.in-Err.field-0 ((form_of_code c.take-code.result).reads b)) there c.in-Err.ensures.value in
-    absurd (value-good r.count c.args.index r.block.items c.new-entry.result c.take-code.new.buf c.take-place.new.buf c.take-code.result c.take-place.result c.in-Err.field-0 c.if-index-self.false c.self.invariant entry refused)
+    let bytes : c.new-entries.result ≡ drop (8 * c.args.index) r.block.items =
+    c.new-entries.ensures ∙ take_rest c.deref.result.now (8 * c.args.index) ∙ ap (λ (b : List ℕ). drop (8 * c.args.index) b) c.deref.ensures.value in
+    let entry : IsEntry c.args.index r.block.items c.new-entries.result c.take-entry.new.buf c.take-entry.result = record { bytes_are = bytes; entry_is = c.take-entry.ensures.value } in
+    let there : c.new-bytes.result ≡ drop (c.take-entry.result % 2 ^ 32) r.block.items =
+    c.new-bytes.ensures ∙ take_rest c.deref-2.result.now (c.take-entry.result % 2 ^ 32) ∙ ap (λ (b : List ℕ). drop (c.take-entry.result % 2 ^ 32) b) c.deref-2.ensures.value in
+    let refused = subst (λ (b : List ℕ). Faults false c.in-Err.field-0 ((form_of_code (c.take-entry.result / 2 ^ 32)).reads b)) there c.in-Err.ensures.value in
+    absurd (value-good r.count c.args.index r.block.items c.new-entries.result c.take-entry.new.buf c.take-entry.result c.in-Err.field-0 c.if-index-self.false c.self.invariant entry refused)

@@ -20,7 +20,7 @@ returns-in_err-value c =
     let here = subst (λ (bytes : List ℕ). Faults false fault (text_value.reads bytes)) c.rest-rest.ensures c.in_err-value.ensures.value in
     let row = subst (λ (n : ℕ). RefusesNext fault (text_row_left n c.self.inside.buf)) (sym more) (text-fault c.in-Some.left c.self.inside.buf fault here) in
     let p = err_from_is_err_and c.from_residual.result c.from_residual.ensures.1 in
-    record { value = rw (p.1, p.2) (subst (RefusesNext fault) c.self.view_is row) }
+    record { value = rw (p.1, p.2) (subst (RefusesNext fault) c.self.view_is row, refl) }
 
 pub returns : goal.returns
 returns c =

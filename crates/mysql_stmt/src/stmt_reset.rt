@@ -3,7 +3,7 @@
 
 ghost use Rattle.std.specs.Prelude.{◌≡◌};
 ghost use Rattle.mysql_wire.specs.Form.{size-block};
-ghost use Rattle.mysql_commands.specs.StmtReset as spec;
+ghost use Rattle.mysql_stmt.specs.StmtReset as spec;
 
 use mysql_wire::command_code::COM_STMT_RESET;
 use mysql_wire::{

@@ -2,8 +2,8 @@
 use Rattle.std.specs.Prelude.{refl}
 use Rattle.mysql_wire.specs.Codecs.{Codec, Fields, ◌>>=◌, give, field, block, packet, const_u8, u32, raw_int}
 use Rattle.mysql_wire.specs.CommandCodes.{COM_STMT_FETCH}
-use Rattle.mysql_commands.specs.declared.stmt_fetch.ComStmtFetch.{ComStmtFetch}
-use Rattle.mysql_commands.specs.declared.stmt_fetch.InvalidComStmtFetchHeader.{InvalidComStmtFetchHeader}
+use Rattle.mysql_stmt.specs.declared.stmt_fetch.ComStmtFetch.{ComStmtFetch}
+use Rattle.mysql_stmt.specs.declared.stmt_fetch.InvalidComStmtFetchHeader.{InvalidComStmtFetchHeader}
 
 -- 1c, the statement's number, and the number of rows
 abbrev pub stmt_fetch_fields : Fields (Unit {0}) ComStmtFetch ComStmtFetch

@@ -2,8 +2,8 @@
 use Rattle.std.specs.Prelude.{refl}
 use Rattle.mysql_wire.specs.Codecs.{Codec, Fields, ◌>>=◌, give, field, block, packet, const_u8, u32, raw_int}
 use Rattle.mysql_wire.specs.CommandCodes.{COM_STMT_RESET}
-use Rattle.mysql_commands.specs.declared.stmt_reset.ComStmtReset.{ComStmtReset}
-use Rattle.mysql_commands.specs.declared.stmt_reset.InvalidComStmtResetHeader.{InvalidComStmtResetHeader}
+use Rattle.mysql_stmt.specs.declared.stmt_reset.ComStmtReset.{ComStmtReset}
+use Rattle.mysql_stmt.specs.declared.stmt_reset.InvalidComStmtResetHeader.{InvalidComStmtResetHeader}
 
 -- 1a, and the statement's number
 abbrev pub stmt_reset_fields : Fields (Unit {0}) ComStmtReset ComStmtReset
