@@ -5,7 +5,8 @@ ghost use Rattle.std.specs.Prelude.{◌≡◌, ◌≤◌, length};
 use mysql_wire::Buffer;
 use std::mem;
 
-/// A slice that is filled from its front, for a loop that fills two slices: one value writes to one buffer.
+/// A slice that is filled from its front: a loop that fills two slices needs a buffer for each. (`mysql_wire` has one like it, which is
+/// private to it: a value writes itself to one slice by `write_to_slice`.)
 #[derive(Drop)]
 pub(crate) struct SliceFront<'a> {
     out: &'a mut [u8],
