@@ -4,11 +4,10 @@
 ghost use Rattle.std.specs.Prelude.{◌≡◌, refl};
 ghost use Rattle.mysql_commands.specs.BulkExecute as spec;
 
-use crate::bytes_ref::BytesRef;
 use mysql_bulk::ComStmtBulkExecuteHeader;
 use mysql_wire::{
-    AnyWidth, Const, ConstU8, FaultOf, LeU16, LeU32, MyDeserialize, ParseBuf, Parts, RawInt, Sink,
-    StmtBulkExecuteFlags, parts,
+    AnyWidth, BytesRef, Const, ConstU8, FaultOf, LeU16, LeU32, MyDeserialize, ParseBuf, Parts,
+    RawInt, Sink, StmtBulkExecuteFlags, parts,
 };
 
 /// MariaDB's `COM_STMT_BULK_EXECUTE`. The layout of its rows depends on the statement.

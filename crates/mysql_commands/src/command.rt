@@ -1,7 +1,6 @@
 //! A command, by its first byte.
 
 use crate::bulk_execute::ComStmtBulkExecuteRef;
-use crate::bytes_ref::BytesRef;
 use crate::field_list::ComFieldListRef;
 use crate::query::ComQueryRef;
 use crate::set_option::ComSetOption;
@@ -11,6 +10,7 @@ use crate::with_raw_bytes::WithRawBytes;
 use mysql_auth::ComChangeUserRef;
 use mysql_repl::{ComBinlogDumpGtidRef, ComBinlogDumpRef, ComRegisterSlaveRef, ComTableDump};
 use mysql_stmt::{ComStmtClose, ComStmtFetch, ComStmtReset, ComStmtSendLongDataRef};
+use mysql_wire::BytesRef;
 
 /// A client's command: a payload of the command phase, by its first byte.
 ///

@@ -8,11 +8,10 @@ ghost use Rattle.mysql_wire.specs.Int.{byte, le_u32};
 ghost use Rattle.mysql_commands.specs.After.{after_form, byte_left};
 ghost use Rattle.mysql_commands.specs.Command as spec;
 
-use crate::bytes_ref::BytesRef;
 use crate::command::Command;
 use mysql_wire::{
-    AnyWidth, CapabilityFlags, Const, ConstValue, FaultOf, LeU32, MyDeserialize, ParseBuf, RawInt,
-    ServerCommand,
+    AnyWidth, BytesRef, CapabilityFlags, Const, ConstValue, FaultOf, LeU32, MyDeserialize,
+    ParseBuf, RawInt, ServerCommand,
 };
 
 /// Reads a command without fields.

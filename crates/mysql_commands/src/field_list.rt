@@ -4,11 +4,10 @@
 ghost use Rattle.std.specs.Prelude.{◌≡◌, refl};
 ghost use Rattle.mysql_commands.specs.FieldList as spec;
 
-use crate::bytes_ref::BytesRef;
 use mysql_wire::command_code::COM_FIELD_LIST;
 use mysql_wire::{
-    AnyWidth, BytesRepr, ConstFault, ConstU8, FaultOf, MyDeserialize, NullBytes, ParseBuf, Parts,
-    RawBytes, Sink, parts,
+    AnyWidth, BytesRef, BytesRepr, ConstFault, ConstU8, FaultOf, MyDeserialize, NullBytes,
+    ParseBuf, Parts, RawBytes, Sink, parts,
 };
 use std::borrow::CowSlice;
 use thiserror::Error;

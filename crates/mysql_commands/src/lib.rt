@@ -2,7 +2,6 @@
 #![tactic(auto)]
 
 mod bulk_execute;
-mod bytes_ref;
 mod command;
 mod command_reader;
 mod command_writer;
@@ -17,9 +16,9 @@ mod unknown;
 mod with_raw_bytes;
 
 pub use bulk_execute::ComStmtBulkExecuteRef;
-pub use bytes_ref::BytesRef;
 pub use command::Command;
 pub use field_list::{ComFieldListHeader, ComFieldListRef, InvalidComFieldListHeader};
+pub use mysql_wire::BytesRef;
 pub use partial_query::read_query_attributes;
 pub use query::{ComQueryHeader, ComQueryRef, InvalidComQueryHeader};
 pub use query_attributes::{InvalidParameterSetCount, QueryAttributesRef};

@@ -5,13 +5,12 @@ ghost use Rattle.std.specs.Prelude.{◌≡◌, None, option_map, refl};
 ghost use Rattle.mysql_commands.specs.WithRawBytes.{value};
 ghost use Rattle.mysql_commands.specs.Query as spec;
 
-use crate::bytes_ref::BytesRef;
 use crate::query_attributes::QueryAttributesRef;
 use crate::with_raw_bytes::WithRawBytes;
 use mysql_wire::command_code::COM_QUERY;
 use mysql_wire::{
-    AnyWidth, CapabilityFlags, ConstFault, ConstU8, FaultOf, Flags, MyDeserialize, ParseBuf, Parts,
-    Sink, parts,
+    AnyWidth, BytesRef, CapabilityFlags, ConstFault, ConstU8, FaultOf, Flags, MyDeserialize,
+    ParseBuf, Parts, Sink, parts,
 };
 use thiserror::Error;
 

@@ -4,9 +4,8 @@
 ghost use Rattle.std.specs.Prelude.{◌≡◌, refl};
 ghost use Rattle.mysql_commands.specs.StmtExecute as spec;
 
-use crate::bytes_ref::BytesRef;
 use mysql_stmt::ComStmtExecuteHead;
-use mysql_wire::{AnyWidth, FaultOf, MyDeserialize, ParseBuf, Parts, Sink, parts};
+use mysql_wire::{AnyWidth, BytesRef, FaultOf, MyDeserialize, ParseBuf, Parts, Sink, parts};
 
 /// `COM_STMT_EXECUTE`. The layout of its parameters depends on the statement.
 ///

@@ -4,8 +4,9 @@
 ghost use Rattle.std.specs.Prelude.{◌≡◌, refl};
 ghost use Rattle.mysql_commands.specs.Unknown as spec;
 
-use crate::bytes_ref::BytesRef;
-use mysql_wire::{AnyWidth, FaultOf, MyDeserialize, ParseBuf, Parts, RawInt, Sink, parts};
+use mysql_wire::{
+    AnyWidth, BytesRef, FaultOf, MyDeserialize, ParseBuf, Parts, RawInt, Sink, parts,
+};
 
 /// A command whose first byte has no record of its own: a code that is used inside servers, a later one, or an
 /// unknown one.

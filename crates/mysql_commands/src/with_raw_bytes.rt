@@ -5,8 +5,7 @@ ghost use Rattle.std.specs.Prelude.{◌≡◌, ◌++◌, refl};
 ghost use Rattle.mysql_wire.specs.Reading.{IsTail};
 ghost use Rattle.mysql_commands.specs.WithRawBytes as spec;
 
-use crate::bytes_ref::BytesRef;
-use mysql_wire::{AnyWidth, Buffer, FaultOf, MyDeserialize, MySerialize, ParseBuf};
+use mysql_wire::{AnyWidth, Buffer, BytesRef, FaultOf, MyDeserialize, MySerialize, ParseBuf};
 
 /// A value with the bytes that it was read from. It is written back byte for byte, even if the protocol has
 /// several encodings.

@@ -1,9 +1,12 @@
 //! Borrowed bytes that run to the end of their packet.
-#![tactic(auto, unfolding(mysql_wire::specs::Writing::saturated))]
+#![tactic(auto, unfolding(crate::specs::Writing::saturated))]
 
 ghost use Rattle.std.specs.Prelude.{◌≡◌, ⊤, refl};
 
-use mysql_wire::{AnyWidth, Buffer, FaultOf, MyDeserialize, MySerialize, ParseBuf};
+use crate::buf::ParseBuf;
+use crate::buffer::Buffer;
+use crate::fault::FaultOf;
+use crate::proto::{AnyWidth, MyDeserialize, MySerialize};
 use std::alloc::AllocError;
 use std::fmt;
 use std::fmt::Debug;
@@ -75,9 +78,10 @@ impl Eq for BytesRef<'_> {
     ghost laws = { Prim.search (comparing, rules) };
 }
 
+/// Prints the bytes like a [`RawBytes`](crate::RawBytes).
 impl Debug for BytesRef<'_> {
     fn fmt<W: fmt::Write>(&self, f: &mut fmt::Formatter<W>) -> fmt::Result {
-        self.bytes.fmt(f)
+        write!(f, "\"{}\"", self.bytes.escape_ascii())
     }
 }
 
@@ -111,7 +115,7 @@ impl MySerialize for BytesRef<'_> {
     }
 
     #[inline(always)]
-    #[tactic(auto, using(mysql_wire::proofs::After::after))]
+    #[tactic(auto, using(crate::proofs::After::after))]
     fn append<O: Buffer>(&self, out: &mut O) {
         out.push_bytes(self.bytes);
     }
