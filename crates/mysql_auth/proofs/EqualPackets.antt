@@ -1,8 +1,9 @@
 -- Packets and their parts compare equal exactly if they are equal.
-use Rattle.std.proofs.Common.{◌≡◌, ◌&&◌, ℕ, List, true, nat_eq, Decides, IsTrue, refl, ap, subst}
+use Rattle.std.proofs.Common.{◌≡◌, ◌&&◌, ℕ, List, Bool, true, nat_eq, Decides, IsTrue, refl, ap, subst}
 use Rattle.std.proofs.lemmas.Bool.Decides.{Decides-and}
 use Rattle.std.proofs.lemmas.Slice.Eq.{slice_eq-Decides}
 use Rattle.std.specs.Cmp.Lexicographic.{pointwise}
+use Rattle.std.specs.Option.{option_eq}
 use borrow.Author.Tests.{clash}
 use Rattle.mysql_wire.proofs.Same.{and-true, numbers-same, bytes-same, options-same, parts-same}
 use Rattle.mysql_wire.specs.declared.int.RawInt.{RawInt}
@@ -12,8 +13,6 @@ use Rattle.mysql_auth.specs.contracts.auth_plugin_data.AuthPluginDataPartialEq.T
 use Rattle.mysql_auth.specs.contracts.auth_reply.AuthReplyPartialEq.TheImpl as derived_reply
 use Rattle.mysql_auth.specs.contracts.com_change_user.ComChangeUserPartialEq.TheImpl as derived_change
 use Rattle.mysql_auth.specs.contracts.com_change_user_more_data.ComChangeUserMoreDataPartialEq.TheImpl as derived_change_data
-use Rattle.mysql_auth.specs.contracts.handshake.HandshakePacketPartialEq.TheImpl as derived_handshake
-use Rattle.mysql_auth.specs.contracts.handshake_head.HandshakeHeadPartialEq.TheImpl as derived_head
 use Rattle.mysql_auth.specs.contracts.handshake_response.HandshakeResponsePartialEq.TheImpl as derived_response
 use Rattle.mysql_auth.specs.contracts.public_key_response.PublicKeyResponsePartialEq.TheImpl as derived_key
 use Rattle.mysql_auth.specs.contracts.ssl_request.SslRequestPartialEq.TheImpl as derived_ssl
@@ -26,15 +25,13 @@ use Rattle.mysql_auth.specs.declared.auth_reply.AuthReply.{AuthReply}
 use Rattle.mysql_auth.specs.declared.auth_reply.AuthReply.TheVariants as reply
 use Rattle.mysql_auth.specs.declared.com_change_user.ComChangeUser.{ComChangeUser}
 use Rattle.mysql_auth.specs.declared.com_change_user_more_data.ComChangeUserMoreData.{ComChangeUserMoreData}
-use Rattle.mysql_auth.specs.declared.handshake.HandshakePacket.{HandshakePacket}
-use Rattle.mysql_auth.specs.declared.handshake_head.HandshakeHead.{HandshakeHead}
+use Rattle.mysql_auth.specs.Handshake.{HandshakePacket, Head}
 use Rattle.mysql_auth.specs.declared.handshake_response.HandshakeResponse.{HandshakeResponse}
 use Rattle.mysql_auth.specs.declared.public_key_response.PublicKeyResponse.{PublicKeyResponse}
 use Rattle.mysql_auth.specs.declared.ssl_request.SslRequest.{SslRequest}
 use Rattle.mysql_auth.specs.Attributes.{Attribute, attribute_eq}
 use Rattle.mysql_auth.specs.AuthMoreData as more
-use Rattle.mysql_auth.specs.declared.plugin_request.PluginRequest.{PluginRequest}
-use Rattle.mysql_auth.specs.PluginRequest.{plugin_name, plugin_data, request_of, request_eq}
+use Rattle.mysql_auth.specs.PluginRequest.{PluginRequest, plugin_name, plugin_data, request_of, request_eq}
 use Rattle.mysql_auth.specs.PublicKeyResponse as key
 
 -- ---- fields
@@ -150,9 +147,22 @@ equal-replies _ _ e = absurd (clash e)
 pub replies-same : (a b : AuthReply) → Decides (derived_reply.ghosts.eq a b) (a ≡ b)
 replies-same a b = (equal-replies a b, λ e. subst (λ (c : AuthReply). IsTrue (derived_reply.ghosts.eq a c)) e (reply-equals_itself a))
 
-heads-same : (a b : HandshakeHead) → Decides (derived_head.ghosts.eq a b) (a ≡ b)
+-- what the derived equality computes, in both forms
+abbrev head_eq : Head → Head → Bool
+head_eq a b =
+    (nat_eq a.protocol_version.0 b.protocol_version.0 && true) && (pointwise nat_eq a.server_version b.server_version
+    && ((nat_eq a.connection_id.0 b.connection_id.0 && true) && (pointwise nat_eq a.scramble_1 b.scramble_1
+    && ((nat_eq a.capabilities_low.0 b.capabilities_low.0 && true) && ((nat_eq a.default_collation.0 b.default_collation.0 && true)
+    && (((nat_eq a.status_flags.0.0 b.status_flags.0.0 && true) && true) && ((nat_eq a.capabilities_high.0 b.capabilities_high.0 && true)
+    && ((nat_eq a.mariadb_capabilities.0.0 b.mariadb_capabilities.0.0 && true) && true))))))))
+
+abbrev handshake_eq : HandshakePacket → HandshakePacket → Bool
+handshake_eq a b =
+    head_eq a.head b.head && (option_eq (pointwise nat_eq) a.scramble_2 b.scramble_2 && option_eq (pointwise nat_eq) a.auth_plugin_name b.auth_plugin_name)
+
+heads-same : (a b : Head) → Decides (head_eq a b) (a ≡ b)
 heads-same =
-    parts-same derived_head.ghosts.eq
+    parts-same head_eq
     (λ a b. (a.protocol_version.0 ≡ b.protocol_version.0) × ((a.server_version ≡ b.server_version) × ((a.connection_id.0 ≡ b.connection_id.0) × ((a.scramble_1 ≡ b.scramble_1)
     × ((a.capabilities_low.0 ≡ b.capabilities_low.0) × ((a.default_collation.0 ≡ b.default_collation.0) × ((a.status_flags.0.0 ≡ b.status_flags.0.0)
     × ((a.capabilities_high.0 ≡ b.capabilities_high.0) × (a.mariadb_capabilities.0.0 ≡ b.mariadb_capabilities.0.0)))))))))
@@ -176,9 +186,9 @@ heads-same =
     })
     (λ a. (refl, (refl, (refl, (refl, (refl, (refl, (refl, (refl, refl)))))))))
 
-pub handshakes-same : (a b : HandshakePacket) → Decides (derived_handshake.ghosts.eq a b) (a ≡ b)
+pub handshakes-same : (a b : HandshakePacket) → Decides (handshake_eq a b) (a ≡ b)
 handshakes-same =
-    parts-same derived_handshake.ghosts.eq (λ a b. (a.head ≡ b.head) × ((a.scramble_2 ≡ b.scramble_2) × (a.auth_plugin_name ≡ b.auth_plugin_name)))
+    parts-same handshake_eq (λ a b. (a.head ≡ b.head) × ((a.scramble_2 ≡ b.scramble_2) × (a.auth_plugin_name ≡ b.auth_plugin_name)))
     (λ a b. Decides-and _ _ (heads-same a.head b.head) (Decides-and _ _ (options-same bytes-same a.scramble_2 b.scramble_2) (options-same bytes-same a.auth_plugin_name b.auth_plugin_name)))
     (λ a b s i. record { head = s.0 i; scramble_2 = s.1.0 i; auth_plugin_name = s.1.1 i })
     (λ a. (refl, (refl, refl)))

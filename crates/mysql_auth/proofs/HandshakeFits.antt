@@ -3,8 +3,7 @@ use Rattle.std.proofs.Common.{ℕ, ◌<◌, List, Option, Some, None, Bool, true
 use Rattle.mysql_wire.specs.CodecFits.{option_fits}
 use Rattle.mysql_wire.specs.Codecs.{string_bare}
 use Rattle.mysql_auth.specs.EofName.{eof_name}
-use Rattle.mysql_auth.specs.declared.handshake.HandshakePacket.{HandshakePacket}
-use Rattle.mysql_auth.specs.Handshake.{handshake, handshake_head, handshake_block, data_length, length_of, scramble_length, scramble_2, auth_plugin_name, capabilities, has_scramble, has_name, ScrambleFits, NameFits, HandshakeFits}
+use Rattle.mysql_auth.specs.Handshake.{HandshakePacket, handshake, handshake_head, handshake_block, data_length, length_of, scramble_length, scramble_2, auth_plugin_name, capabilities, has_scramble, has_name, ScrambleFits, NameFits, HandshakeFits}
 
 small : (named : Bool) (scramble : Option (List ℕ)) → (if named then length_of scramble else 0) < 256
 small true None = omega arith

@@ -9,13 +9,12 @@ use Rattle.mysql_wire.specs.Null.{HasNoZero, null_string}
 use Rattle.mysql_auth.specs.Attributes.{Attribute, AreShort, AreShortIn, attributes}
 use Rattle.mysql_auth.specs.ComChangeUser as change
 use Rattle.mysql_auth.specs.ComChangeUser.{change_user, last_part, more_data, named_plugin, sent_attributes as change_attributes, GivenFits, NamedFits, MoreDataPartsFit, MoreIsShort, MoreFits, ChangeUserIsShort, ChangeUserPartsFit, SessionMoreDataPartsFit, SessionChangeUserPartsFit}
-use Rattle.mysql_auth.specs.Handshake.{handshake, handshake_head, handshake_block, server_version}
+use Rattle.mysql_auth.specs.Handshake.{HandshakePacket, handshake, handshake_head, handshake_block, server_version}
 use Rattle.mysql_auth.specs.HandshakeResponse.{handshake_response, scramble, database, plugin, sent_attributes, counts_by_lenenc, counts_by_byte, sends_database, sends_plugin, sends_attributes, sends_zstd_level, sent_zstd_level, level_codec, LevelFits, LevelIsByte, PartFits, ScrambleFits, ScrambleIsShort, ResponseIsShort, ResponsePartsFit}
 use Rattle.mysql_auth.specs.PluginName.{PluginFits, plugin_null, plugin_null_or_eof}
 use Rattle.mysql_auth.specs.declared.auth_plugin.AuthPlugin.{AuthPlugin}
 use Rattle.mysql_auth.specs.declared.com_change_user.ComChangeUser.{ComChangeUser}
 use Rattle.mysql_auth.specs.declared.com_change_user_more_data.ComChangeUserMoreData.{ComChangeUserMoreData}
-use Rattle.mysql_auth.specs.declared.handshake.HandshakePacket.{HandshakePacket}
 use Rattle.mysql_auth.specs.declared.handshake_response.HandshakeResponse.{HandshakeResponse}
 use Rattle.mysql_auth.proofs.ReadParts.{null-no_zero, to-zero-fits, to-zero-or-end-fits, read-part}
 

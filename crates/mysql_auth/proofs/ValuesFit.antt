@@ -5,13 +5,12 @@ use Rattle.mysql_auth.specs.Attributes.{Attribute, AreShort, AttributesFit, merg
 use Rattle.mysql_auth.specs.ComChangeUser as change
 use Rattle.mysql_auth.specs.ComChangeUser.{change_user, more_data, session_change_user, session_more_data, ChangeFits, GivenFits, MoreFieldsFit, MoreFits, MoreDataPartsFit, ChangeUserPartsFit, SessionMoreDataPartsFit, SessionChangeUserPartsFit}
 use Rattle.mysql_auth.specs.Handshake as greeting
-use Rattle.mysql_auth.specs.Handshake.{handshake, HalvesFit, HandshakePartsFit}
+use Rattle.mysql_auth.specs.Handshake.{HandshakePacket, handshake, HalvesFit, HandshakePartsFit}
 use Rattle.mysql_auth.specs.HandshakeResponse as response
 use Rattle.mysql_auth.specs.HandshakeResponse.{handshake_response, PartFits, ResponsePartsFit, HandshakeResponseFits}
 use Rattle.mysql_auth.specs.SslRequest.{SslRequestFits}
 use Rattle.mysql_auth.specs.declared.com_change_user.ComChangeUser.{ComChangeUser}
 use Rattle.mysql_auth.specs.declared.com_change_user_more_data.ComChangeUserMoreData.{ComChangeUserMoreData}
-use Rattle.mysql_auth.specs.declared.handshake.HandshakePacket.{HandshakePacket}
 use Rattle.mysql_auth.specs.declared.handshake_response.HandshakeResponse.{HandshakeResponse}
 use Rattle.mysql_auth.proofs.ChangeUserFits.{more_data-fits, change-fits, session_data-again, session_change-again}
 use Rattle.mysql_auth.proofs.HandshakeFits.{handshake-fits}

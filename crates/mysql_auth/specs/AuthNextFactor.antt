@@ -2,8 +2,7 @@
 use Rattle.std.specs.Prelude.{◌≡◌, ℕ, List}
 use Rattle.mysql_wire.specs.Codec.{Codec}
 use Rattle.mysql_auth.specs.declared.faults.InvalidAuthNextFactorHeader.{InvalidAuthNextFactorHeader}
-use Rattle.mysql_auth.specs.declared.plugin_request.PluginRequest.{PluginRequest}
-use Rattle.mysql_auth.specs.PluginRequest.{request_of, plugin_request}
+use Rattle.mysql_auth.specs.PluginRequest.{PluginRequest, request_of, plugin_request}
 pub use Rattle.mysql_auth.specs.PluginRequest.{plugin_name, plugin_data}
 
 abbrev pub AuthNextFactor : Type 0

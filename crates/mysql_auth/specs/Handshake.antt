@@ -12,27 +12,35 @@ use Rattle.mysql_auth.specs.AuthPlugin.{plugin_of}
 use Rattle.mysql_auth.specs.declared.auth_plugin.AuthPlugin.{AuthPlugin}
 use Rattle.mysql_auth.specs.EofName.{eof_name, without_last_zero}
 use Rattle.mysql_auth.specs.declared.handshake_head.HandshakeHead.{HandshakeHead}
-use Rattle.mysql_auth.specs.declared.handshake.HandshakePacket.{HandshakePacket}
+use Rattle.mysql_auth.specs.declared.handshake.HandshakePacketOf.{HandshakePacketOf}
+
+-- the owned and the borrowed form in a clause
+abbrev pub HandshakePacket : Type 0
+HandshakePacket = HandshakePacketOf (List ℕ) (List ℕ) (List ℕ) (List ℕ)
+
+-- the head of both
+abbrev pub Head : Type 0
+Head = HandshakeHead (List ℕ) (List ℕ)
 
 -- ---- values
 
 abbrev pub halves : ℕ → ℕ → ℕ
 halves low high = low + high * 0x10000
 
-abbrev pub capabilities_of : HandshakeHead → ℕ
+abbrev pub capabilities_of : {V S : Type 0} → HandshakeHead V S → ℕ
 capabilities_of head = halves head.capabilities_low.0 head.capabilities_high.0
 
-abbrev pub capabilities : HandshakePacket → ℕ
+abbrev pub capabilities : {V S T N : Type 0} → HandshakePacketOf V S T N → ℕ
 capabilities p = capabilities_of p.head
 
 -- each half of the flags has two bytes
-abbrev pub HalvesFitIn : HandshakeHead → Type 0
+abbrev pub HalvesFitIn : {V S : Type 0} → HandshakeHead V S → Type 0
 HalvesFitIn head = (head.capabilities_low.0 < 2 ^ 16) × (head.capabilities_high.0 < 2 ^ 16)
 
-abbrev pub HalvesFit : HandshakePacket → Type 0
+abbrev pub HalvesFit : {V S T N : Type 0} → HandshakePacketOf V S T N → Type 0
 HalvesFit p = HalvesFitIn p.head
 
-abbrev pub protocol_version : HandshakePacket → ℕ
+abbrev pub protocol_version : {V S T N : Type 0} → HandshakePacketOf V S T N → ℕ
 protocol_version p = p.head.protocol_version.0
 
 abbrev pub server_version : HandshakePacket → List ℕ
@@ -42,19 +50,19 @@ server_version p = p.head.server_version
 abbrev pub HasNoTexts : HandshakePacket → Type 0
 HasNoTexts p = (server_version p ≡ []) × (unwrap_or p.scramble_2 [] ≡ []) × (unwrap_or p.auth_plugin_name [] ≡ [])
 
-abbrev pub connection_id : HandshakePacket → ℕ
+abbrev pub connection_id : {V S T N : Type 0} → HandshakePacketOf V S T N → ℕ
 connection_id p = p.head.connection_id.0
 
 abbrev pub scramble_1 : HandshakePacket → List ℕ
 scramble_1 p = p.head.scramble_1
 
-abbrev pub default_collation : HandshakePacket → ℕ
+abbrev pub default_collation : {V S T N : Type 0} → HandshakePacketOf V S T N → ℕ
 default_collation p = p.head.default_collation.0
 
-abbrev pub status_flags : HandshakePacket → StatusFlags
+abbrev pub status_flags : {V S T N : Type 0} → HandshakePacketOf V S T N → StatusFlags
 status_flags p = p.head.status_flags.0
 
-abbrev pub mariadb_ext_capabilities : HandshakePacket → MariadbCapabilities
+abbrev pub mariadb_ext_capabilities : {V S T N : Type 0} → HandshakePacketOf V S T N → MariadbCapabilities
 mariadb_ext_capabilities p = p.head.mariadb_capabilities.0
 
 -- the handshake with these MariaDB capabilities
@@ -103,7 +111,7 @@ scramble_length data_length = max 13 (data_length - 8)
 -- ---- layout
 
 -- the 31 bytes, with what neighbouring fields need: the head, and the length of both scrambles
-unfoldable pub handshake_block : RawInt ℕ ℕ → List ℕ → Fields (Unit {0}) HandshakePacket (HandshakeHead × ℕ)
+unfoldable pub handshake_block : RawInt ℕ ℕ → List ℕ → Fields (Unit {0}) HandshakePacket (Head × ℕ)
 handshake_block protocol_version server_version = do
   connection_id ← field (λ p. p.head.connection_id) u32
   scramble_1 ← field (λ p. p.head.scramble_1) (byte_array 8)
@@ -133,7 +141,7 @@ handshake_block protocol_version server_version = do
   )
 
 -- the versions, and 31 bytes
-unfoldable pub handshake_head : Fields (Unit {0}) HandshakePacket (HandshakeHead × ℕ)
+unfoldable pub handshake_head : Fields (Unit {0}) HandshakePacket (Head × ℕ)
 unfolding handshake_block
 handshake_head = do
   protocol_version ← field (λ p. p.head.protocol_version) u8

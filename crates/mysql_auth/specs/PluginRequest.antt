@@ -1,10 +1,13 @@
 -- Requests for a plugin: the switch to it, and the next factor with it.
 use Rattle.std.specs.Prelude.{◌≡◌, ℕ, List, None, Bool, ◌&&◌, nat_eq, refl}
-use Rattle.std.specs.Cmp.{IsPartialEquivalence, IsEquivalence, and_per, on_per, and_equiv, on_equiv, partial_equiv_from_equiv}
-use Rattle.std.specs.Cmp.Lexicographic.{pointwise, nat_list_eq_equiv}
+use Rattle.std.specs.Cmp.Lexicographic.{pointwise}
 use Rattle.mysql_wire.specs.Codec.{Codec, Fields}
 use Rattle.mysql_wire.specs.Codecs.{◌>>=◌, give, field, packet, const_u8, string_null, string_eof}
-use Rattle.mysql_auth.specs.declared.plugin_request.PluginRequest.{PluginRequest}
+use Rattle.mysql_auth.specs.declared.plugin_request.PluginRequestOf.{PluginRequestOf}
+
+-- the owned and the borrowed form in a clause
+abbrev pub PluginRequest : Type 0 → ℕ → Type 0
+PluginRequest T first = PluginRequestOf (List ℕ) (List ℕ) T first
 
 -- the plugin name and data, as they are in the packet
 abbrev pub plugin_name : {T : Type 0} {first : ℕ} → PluginRequest T first → List ℕ
@@ -20,12 +23,6 @@ request_of name content = record { header = record { 0 = record {} }; auth_plugi
 -- the same name with the same data
 abbrev pub request_eq : {T : Type 0} {first : ℕ} → PluginRequest T first → PluginRequest T first → Bool
 request_eq p q = pointwise nat_eq p.auth_plugin q.auth_plugin && pointwise nat_eq p.plugin_data q.plugin_data
-
-pub request_per : {T : Type 0} {first : ℕ} → IsPartialEquivalence (request_eq {T = T} {first = first})
-request_per = let texts = partial_equiv_from_equiv nat_list_eq_equiv in and_per (on_per plugin_name texts) (on_per plugin_data texts)
-
-pub request_equiv : {T : Type 0} {first : ℕ} → IsEquivalence (request_eq {T = T} {first = first})
-request_equiv = and_equiv (on_equiv plugin_name nat_list_eq_equiv) (on_equiv plugin_data nat_list_eq_equiv)
 
 -- the first byte, the plugin name with a zero, and the plugin data to the end
 abbrev pub plugin_request_fields : {T : Type 0} (first : ℕ) → Fields (Unit {0}) (PluginRequest T first) (PluginRequest T first)

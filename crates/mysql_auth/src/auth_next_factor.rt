@@ -2,8 +2,7 @@
 #![tactic(auto)]
 
 use crate::faults::InvalidAuthNextFactorHeader;
-use crate::plugin_request::{PluginRequest, PluginRequestHeader};
-use crate::plugin_request_ref::PluginRequestRef;
+use crate::plugin_request::{PluginRequest, PluginRequestHeader, PluginRequestRef};
 use mysql_wire::ConstU8;
 
 impl PluginRequestHeader for InvalidAuthNextFactorHeader {

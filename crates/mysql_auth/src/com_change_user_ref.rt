@@ -12,9 +12,8 @@ ghost use Rattle.mysql_auth.specs.ComChangeUser.{change_of};
 use crate::com_change_user::{ComChangeUser, ComChangeUserHeader};
 use crate::com_change_user_more_data::ComChangeUserMoreData;
 use crate::com_change_user_more_data_ref::ComChangeUserMoreDataRef;
-use crate::handshake_head_ref::{bytes_of, shown};
 use mysql_wire::{
-    AnyWidth, BytesRepr, CapabilityFlags, ConstU8, FaultOf, MyDeserialize, NullBytes, ParseBuf,
+    AnyWidth, BytesRef, CapabilityFlags, ConstU8, FaultOf, MyDeserialize, NullBytes, ParseBuf,
     RawBytes, U8Bytes,
 };
 use std::alloc::{AllocError, Global};
@@ -35,9 +34,9 @@ use std::marker::Model;
 /// ```
 #[derive(Drop)]
 pub struct ComChangeUserRef<'a> {
-    user: ParseBuf<'a>,
-    auth_plugin_data: ParseBuf<'a>,
-    database: ParseBuf<'a>,
+    user: BytesRef<'a>,
+    auth_plugin_data: BytesRef<'a>,
+    database: BytesRef<'a>,
     more_data: Option<ComChangeUserMoreDataRef<'a>>,
 }
 
@@ -53,7 +52,7 @@ impl<'a> ComChangeUserRef<'a> {
     pub fn user(&self) -> &'a [u8]
         ensures value { result.now ≡ spec.user self.now }
     {
-        bytes_of(&self.user)
+        self.user.as_bytes()
     }
 
     /// The authentication response.
@@ -61,7 +60,7 @@ impl<'a> ComChangeUserRef<'a> {
     pub fn auth_plugin_data(&self) -> &'a [u8]
         ensures value { result.now ≡ spec.auth_plugin_data self.now }
     {
-        bytes_of(&self.auth_plugin_data)
+        self.auth_plugin_data.as_bytes()
     }
 
     /// The database's name, which may be empty.
@@ -69,7 +68,7 @@ impl<'a> ComChangeUserRef<'a> {
     pub fn database(&self) -> &'a [u8]
         ensures value { result.now ≡ spec.database self.now }
     {
-        bytes_of(&self.database)
+        self.database.as_bytes()
     }
 
     /// The optional fields, if they were sent.
@@ -118,9 +117,9 @@ impl<'a> ComChangeUserRef<'a> {
         ensures value { Answers false result buf.new (before_more_data.reads buf.old) }
     {
         let _header: ComChangeUserHeader = buf.parse(())?;
-        let user = <NullBytes as BytesRepr>::deserialize((), buf)?;
-        let auth_plugin_data = <U8Bytes as BytesRepr>::deserialize((), buf)?;
-        let database = <NullBytes as BytesRepr>::deserialize((), buf)?;
+        let user = BytesRef::read::<NullBytes>((), buf)?;
+        let auth_plugin_data = BytesRef::read::<U8Bytes>((), buf)?;
+        let database = BytesRef::read::<NullBytes>((), buf)?;
         Ok(ComChangeUserRef {
             user,
             auth_plugin_data,
@@ -141,9 +140,9 @@ impl Clone for ComChangeUserRef<'_> {
             None => None,
         };
         Ok(ComChangeUserRef {
-            user: self.user.rest(),
-            auth_plugin_data: self.auth_plugin_data.rest(),
-            database: self.database.rest(),
+            user: self.user.clone()?,
+            auth_plugin_data: self.auth_plugin_data.clone()?,
+            database: self.database.clone()?,
             more_data,
         })
     }
@@ -153,9 +152,9 @@ impl Clone for ComChangeUserRef<'_> {
 impl Debug for ComChangeUserRef<'_> {
     fn fmt<W: fmt::Write>(&self, f: &mut fmt::Formatter<W>) -> fmt::Result {
         f.debug_struct("ComChangeUserRef")
-            .field("user", &shown(self.user()))
-            .field("auth_plugin_data", &shown(self.auth_plugin_data()))
-            .field("database", &shown(self.database()))
+            .field("user", &self.user)
+            .field("auth_plugin_data", &self.auth_plugin_data)
+            .field("database", &self.database)
             .field("more_data", &self.more_data)
             .finish()
     }

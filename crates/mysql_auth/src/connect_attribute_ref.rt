@@ -4,8 +4,7 @@
 ghost use Rattle.std.specs.Prelude.{◌≡◌, refl, ⊤};
 ghost use Rattle.mysql_auth.specs.Attributes as spec;
 
-use crate::handshake_head_ref::shown;
-use mysql_wire::{AnyWidth, BytesRepr, FaultOf, LenEnc, MyDeserialize, ParseBuf};
+use mysql_wire::{AnyWidth, BytesRef, BytesRepr, FaultOf, LenEnc, MyDeserialize, ParseBuf};
 use std::alloc::AllocError;
 use std::fmt;
 use std::fmt::Debug;
@@ -88,8 +87,8 @@ impl Eq for ConnectAttributeRef<'_> {
 impl Debug for ConnectAttributeRef<'_> {
     fn fmt<W: fmt::Write>(&self, f: &mut fmt::Formatter<W>) -> fmt::Result {
         f.debug_struct("ConnectAttributeRef")
-            .field("key", &shown(self.key))
-            .field("value", &shown(self.value))
+            .field("key", &BytesRef::new(self.key))
+            .field("value", &BytesRef::new(self.value))
             .finish()
     }
 }

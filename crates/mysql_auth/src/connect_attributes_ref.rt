@@ -12,8 +12,7 @@ ghost use Rattle.std.specs.Iterator.{at_most};
 
 use crate::attributes::{Attributes, read_pairs};
 use crate::connect_attribute_ref::ConnectAttributeRef;
-use crate::handshake_head_ref::shown;
-use mysql_wire::{BytesRepr, Fault, FaultOf, LenEnc, ParseBuf};
+use mysql_wire::{BytesRef, BytesRepr, Fault, FaultOf, LenEnc, ParseBuf};
 use std::alloc::{AllocError, Global};
 use std::fmt;
 use std::fmt::Debug;
@@ -198,7 +197,7 @@ impl Debug for ConnectAttributesRef<'_> {
     fn fmt<W: fmt::Write>(&self, f: &mut fmt::Formatter<W>) -> fmt::Result {
         let mut map = f.debug_map();
         for pair in self.iter() {
-            map.entry(&shown(pair.key()), &shown(pair.value()));
+            map.entry(&BytesRef::new(pair.key()), &BytesRef::new(pair.value()));
         }
         map.finish()
     }

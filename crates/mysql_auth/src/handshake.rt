@@ -17,14 +17,24 @@ use crate::version::{mariadb_server_version, server_version};
 use bitflags::Flags;
 use mysql_wire::{
     AnyWidth, BareBytes, CapabilityFlags, Const, FaultOf, MariadbCapabilities, MyDeserialize,
-    ParseBuf, Parts, RawBytes, RawInt, Sink, Skip, StatusFlags, parts,
+    NullBytes, ParseBuf, Parts, RawBytes, RawInt, Sink, Skip, StatusFlags, parts,
 };
 use std::alloc::{AllocError, Global};
 use std::borrow::{CowSlice, CowStr};
 use std::cmp::{max, min};
+use std::fmt;
+use std::fmt::Debug;
 
 /// The length of a plugin's scramble in bytes.
 const NONCE_LEN: usize = 20;
+
+/// A [`HandshakePacket`], whose version is a `V`, whose scrambles are an `S` and a `T`, and whose plugin's name is an `N`.
+#[derive(Clone, PartialEq, Eq, Hash)]
+pub struct HandshakePacketOf<V, S, T, N> {
+    pub(crate) head: HandshakeHead<V, S>,
+    pub(crate) scramble_2: Option<T>,
+    pub(crate) auth_plugin_name: Option<N>,
+}
 
 /// The initial handshake (`Protocol::HandshakeV10`).
 ///
@@ -51,21 +61,31 @@ const NONCE_LEN: usize = 20;
 /// let greeting: HandshakePacket<'_> = ParseBuf::new(connection.alloc, payload).parse(())?;
 /// let scramble = greeting.nonce(connection.alloc)?;
 /// ```
-#[derive(Clone, Debug, PartialEq, Eq, Hash)]
-pub struct HandshakePacket<'a> {
-    pub(crate) head: HandshakeHead<'a>,
-    pub(crate) scramble_2: Option<RawBytes<'a, BareBytes<247>>>,
-    pub(crate) auth_plugin_name: Option<RawBytes<'a, EofName>>,
-}
+pub type HandshakePacket<'a> = HandshakePacketOf<
+    RawBytes<'a, NullBytes>,
+    [u8; 8],
+    RawBytes<'a, BareBytes<247>>,
+    RawBytes<'a, EofName>,
+>;
 
-impl Drop for HandshakePacket<'_> {
+impl<V: Drop, S: Drop, T: Drop, N: Drop> Drop for HandshakePacketOf<V, S, T, N> {
     #[inline(always)]
     fn drop(self) {
-        let HandshakePacket {
+        let HandshakePacketOf {
             head: _,
             scramble_2: _,
             auth_plugin_name: _,
         } = self;
+    }
+}
+
+impl<V: Debug, S: Debug, T: Debug, N: Debug> Debug for HandshakePacketOf<V, S, T, N> {
+    fn fmt<W: fmt::Write>(&self, f: &mut fmt::Formatter<W>) -> fmt::Result {
+        f.debug_struct("HandshakePacket")
+            .field("head", &self.head)
+            .field("scramble_2", &self.scramble_2)
+            .field("auth_plugin_name", &self.auth_plugin_name)
+            .finish()
     }
 }
 
@@ -79,6 +99,57 @@ fn nonce_of(alloc: Global, scramble_1: &[u8], scramble_2: &[u8]) -> Result<Vec<u
     nonce.extend_from_slice(scramble_2)?;
     nonce.resize(NONCE_LEN, 0)?;
     Ok(nonce)
+}
+
+impl<V, S, T, N> HandshakePacketOf<V, S, T, N> {
+    /// The protocol's version.
+    #[inline]
+    pub fn protocol_version(&self) -> u8
+        ensures value { result ≡ spec.protocol_version self.now }
+    {
+        self.head.protocol_version.0
+    }
+
+    /// The connection id.
+    #[inline]
+    pub fn connection_id(&self) -> u32
+        ensures value { result ≡ spec.connection_id self.now }
+    {
+        self.head.connection_id.0
+    }
+
+    /// The server's capabilities.
+    #[inline]
+    pub fn capabilities(&self) -> CapabilityFlags
+        ensures value { result.0 ≡ spec.capabilities self.now }
+        ensures halves { spec.HalvesFit self.now }
+    {
+        self.head.capabilities()
+    }
+
+    /// The server's collation.
+    #[inline]
+    pub fn default_collation(&self) -> u8
+        ensures value { result ≡ spec.default_collation self.now }
+    {
+        self.head.default_collation.0
+    }
+
+    /// The status flags of the session.
+    #[inline]
+    pub fn status_flags(&self) -> StatusFlags
+        ensures value { result ≡ spec.status_flags self.now }
+    {
+        self.head.status_flags.0
+    }
+
+    /// The extended capabilities of a MariaDB server.
+    #[inline]
+    pub fn mariadb_ext_capabilities(&self) -> MariadbCapabilities
+        ensures value { result ≡ spec.mariadb_ext_capabilities self.now }
+    {
+        self.head.mariadb_capabilities.0
+    }
 }
 
 impl<'a> HandshakePacket<'a> {
@@ -106,7 +177,7 @@ impl<'a> HandshakePacket<'a> {
         ensures mariadb_ext_capabilities { (spec.mariadb_ext_capabilities result).0 ≡ 0 }
     {
         let bits = capabilities.bits();
-        HandshakePacket {
+        HandshakePacketOf {
             head: HandshakeHead {
                 protocol_version: RawInt::new(protocol_version),
                 server_version: RawBytes::new(server_version),
@@ -129,25 +200,18 @@ impl<'a> HandshakePacket<'a> {
     pub fn with_mariadb_ext_capabilities(self, flags: MariadbCapabilities) -> Self
         ensures value { result ≡ spec.with_mariadb flags self.entry }
     {
-        let HandshakePacket {
+        let HandshakePacketOf {
             head,
             scramble_2,
             auth_plugin_name,
         } = self;
         let mut head = head;
         head.mariadb_capabilities = Const::new(flags);
-        HandshakePacket {
+        HandshakePacketOf {
             head,
             scramble_2,
             auth_plugin_name,
         }
-    }
-
-    /// The protocol's version.
-    pub fn protocol_version(&self) -> u8
-        ensures value { result ≡ spec.protocol_version self.now }
-    {
-        self.head.protocol_version.0
     }
 
     /// The bytes of the server's version.
@@ -184,13 +248,6 @@ impl<'a> HandshakePacket<'a> {
         mariadb_server_version(self.server_version_ref())
     }
 
-    /// The connection id.
-    pub fn connection_id(&self) -> u32
-        ensures value { result ≡ spec.connection_id self.now }
-    {
-        self.head.connection_id.0
-    }
-
     /// The first scramble, of eight bytes.
     pub fn scramble_1_ref(&self) -> &[u8]
         ensures value { result.now ≡ spec.scramble_1 self.now }
@@ -199,33 +256,12 @@ impl<'a> HandshakePacket<'a> {
         &self.head.scramble_1
     }
 
-    /// The server's collation.
-    pub fn default_collation(&self) -> u8
-        ensures value { result ≡ spec.default_collation self.now }
-    {
-        self.head.default_collation.0
-    }
-
-    /// The status flags of the session.
-    pub fn status_flags(&self) -> StatusFlags
-        ensures value { result ≡ spec.status_flags self.now }
-    {
-        self.head.status_flags.0
-    }
-
-    /// The extended capabilities of a MariaDB server.
-    pub fn mariadb_ext_capabilities(&self) -> MariadbCapabilities
-        ensures value { result ≡ spec.mariadb_ext_capabilities self.now }
-    {
-        self.head.mariadb_capabilities.0
-    }
-
     /// Copies all texts, so that the handshake borrows nothing. Empty texts need no allocation.
     pub fn into_owned(self, alloc: Global) -> Result<HandshakePacket<'static>, AllocError>
         ensures value { IfOk result (λ owned. owned ≡ self.entry) }
         ensures no_memory { spec.HasNoTexts self.entry → IsOk result }
     {
-        let HandshakePacket {
+        let HandshakePacketOf {
             head,
             scramble_2,
             auth_plugin_name,
@@ -238,19 +274,11 @@ impl<'a> HandshakePacket<'a> {
             Some(name) => Some(name.into_owned(alloc)?),
             None => None,
         };
-        Ok(HandshakePacket {
+        Ok(HandshakePacketOf {
             head: head.into_owned(alloc)?,
             scramble_2,
             auth_plugin_name,
         })
-    }
-
-    /// The server's capabilities.
-    pub fn capabilities(&self) -> CapabilityFlags
-        ensures value { result.0 ≡ spec.capabilities self.now }
-        ensures halves { spec.HalvesFit self.now }
-    {
-        self.head.capabilities()
     }
 
     /// The second scramble, if one was sent.

@@ -12,13 +12,12 @@ ghost use Rattle.mysql_auth.specs.declared.handshake_response.HandshakeResponse.
 use crate::attributes::Attributes;
 use crate::auth_plugin::AuthPlugin;
 use crate::connect_attributes_ref::{ConnectAttributesRef, attributes_given, iter_given};
-use crate::handshake_head_ref::{bytes_of, place_given, shown};
 use crate::handshake_response::{HandshakeResponse, read_zstd_level};
 use crate::plugin_name::{AuthPluginRef, again_given, name_given, plugin_given};
 use crate::ssl_request::SslRequest;
 use bitflags::Flags;
 use mysql_wire::{
-    AnyWidth, BytesRepr, CapabilityFlags, FaultOf, LenEnc, MariadbCapabilities, MyDeserialize,
+    AnyWidth, BytesRef, CapabilityFlags, FaultOf, LenEnc, MariadbCapabilities, MyDeserialize,
     NullBytes, ParseBuf, RawBytes, RawInt, U8Bytes,
 };
 use std::alloc::{AllocError, Global};
@@ -39,9 +38,9 @@ use std::marker::Model;
 #[derive(Drop)]
 pub struct HandshakeResponseRef<'a> {
     pub(crate) head: SslRequest,
-    user: ParseBuf<'a>,
-    scramble_buf: ParseBuf<'a>,
-    db_name: Option<ParseBuf<'a>>,
+    user: BytesRef<'a>,
+    scramble_buf: BytesRef<'a>,
+    db_name: Option<BytesRef<'a>>,
     auth_plugin: Option<AuthPluginRef<'a>>,
     connect_attributes: Option<ConnectAttributesRef<'a>>,
     zstd_level: Option<RawInt<u8>>,
@@ -99,7 +98,7 @@ impl<'a> HandshakeResponseRef<'a> {
     pub fn user(&self) -> &'a [u8]
         ensures value { result.now ≡ spec.user self.now }
     {
-        bytes_of(&self.user)
+        self.user.as_bytes()
     }
 
     /// Like [`HandshakeResponse::scramble_buf`].
@@ -107,7 +106,7 @@ impl<'a> HandshakeResponseRef<'a> {
     pub fn scramble_buf(&self) -> &'a [u8]
         ensures value { result.now ≡ spec.scramble_buf self.now }
     {
-        bytes_of(&self.scramble_buf)
+        self.scramble_buf.as_bytes()
     }
 
     /// Like [`HandshakeResponse::db_name`].
@@ -116,7 +115,7 @@ impl<'a> HandshakeResponseRef<'a> {
         ensures value { option_map (λ s. s.now) result ≡ spec.db_name self.now }
     {
         match &self.db_name {
-            Some(name) => Some(bytes_of(name)),
+            Some(name) => Some(name.as_bytes()),
             None => None,
         }
     }
@@ -181,7 +180,7 @@ impl<'a> HandshakeResponseRef<'a> {
             user: RawBytes::new(CowSlice::Borrowed(self.user())),
             scramble_buf: RawBytes::new(CowSlice::Borrowed(self.scramble_buf())),
             db_name: match &self.db_name {
-                Some(name) => Some(RawBytes::new(CowSlice::Borrowed(bytes_of(name)))),
+                Some(name) => Some(RawBytes::new(CowSlice::Borrowed(name.as_bytes()))),
                 None => None,
             },
             auth_plugin: self.auth_plugin(),
@@ -209,7 +208,7 @@ impl<'a> HandshakeResponseRef<'a> {
         ensures value { Answers false result buf.new (before_attributes.reads buf.old) }
     {
         let head: SslRequest = buf.parse(())?;
-        let user = <NullBytes as BytesRepr>::deserialize((), buf)?;
+        let user = BytesRef::read::<NullBytes>((), buf)?;
         let scramble_buf = read_scramble(&head, buf)?;
         let db_name = read_database(&head, buf)?;
         let auth_plugin = read_plugin(&head, buf);
@@ -230,16 +229,16 @@ impl<'a> HandshakeResponseRef<'a> {
 fn read_scramble<'s, 'a>(
     head: &SslRequest,
     buf: &mut ParseBuf<'a>,
-) -> Result<ParseBuf<'a>, FaultOf<'s>>
+) -> Result<BytesRef<'a>, FaultOf<'s>>
     ensures value { Answers false result buf.new (((spec.scramble head.now).form tt).reads buf.old) }
 {
     let capabilities = head.capabilities();
     if capabilities.contains(CapabilityFlags::CLIENT_PLUGIN_AUTH_LENENC_CLIENT_DATA) {
-        <LenEnc as BytesRepr>::deserialize((), buf)
+        BytesRef::read::<LenEnc>((), buf)
     } else if capabilities.contains(CapabilityFlags::CLIENT_SECURE_CONNECTION) {
-        <U8Bytes as BytesRepr>::deserialize((), buf)
+        BytesRef::read::<U8Bytes>((), buf)
     } else {
-        <NullBytes as BytesRepr>::deserialize((), buf)
+        BytesRef::read::<NullBytes>((), buf)
     }
 }
 
@@ -248,7 +247,7 @@ fn read_scramble<'s, 'a>(
 fn read_database<'s, 'a>(
     head: &SslRequest,
     buf: &mut ParseBuf<'a>,
-) -> Result<Option<ParseBuf<'a>>, FaultOf<'s>>
+) -> Result<Option<BytesRef<'a>>, FaultOf<'s>>
     ensures value { Answers false result buf.new (((spec.database head.now).form tt).reads buf.old) }
 {
     if !head
@@ -257,7 +256,7 @@ fn read_database<'s, 'a>(
     {
         return Ok(None);
     }
-    Ok(Some(<NullBytes as BytesRepr>::deserialize((), buf)?))
+    Ok(Some(BytesRef::read::<NullBytes>((), buf)?))
 }
 
 /// Reads the plugin, if it was named.
@@ -299,9 +298,9 @@ impl Clone for HandshakeResponseRef<'_> {
     fn clone(&self) -> Result<Self, AllocError> {
         Ok(HandshakeResponseRef {
             head: self.head.again(),
-            user: self.user.rest(),
-            scramble_buf: self.scramble_buf.rest(),
-            db_name: place_given(&self.db_name),
+            user: self.user.clone()?,
+            scramble_buf: self.scramble_buf.clone()?,
+            db_name: self.db_name.clone()?,
             auth_plugin: again_given(&self.auth_plugin),
             connect_attributes: iter_given(&self.connect_attributes),
             zstd_level: self.level_again(),
@@ -312,15 +311,11 @@ impl Clone for HandshakeResponseRef<'_> {
 /// Prints the attributes as they were sent.
 impl Debug for HandshakeResponseRef<'_> {
     fn fmt<W: fmt::Write>(&self, f: &mut fmt::Formatter<W>) -> fmt::Result {
-        let db_name = match self.db_name() {
-            Some(name) => Some(shown(name)),
-            None => None,
-        };
         f.debug_struct("HandshakeResponseRef")
             .field("head", &self.head)
-            .field("user", &shown(self.user()))
-            .field("scramble_buf", &shown(self.scramble_buf()))
-            .field("db_name", &db_name)
+            .field("user", &self.user)
+            .field("scramble_buf", &self.scramble_buf)
+            .field("db_name", &self.db_name)
             .field("auth_plugin", &self.auth_plugin())
             .field("connect_attributes", &self.connect_attributes)
             .field("zstd_level", &self.zstd_level())

@@ -12,7 +12,7 @@ ghost use Rattle.mysql_auth.specs.declared.old_auth_switch_request.OldAuthSwitch
 ghost use Rattle.mysql_auth.specs.declared.public_key_request.PublicKeyRequest.{PublicKeyRequest};
 ghost use Rattle.mysql_auth.specs.declared.public_key_response.PublicKeyResponse.{PublicKeyResponse};
 ghost use Rattle.mysql_auth.specs.declared.ssl_request.SslRequest.{SslRequest};
-ghost use Rattle.mysql_auth.specs.declared.handshake.HandshakePacket.{HandshakePacket};
+ghost use Rattle.mysql_auth.specs.Handshake.{HandshakePacket, handshake, server_version, HandshakeFits};
 ghost use Rattle.mysql_auth.specs.declared.com_change_user.ComChangeUser.{ComChangeUser};
 ghost use Rattle.mysql_auth.specs.declared.com_change_user_more_data.ComChangeUserMoreData.{ComChangeUserMoreData};
 ghost use Rattle.mysql_auth.specs.declared.handshake_response.HandshakeResponse.{HandshakeResponse};
@@ -20,7 +20,6 @@ ghost use Rattle.mysql_wire.specs.Flags.{CapabilityFlags};
 ghost use Rattle.mysql_auth.specs.ComChangeUser.{change_user, connect_attributes, more_data, sends_attributes, session_change_user, session_more_data, ChangeUserFits, ChangeUserIsShort, ChangeUserPartsFit, MoreDataFits, MoreDataPartsFit, SessionChangeUserFits, SessionChangeUserPartsFit, SessionMoreDataFits, SessionMoreDataPartsFit};
 ghost use Rattle.mysql_auth.specs.HandshakeResponse.{handshake_response, HandshakeResponseFits, ResponseIsShort, ResponsePartsFit};
 ghost use Rattle.mysql_auth.specs.Version.{HasVersion, HasMariadbVersion};
-ghost use Rattle.mysql_auth.specs.Handshake.{handshake, server_version, HandshakeFits};
 ghost use Rattle.mysql_auth.specs.Attributes.{AreShortIn};
 ghost use Rattle.mysql_auth.specs.AuthMoreData.{auth_more_data};
 ghost use Rattle.mysql_auth.specs.AuthNextFactor.{auth_next_factor};

@@ -9,10 +9,9 @@ ghost use Rattle.mysql_auth.specs.PluginRequest as spec;
 
 use crate::auth_plugin::AuthPlugin;
 use crate::eof_name::without_last_zero;
-use crate::plugin_request_ref::PluginRequestRef;
 use mysql_wire::{
-    AnyWidth, ConstFault, ConstU8, EofBytes, FaultOf, MyDeserialize, NullBytes, ParseBuf, Parts,
-    RawBytes, Sink, parts,
+    AnyWidth, BytesRef, ConstFault, ConstU8, EofBytes, FaultOf, MyDeserialize, NullBytes, ParseBuf,
+    Parts, RawBytes, Sink, parts,
 };
 use std::alloc::{AllocError, Global};
 use std::borrow::CowSlice;
@@ -25,23 +24,41 @@ pub trait PluginRequestHeader: ConstFault {
     const NAME: &'static str;
 }
 
+/// A [`PluginRequest`], whose plugin's name is an `N` and whose data is a `D`.
+#[derive_where(Clone, PartialEq, Eq; N, D)]
+pub struct PluginRequestOf<N, D, T, const HEADER: u8> {
+    header: ConstU8<T, HEADER>,
+    auth_plugin: N,
+    plugin_data: D,
+}
+
 /// A server's request for a plugin: its first byte `HEADER`, the plugin's name, zero-terminated, and the
 /// plugin's data to the end of the packet.
 ///
 /// [`AuthSwitchRequest`](crate::AuthSwitchRequest) and [`AuthNextFactor`](crate::AuthNextFactor) are types of
 /// this form. A packet that begins with another byte is `InvalidData`; an empty one, or a name without its
 /// zero, is `UnexpectedEof`.
-#[derive_where(Clone)]
-pub struct PluginRequest<'a, T, const HEADER: u8> {
-    header: ConstU8<T, HEADER>,
-    auth_plugin: RawBytes<'a, NullBytes>,
-    plugin_data: RawBytes<'a, EofBytes>,
-}
+pub type PluginRequest<'a, T, const HEADER: u8> = PluginRequestOf<
+    RawBytes<'a, NullBytes>,
+    RawBytes<'a, EofBytes>,
+    T,
+    HEADER,
+>;
 
-impl<T, const HEADER: u8> Drop for PluginRequest<'_, T, HEADER> {
+/// A server's request for a plugin, whose texts stay in the packet: a [`PluginRequest`] for as long as the packet lives.
+///
+/// It is read from the same bytes with the same faults, and in a clause it is that request.
+pub type PluginRequestRef<'a, T, const HEADER: u8> = PluginRequestOf<
+    BytesRef<'a>,
+    BytesRef<'a>,
+    T,
+    HEADER,
+>;
+
+impl<N: Drop, D: Drop, T, const HEADER: u8> Drop for PluginRequestOf<N, D, T, HEADER> {
     #[inline(always)]
     fn drop(self) {
-        let PluginRequest {
+        let PluginRequestOf {
             header: _,
             auth_plugin: _,
             plugin_data: _,
@@ -55,7 +72,7 @@ impl<'a, T, const HEADER: u8> PluginRequest<'a, T, HEADER> {
     pub fn new(auth_plugin: CowSlice<'a, u8>, plugin_data: CowSlice<'a, u8>) -> Self
         ensures value { result ≡ spec.request_of (cow_slice_items auth_plugin.entry) (cow_slice_items plugin_data.entry) }
     {
-        PluginRequest {
+        PluginRequestOf {
             header: ConstU8::new(),
             auth_plugin: RawBytes::new(auth_plugin),
             plugin_data: RawBytes::new(plugin_data),
@@ -99,12 +116,12 @@ impl<'a, T, const HEADER: u8> PluginRequest<'a, T, HEADER> {
         ensures value { IfOk result (λ owned. owned ≡ self.entry) }
         ensures no_memory { spec.plugin_name self.entry ≡ [] → spec.plugin_data self.entry ≡ [] → IsOk result }
     {
-        let PluginRequest {
+        let PluginRequestOf {
             header,
             auth_plugin,
             plugin_data,
         } = self;
-        Ok(PluginRequest {
+        Ok(PluginRequestOf {
             header,
             auth_plugin: auth_plugin.into_owned(alloc)?,
             plugin_data: plugin_data.into_owned(alloc)?,
@@ -112,21 +129,53 @@ impl<'a, T, const HEADER: u8> PluginRequest<'a, T, HEADER> {
     }
 }
 
-impl<T, const HEADER: u8> PartialEq for PluginRequest<'_, T, HEADER> {
-    ghost eq = { spec.request_eq };
+impl<'a, T, const HEADER: u8> PluginRequestRef<'a, T, HEADER> {
+    /// The name of the requested plugin.
+    #[inline]
+    pub fn auth_plugin_name(&self) -> &'a [u8]
+        ensures value { result.now ≡ spec.plugin_name self.now }
+    {
+        self.auth_plugin.as_bytes()
+    }
 
-    ghost laws = { spec.request_per };
+    /// The requested plugin: the one to switch to, or that of the next factor.
+    #[inline]
+    pub fn auth_plugin(&self) -> AuthPlugin<'a>
+        ensures value { result ≡ plugin_of (spec.plugin_name self.now) }
+    {
+        AuthPlugin::from_bytes(self.auth_plugin.as_bytes())
+    }
 
-    fn eq(&self, other: &Self) -> bool {
-        self.auth_plugin == other.auth_plugin && self.plugin_data == other.plugin_data
+    /// The plugin's data without one zero at its end, like [`PluginRequest::plugin_data`].
+    #[inline]
+    pub fn plugin_data(&self) -> &'a [u8]
+        ensures value { result.now ≡ without_last_zero (spec.plugin_data self.now) }
+    {
+        without_last_zero(self.plugin_data.as_bytes())
+    }
+
+    /// All of the plugin's data: the bytes after the zero of the plugin's name, to the end of the packet.
+    #[inline]
+    pub fn plugin_data_raw(&self) -> &'a [u8]
+        ensures value { result.now ≡ spec.plugin_data self.now }
+    {
+        self.plugin_data.as_bytes()
+    }
+
+    /// Converts to a [`PluginRequest`], which still borrows the texts. It takes no memory.
+    #[inline]
+    pub fn to_packet(&self) -> PluginRequest<'a, T, HEADER>
+        ensures value { result ≡ self.now }
+    {
+        PluginRequest::new(
+            CowSlice::Borrowed(self.auth_plugin.as_bytes()),
+            CowSlice::Borrowed(self.plugin_data.as_bytes()),
+        )
     }
 }
 
-impl<T, const HEADER: u8> Eq for PluginRequest<'_, T, HEADER> {
-    ghost laws = { spec.request_equiv };
-}
-
-impl<T: PluginRequestHeader, const HEADER: u8> Debug for PluginRequest<'_, T, HEADER> {
+impl<N: Debug, D: Debug, T: PluginRequestHeader, const HEADER: u8> Debug
+    for PluginRequestOf<N, D, T, HEADER> {
     fn fmt<W: fmt::Write>(&self, f: &mut fmt::Formatter<W>) -> fmt::Result {
         f.debug_struct(T::NAME)
             .field("header", &self.header)
@@ -134,6 +183,29 @@ impl<T: PluginRequestHeader, const HEADER: u8> Debug for PluginRequest<'_, T, HE
             .field("plugin_data", &self.plugin_data)
             .finish()
     }
+}
+
+/// Read like a [`PluginRequest`].
+impl<'de, T: ConstFault, const HEADER: u8> MyDeserialize<'de> for PluginRequestRef<'de, T, HEADER> {
+    const SIZE: Option<usize> = None;
+
+    type Size = AnyWidth;
+
+    type Ctx = ();
+
+    ghost form = { (spec.plugin_request HEADER).form };
+
+    #[inline]
+    fn deserialize<'s>(_ctx: (), buf: &mut ParseBuf<'de>) -> Result<Self, FaultOf<'s>> {
+        let header: ConstU8<T, HEADER> = buf.parse(())?;
+        Ok(PluginRequestOf {
+            header,
+            auth_plugin: BytesRef::read::<NullBytes>((), buf)?,
+            plugin_data: buf.parse(())?,
+        })
+    }
+
+    ghost size_is = { λ _. spec.size-plugin_request _ HEADER };
 }
 
 impl<'de, T: ConstFault, const HEADER: u8> MyDeserialize<'de> for PluginRequest<'de, T, HEADER> {

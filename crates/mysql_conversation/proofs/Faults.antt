@@ -7,7 +7,7 @@ use Rattle.mysql_wire.specs.declared.fault.FaultOf.TheVariants as fault
 use Rattle.mysql_replies.specs.declared.ok_packet.OkPacketDeserializer.{OkPacketDeserializer}
 use Rattle.mysql_stmt.specs.declared.stmt_with_metadata.StmtPacketWithMetadata.{StmtPacketWithMetadata}
 use Rattle.mysql_replies.specs.declared.column_count.ColumnCount.{ColumnCount}
-use Rattle.mysql_auth.specs.declared.handshake.HandshakePacket.{HandshakePacket}
+use Rattle.mysql_auth.specs.Handshake.{HandshakePacket}
 use Rattle.mysql_auth.specs.declared.ssl_request.SslRequest.{SslRequest}
 use Rattle.mysql_conversation.specs.SessionSteps.{greeting_in, login_in}
 use Rattle.mysql_conversation.specs.Machine.{status_in, count_in, statement_in}

@@ -3,9 +3,8 @@ use Rattle.std.proofs.Common.{◌≡◌, ℕ, List, [], ◌∷◌, ◌++◌, ◌
 use Rattle.std.proofs.lemmas.Bool.{and_parts}
 use Rattle.std.specs.Prelude.{◌≢◌, ◌==◌, not, ◌&&◌, Option}
 use Rattle.mysql_wire.specs.Reading.{Reading}
-use Rattle.mysql_auth.specs.Handshake.{handshake}
+use Rattle.mysql_auth.specs.Handshake.{HandshakePacket, handshake}
 use Rattle.mysql_auth.specs.SslRequest.{ssl_request}
-use Rattle.mysql_auth.specs.declared.handshake.HandshakePacket.{HandshakePacket}
 use Rattle.mysql_auth.specs.declared.ssl_request.SslRequest.{SslRequest}
 use Rattle.mysql_conversation.specs.Agreements.{Agreed, agreed_on}
 use Rattle.mysql_conversation.specs.Payloads.{first_is}

@@ -3,11 +3,10 @@ use Rattle.std.specs.Prelude.{◌≡◌, ◌⊎◌, ℕ, List, [], ◌∷◌, �
 use Rattle.std.specs.List.{list_any}
 use Rattle.mysql_wire.specs.FlagMasks.{CLIENT_SSL}
 use Rattle.mysql_wire.specs.Flags.{has}
-use Rattle.mysql_auth.specs.Handshake.{handshake}
+use Rattle.mysql_auth.specs.Handshake.{HandshakePacket, handshake}
 use Rattle.mysql_auth.specs.Handshake as greeting
 use Rattle.mysql_auth.specs.SslRequest.{ssl_request}
 use Rattle.mysql_auth.specs.SslRequest as head
-use Rattle.mysql_auth.specs.declared.handshake.HandshakePacket.{HandshakePacket}
 use Rattle.mysql_auth.specs.declared.ssl_request.SslRequest.{SslRequest}
 use Rattle.mysql_conversation.specs.Agreements.{Agreed, agreed_on, compresses}
 use Rattle.mysql_conversation.specs.PacketKindTag.{name_of}

@@ -1,9 +1,8 @@
 -- What the packets before a conversation say by themselves, and the session's step for each.
 use Rattle.std.specs.Prelude.{◌≡◌, ◌⊎◌, ℕ, List, [], Bool, true, false, Option, Some, None, Ok, Err, if◌then◌else◌}
 use Rattle.mysql_wire.specs.Reading.{Reading}
-use Rattle.mysql_auth.specs.Handshake.{handshake}
+use Rattle.mysql_auth.specs.Handshake.{HandshakePacket, handshake}
 use Rattle.mysql_auth.specs.SslRequest.{ssl_request}
-use Rattle.mysql_auth.specs.declared.handshake.HandshakePacket.{HandshakePacket}
 use Rattle.mysql_auth.specs.declared.ssl_request.SslRequest.{SslRequest}
 use Rattle.mysql_conversation.specs.Agreements.{Agreed, agreed_on, compresses}
 use Rattle.mysql_conversation.specs.Payloads.{first_is}

@@ -19,12 +19,11 @@ use Rattle.mysql_replies.specs.GreetingError.{greeting_error}
 use Rattle.mysql_replies.specs.LocalInfile.{local_infile}
 use Rattle.mysql_replies.specs.OkKind.{common_ok_body, terminator_body, old_eof_body}
 use Rattle.mysql_replies.specs.OkPacket.{ok_packet, packet}
-use Rattle.mysql_replies.specs.ProgressReport.{progress_report}
+use Rattle.mysql_replies.specs.ProgressReport.{ProgressReport, progress_report}
 use Rattle.mysql_replies.specs.declared.ok_kind.CommonOkPacket.{CommonOkPacket}
 use Rattle.mysql_replies.specs.declared.ok_kind.OldEofPacket.{OldEofPacket}
 use Rattle.mysql_replies.specs.declared.ok_kind.ResultSetTerminator.{ResultSetTerminator}
 use Rattle.mysql_replies.specs.declared.ok_packet.OkPacket.{OkPacket}
-use Rattle.mysql_replies.specs.declared.progress_report.ProgressReport.{ProgressReport}
 use Rattle.mysql_replies.specs.declared.session_capabilities.SessionCapabilities.{SessionCapabilities}
 use Rattle.mysql_conversation.specs.declared.packet_kind.RowFormat.TheVariants.{Text, Binary}
 use Rattle.mysql_conversation.specs.declared.packet_kind.PacketKind.{PacketKind}

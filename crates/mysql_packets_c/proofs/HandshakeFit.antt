@@ -2,7 +2,7 @@
 use Rattle.std.proofs.Common.{ℕ, zero, suc, List, [], ◌∷◌, length, Bool, true, false, IsTrue, not, nat_le, ◌&&◌, ◌==◌, refl, arith}
 use Rattle.std.proofs.lemmas.Bool.{leb-true}
 use Rattle.mysql_auth.specs.Handshake as handshake
-use Rattle.mysql_auth.specs.declared.handshake.HandshakePacket.{HandshakePacket}
+use Rattle.mysql_auth.specs.Handshake.{HandshakePacket}
 use Rattle.mysql_wire.specs.Null.{HasNoZero}
 use Rattle.mysql_auth.specs.PluginName.{has_zero}
 use Rattle.mysql_packets_c.specs.Handshake.{sends_scramble, sends_name, scramble_fits, name_fits, handshake_fits, if_sent, IsSent}

@@ -1,7 +1,6 @@
 -- The switch to another plugin, and the request for the next factor, in C.
 use Rattle.std.specs.Prelude.{◌≡◌, ℕ, List}
-use Rattle.mysql_auth.specs.PluginRequest.{plugin_name, plugin_data}
-use Rattle.mysql_auth.specs.declared.plugin_request.PluginRequest.{PluginRequest}
+use Rattle.mysql_auth.specs.PluginRequest.{PluginRequest, plugin_name, plugin_data}
 use Rattle.mysql_packets_c.specs.declared.auth_switch.CAuthSwitch.{CAuthSwitch}
 
 -- the plugin's name and data

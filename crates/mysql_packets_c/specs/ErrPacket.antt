@@ -2,14 +2,12 @@
 use Rattle.std.specs.Option.{unwrap_or}
 use Rattle.std.specs.Prelude.{◌≡◌, ℕ, List, [], option_map, Option}
 use Rattle.mysql_replies.specs.ProgressReport as report
-use Rattle.mysql_replies.specs.ProgressReport.{report_of}
+use Rattle.mysql_replies.specs.ProgressReport.{ProgressReport, report_of}
 use Rattle.mysql_replies.specs.ServerError as error
-use Rattle.mysql_replies.specs.ServerError.{error_of}
+use Rattle.mysql_replies.specs.ServerError.{ServerError, error_of}
 use Rattle.mysql_replies.specs.SqlState.{state_bytes}
-use Rattle.mysql_replies.specs.declared.err_packet.ErrPacket.{ErrPacket}
-use Rattle.mysql_replies.specs.declared.err_packet.ErrPacket.TheVariants as err
-use Rattle.mysql_replies.specs.declared.progress_report.ProgressReport.{ProgressReport}
-use Rattle.mysql_replies.specs.declared.server_error.ServerError.{ServerError}
+use Rattle.mysql_replies.specs.ErrPacket.{ErrPacket}
+use Rattle.mysql_replies.specs.declared.err_packet.ErrPacketOf.TheVariants as err
 use Rattle.mysql_replies.specs.declared.sql_state.SqlState.{SqlState}
 use Rattle.mysql_packets_c.specs.Input.{used_of}
 use Rattle.mysql_packets_c.specs.declared.err_packet.CError.{CError}

@@ -3,7 +3,7 @@ use Rattle.std.specs.Option.{unwrap_or}
 use Rattle.std.specs.Prelude.{◌≡◌, ℕ, List, [], ◌∷◌, length, Option, Some, None, Bool, true, false, if◌then◌else◌, not, ◌&&◌, ◌||◌, ◌==◌, nat_le}
 use Rattle.mysql_auth.specs.Handshake as handshake
 use Rattle.mysql_auth.specs.PluginName.{has_zero}
-use Rattle.mysql_auth.specs.declared.handshake.HandshakePacket.{HandshakePacket}
+use Rattle.mysql_auth.specs.Handshake.{HandshakePacket}
 use Rattle.mysql_packets_c.specs.Input.{used_of}
 use Rattle.mysql_packets_c.specs.Output.{PutsUnlessTooLong}
 use Rattle.mysql_packets_c.specs.declared.handshake.CHandshake.{CHandshake}

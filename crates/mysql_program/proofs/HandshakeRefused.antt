@@ -3,7 +3,7 @@ use Rattle.std.proofs.Common.{[], Bool}
 use Rattle.mysql_wire.specs.declared.fault.FaultOf.{FaultOf}
 use Rattle.mysql_wire.specs.declared.fault.FaultOf.TheVariants as fault
 use Rattle.mysql_wire.specs.Reading.{Reading, Faults}
-use Rattle.mysql_auth.specs.declared.handshake.HandshakePacket.{HandshakePacket}
+use Rattle.mysql_auth.specs.Handshake.{HandshakePacket}
 use Rattle.mysql_program.specs.Answer.{Answer, IsFaultRefusal}
 use Rattle.mysql_program.specs.HandshakeLines.{AnswersReading}
 

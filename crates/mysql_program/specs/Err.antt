@@ -1,9 +1,8 @@
 -- The command `err`.
 use Rattle.std.specs.Prelude.{ℕ, List, ◌∷◌, [], ◌++◌, codes}
 use Rattle.mysql_wire.specs.Flags.{CapabilityFlags}
-use Rattle.mysql_replies.specs.declared.err_packet.ErrPacket.{ErrPacket}
-use Rattle.mysql_replies.specs.declared.err_packet.ErrPacket.TheVariants as err
-use Rattle.mysql_replies.specs.ErrPacket.{err_packet, err_text}
+use Rattle.mysql_replies.specs.ErrPacket.{ErrPacket, err_packet, err_text}
+use Rattle.mysql_replies.specs.declared.err_packet.ErrPacketOf.TheVariants as err
 use Rattle.mysql_show.specs.Fields.{said, Word}
 use Rattle.mysql_show.specs.FieldText.{lines_of}
 use Rattle.mysql_show.specs.Replies.{error_fields, report_fields}

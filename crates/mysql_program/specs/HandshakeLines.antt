@@ -1,8 +1,7 @@
 -- The command `handshake`.
 use Rattle.std.specs.Prelude.{◌≡◌, ℕ, List, ◌∷◌, [], ◌++◌, length, Option, Some, None, Ok, Err, codes, decimal}
 use Rattle.mysql_wire.specs.Reading.{Reading}
-use Rattle.mysql_auth.specs.declared.handshake.HandshakePacket.{HandshakePacket}
-use Rattle.mysql_auth.specs.Handshake.{handshake, server_version}
+use Rattle.mysql_auth.specs.Handshake.{HandshakePacket, handshake, server_version}
 use Rattle.mysql_auth.specs.Version.{HasVersion, IsMariadbVersion}
 use Rattle.mysql_show.specs.Fields.{said, Word}
 use Rattle.mysql_show.specs.FieldText.{lines_of, or_none}

@@ -8,8 +8,8 @@ use Rattle.mysql_replies.specs.ExtendedColumn as extended
 use Rattle.mysql_replies.specs.FieldListColumn as listed
 use Rattle.mysql_replies.specs.FieldListColumn.{Definition}
 use Rattle.mysql_replies.specs.GreetingError.{error_of_greeting}
-use Rattle.mysql_replies.specs.declared.err_packet.ErrPacket.{ErrPacket}
-use Rattle.mysql_replies.specs.declared.err_packet.ErrPacket.TheVariants as err
+use Rattle.mysql_replies.specs.ErrPacket.{ErrPacket}
+use Rattle.mysql_replies.specs.declared.err_packet.ErrPacketOf.TheVariants as err
 use Rattle.mysql_replies.specs.declared.extended_column.ExtendedColumn.{ExtendedColumn}
 use Rattle.mysql_values.specs.Value.{Content, NULL, Bytes as ByteString}
 use Rattle.mysql_observer.specs.declared.server.ServerPacket.{ServerPacket}

@@ -1,27 +1,40 @@
 -- Packets compare equal exactly if they are equal.
-use Rattle.std.proofs.Common.{◌≡◌, ◌↔◌, Decides, IsTrue, true, refl, ap, subst, rules}
+use Rattle.std.proofs.Common.{◌≡◌, ◌↔◌, ◌&&◌, nat_eq, Bool, false, Decides, IsTrue, true, refl, ap, subst, rules}
 use Rattle.std.proofs.lemmas.Bool.Decides.{Decides-and}
+use Rattle.std.specs.Cmp.Lexicographic.{pointwise}
+use Rattle.std.specs.Option.{option_eq}
 use Rattle.mysql_wire.specs.contracts.codes.session_state_type.SessionStateType.{the_type}
-use Rattle.mysql_replies.specs.contracts.err_packet.ErrPacketPartialEq.TheImpl as derived_packet
 use Rattle.mysql_replies.specs.contracts.local_infile.LocalInfilePacketPartialEq.TheImpl as derived_infile
 use Rattle.mysql_replies.specs.contracts.ok_packet.OkPacketPartialEq.TheImpl as derived_ok
-use Rattle.mysql_replies.specs.contracts.progress_report.ProgressReportPartialEq.TheImpl as derived_report
-use Rattle.mysql_replies.specs.contracts.server_error.ServerErrorPartialEq.TheImpl as derived_error
 use Rattle.mysql_replies.specs.contracts.session_state_info.SessionStateInfoPartialEq.TheImpl as derived_info
-use Rattle.mysql_replies.specs.declared.err_packet.ErrPacket.{ErrPacket}
-use Rattle.mysql_replies.specs.declared.err_packet.ErrPacket.TheVariants as err
+use Rattle.mysql_replies.specs.ErrPacket.{ErrPacket}
+use Rattle.mysql_replies.specs.declared.err_packet.ErrPacketOf.TheVariants as err
 use Rattle.mysql_replies.specs.declared.local_infile.LocalInfilePacket.{LocalInfilePacket}
 use Rattle.mysql_replies.specs.declared.ok_packet.OkPacket.{OkPacket}
-use Rattle.mysql_replies.specs.declared.progress_report.ProgressReport.{ProgressReport}
-use Rattle.mysql_replies.specs.declared.server_error.ServerError.{ServerError}
+use Rattle.mysql_replies.specs.ProgressReport.{ProgressReport, report_of}
+use Rattle.mysql_replies.specs.ServerError.{ServerError, error_of}
 use Rattle.mysql_replies.specs.declared.session_state_info.SessionStateInfo.{SessionStateInfo}
 use Rattle.mysql_replies.specs.declared.sql_state.SqlState.{SqlState}
 use Rattle.mysql_replies.specs.contracts.sql_state.SqlStatePartialEq.TheImpl as derived_state
 use Rattle.mysql_replies.specs.LocalInfile.{file_name, request_for}
-use Rattle.mysql_replies.specs.ProgressReport.{report_of}
-use Rattle.mysql_replies.specs.ServerError.{error_of}
 use Rattle.mysql_replies.specs.SqlState.{state_of}
 use Rattle.mysql_session.proofs.Same.{and-true, numbers-same, bytes-same, codes-same, options-same}
+
+-- ---- what the derived equality of a record of both forms computes
+
+abbrev report_eq : ProgressReport → ProgressReport → Bool
+report_eq a b =
+    (nat_eq a.stage.0 b.stage.0 && true) && ((nat_eq a.max_stage.0 b.max_stage.0 && true) && ((nat_eq a.progress.0 b.progress.0 && true)
+    && pointwise nat_eq a.stage_info b.stage_info))
+
+abbrev pub error_eq : ServerError → ServerError → Bool
+error_eq a b = nat_eq a.code b.code && (option_eq derived_state.ghosts.eq a.state b.state && pointwise nat_eq a.message b.message)
+
+abbrev packet_eq : ErrPacket → ErrPacket → Bool
+packet_eq (err.Error a) (err.Error b) = error_eq a b
+packet_eq (err.Error a) (err.Progress b) = false
+packet_eq (err.Progress a) (err.Error b) = false
+packet_eq (err.Progress a) (err.Progress b) = report_eq a b
 
 info-each : (a b : SessionStateInfo) → Decides (derived_info.ghosts.eq a b) ((a.data_type.0 ≡ b.data_type.0) × (a.content ≡ b.content))
 info-each a b = Decides-and _ _ (and-true _ (codes-same the_type (search rules) a.data_type.0 b.data_type.0)) (bytes-same a.content b.content)
@@ -38,15 +51,15 @@ local_infiles-same a b = (
   λ e. (bytes-same a.file_name b.file_name).1 (ap file_name e),
 )
 
-report-each : (a b : ProgressReport) → Decides (derived_report.ghosts.eq a b) ((a.stage.0 ≡ b.stage.0) × ((a.max_stage.0 ≡ b.max_stage.0) × ((a.progress.0 ≡ b.progress.0) × (a.stage_info ≡ b.stage_info))))
+report-each : (a b : ProgressReport) → Decides (report_eq a b) ((a.stage.0 ≡ b.stage.0) × ((a.max_stage.0 ≡ b.max_stage.0) × ((a.progress.0 ≡ b.progress.0) × (a.stage_info ≡ b.stage_info))))
 report-each a b =
     Decides-and _ _ (and-true _ (numbers-same a.stage.0 b.stage.0)) (Decides-and _ _ (and-true _ (numbers-same a.max_stage.0 b.max_stage.0))
     (Decides-and _ _ (and-true _ (numbers-same a.progress.0 b.progress.0)) (bytes-same a.stage_info b.stage_info)))
 
-pub reports-same : (a b : ProgressReport) → IsTrue (derived_report.ghosts.eq a b) ↔ (a ≡ b)
+pub reports-same : (a b : ProgressReport) → IsTrue (report_eq a b) ↔ (a ≡ b)
 reports-same a b = (
   λ e. let s = (report-each a b).0 e in λ i. report_of (s.0 i) (s.1.0 i) (s.1.1.0 i) (s.1.1.1 i),
-  λ e. subst (λ (c : ProgressReport). derived_report.ghosts.eq a c ≡ true) e ((report-each a a).1 (refl, (refl, (refl, refl)))),
+  λ e. subst (λ (c : ProgressReport). report_eq a c ≡ true) e ((report-each a a).1 (refl, (refl, (refl, refl)))),
 )
 
 pub states-same : (a b : SqlState) → IsTrue (derived_state.ghosts.eq a b) ↔ (a ≡ b)
@@ -55,16 +68,16 @@ states-same a b = (
   λ e. subst (λ (c : SqlState). derived_state.ghosts.eq a c ≡ true) e ((bytes-same a.state a.state).1 refl),
 )
 
-error-each : (a b : ServerError) → Decides (derived_error.ghosts.eq a b) ((a.code ≡ b.code) × ((a.state ≡ b.state) × (a.message ≡ b.message)))
+error-each : (a b : ServerError) → Decides (error_eq a b) ((a.code ≡ b.code) × ((a.state ≡ b.state) × (a.message ≡ b.message)))
 error-each a b = Decides-and _ _ (numbers-same a.code b.code) (Decides-and _ _ (options-same states-same a.state b.state) (bytes-same a.message b.message))
 
-pub errors-same : (a b : ServerError) → IsTrue (derived_error.ghosts.eq a b) ↔ (a ≡ b)
+pub errors-same : (a b : ServerError) → IsTrue (error_eq a b) ↔ (a ≡ b)
 errors-same a b = (
   λ e. let s = (error-each a b).0 e in λ i. error_of (s.0 i) (s.1.0 i) (s.1.1 i),
-  λ e. subst (λ (c : ServerError). derived_error.ghosts.eq a c ≡ true) e ((error-each a a).1 (refl, (refl, refl))),
+  λ e. subst (λ (c : ServerError). error_eq a c ≡ true) e ((error-each a a).1 (refl, (refl, refl))),
 )
 
-pub packets-same : (a b : ErrPacket) → IsTrue (derived_packet.ghosts.eq a b) ↔ (a ≡ b)
+pub packets-same : (a b : ErrPacket) → IsTrue (packet_eq a b) ↔ (a ≡ b)
 packets-same (err.Error a) (err.Error b) = (λ e. ap err.Error ((errors-same a b).0 e), λ e. (errors-same a b).1 (let h : a ≡ b = cc in h))
 packets-same (err.Error a) (err.Progress b) = (λ e. absurd cc, λ e. absurd cc)
 packets-same (err.Progress a) (err.Error b) = (λ e. absurd cc, λ e. absurd cc)

@@ -4,10 +4,9 @@ use Rattle.std.proofs.lemmas.List.{append-nil}
 use Rattle.mysql_wire.specs.CodecAgain.{option_fits}
 use Rattle.mysql_wire.specs.Codecs.{without_context}
 use Rattle.mysql_wire.specs.Flags.{CapabilityFlags}
-use Rattle.mysql_replies.specs.declared.err_packet.ErrPacket.{ErrPacket}
-use Rattle.mysql_replies.specs.declared.err_packet.ErrPacket.TheVariants as err
+use Rattle.mysql_replies.specs.ErrPacket.{ErrPacket, err_packet, sends_state, ErrPacketFits, HasWidths, StateHasWidth, SuitsFlags}
+use Rattle.mysql_replies.specs.declared.err_packet.ErrPacketOf.TheVariants as err
 use Rattle.mysql_replies.specs.declared.sql_state.SqlState.{SqlState}
-use Rattle.mysql_replies.specs.ErrPacket.{err_packet, sends_state, ErrPacketFits, HasWidths, StateHasWidth, SuitsFlags}
 use Rattle.mysql_replies.specs.ProgressReport.{progress_report}
 use Rattle.mysql_replies.specs.ServerError.{server_error, StateFits}
 use Rattle.mysql_replies.specs.SqlState.{sql_state}

@@ -5,13 +5,11 @@ use Rattle.std.proofs.lemmas.Bool.{lt-ltb}
 use Rattle.mysql_wire.specs.CodecFits.{option_fits}
 use Rattle.mysql_wire.specs.Codecs.{without_context}
 use Rattle.mysql_replies.specs.ErrPacket.{StateHasWidth}
-use Rattle.mysql_replies.specs.GreetingError.{GreetingErrorFits, HasPlainMessage, IsPlainOf, begins_with_state, error_of_greeting, greeting_error, greeting_error_of}
+use Rattle.mysql_replies.specs.GreetingError.{GreetingError, GreetingErrorFits, HasPlainMessage, IsPlainOf, begins_with_state, error_of_greeting, greeting_error, greeting_error_of}
 use Rattle.mysql_replies.specs.ServerError.{error_code, error_of, message, server_error, sql_state_of, StateFits}
 use Rattle.mysql_replies.specs.SqlState.{sql_state}
-use Rattle.mysql_replies.specs.contracts.greeting_error.GreetingErrorPartialEq.TheImpl as derived
-use Rattle.mysql_replies.specs.declared.greeting_error.GreetingError.{GreetingError}
 use Rattle.mysql_replies.specs.declared.sql_state.SqlState.{SqlState}
-use Rattle.mysql_replies.proofs.EqualReplies.{errors-same}
+use Rattle.mysql_replies.proofs.EqualReplies.{error_eq, errors-same}
 
 state-fits : (c : ℕ × Bool) (state : Option SqlState) (rest : List ℕ) → StateFits c.1 state → option_fits (without_context sql_state) c.1 c state rest
 unfolding sql_state
@@ -49,7 +47,7 @@ pub greeting_error-again : (g : GreetingError) → error_code (error_of_greeting
 greeting_error-again g code width plain =
     greeting_error-plain g (record { code = code; state = plain-of (sql_state_of g.error) (message g.error) width plain })
 
-pub greeting_errors-same : (a b : GreetingError) → IsTrue (derived.ghosts.eq a b) ↔ (a ≡ b)
+pub greeting_errors-same : (a b : GreetingError) → IsTrue (error_eq a.error b.error) ↔ (a ≡ b)
 greeting_errors-same a b = (
   λ e. let s = (errors-same a.error b.error).0 e in λ i. greeting_error_of (s i),
   λ e. (errors-same a.error b.error).1 (ap error_of_greeting e),

@@ -9,16 +9,14 @@ use Rattle.mysql_replies.specs.declared.column_count.ColumnCount.{ColumnCount}
 use Rattle.mysql_replies.specs.ColumnCount.{column_count, says_follow, IsSaid, SaysByte, ColumnCountFits}
 use Rattle.mysql_replies.specs.declared.column.Column.{Column}
 use Rattle.mysql_replies.specs.declared.local_infile.LocalInfilePacket.{LocalInfilePacket}
-use Rattle.mysql_replies.specs.declared.progress_report.ProgressReport.{ProgressReport}
-use Rattle.mysql_replies.specs.declared.server_error.ServerError.{ServerError}
+use Rattle.mysql_replies.specs.ProgressReport.{ProgressReport, progress_report, ProgressReportFits}
+use Rattle.mysql_replies.specs.ServerError.{ServerError, server_error, error_code, sql_state_of, StateFits}
 use Rattle.mysql_replies.specs.declared.session_state_info.SessionStateInfo.{SessionStateInfo}
 use Rattle.mysql_replies.specs.declared.sql_state.SqlState.{SqlState}
 use Rattle.mysql_replies.specs.Column.{column, ColumnFits}
 use Rattle.mysql_replies.specs.ColumnFields.{column_fields}
 use Rattle.mysql_replies.specs.ColumnNames.{column_meta}
 use Rattle.mysql_replies.specs.LocalInfile.{local_infile}
-use Rattle.mysql_replies.specs.ProgressReport.{progress_report, ProgressReportFits}
-use Rattle.mysql_replies.specs.ServerError.{server_error, error_code, sql_state_of, StateFits}
 use Rattle.mysql_replies.specs.SessionStateInfo.{session_state_info, data_bytes}
 use Rattle.mysql_replies.specs.SqlState.{sql_state, state_bytes}
 

@@ -5,20 +5,22 @@ use Rattle.mysql_wire.specs.FlagMasks.{CLIENT_PROGRESS_OBSOLETE, CLIENT_PROTOCOL
 use Rattle.mysql_wire.specs.Flags.{CapabilityFlags, has}
 use Rattle.mysql_wire.specs.Codecs.{Codec, Fields, ◌>>=◌, give, field, block, packet, with_context, without_context, either, const_u8, u16, raw_int}
 use Rattle.mysql_replies.specs.declared.faults.InvalidErrPacketHeader.{InvalidErrPacketHeader}
-use Rattle.mysql_replies.specs.declared.err_packet.ErrPacket.{ErrPacket}
-use Rattle.mysql_replies.specs.declared.err_packet.ErrPacket.TheVariants as err
-use Rattle.mysql_replies.specs.declared.progress_report.ProgressReport.{ProgressReport}
-use Rattle.mysql_replies.specs.declared.server_error.ServerError.{ServerError}
-use Rattle.mysql_replies.specs.ProgressReport.{progress_report, progress_text, stage, max_stage, progress, stage_info}
+use Rattle.mysql_replies.specs.declared.err_packet.ErrPacketOf.{ErrPacketOf}
+use Rattle.mysql_replies.specs.declared.err_packet.ErrPacketOf.TheVariants as err
+use Rattle.mysql_replies.specs.ProgressReport.{ProgressReport, progress_report, progress_text, stage, max_stage, progress, stage_info}
+use Rattle.mysql_replies.specs.ServerError.{ServerError, error_code, sql_state_of, server_error, error_text, StateFits}
 use Rattle.mysql_replies.specs.declared.sql_state.SqlState.{SqlState}
 use Rattle.mysql_replies.specs.SqlState.{state_bytes}
-use Rattle.mysql_replies.specs.ServerError.{error_code, sql_state_of, server_error, error_text, StateFits}
 
-abbrev pub is_error : ErrPacket → Bool
+-- the owned and the borrowed form in a clause
+abbrev pub ErrPacket : Type 0
+ErrPacket = ErrPacketOf ServerError ProgressReport
+
+abbrev pub is_error : {E R : Type 0} → ErrPacketOf E R → Bool
 is_error (err.Error e) = true
 is_error (err.Progress r) = false
 
-abbrev pub is_progress_report : ErrPacket → Bool
+abbrev pub is_progress_report : {E R : Type 0} → ErrPacketOf E R → Bool
 is_progress_report (err.Error e) = false
 is_progress_report (err.Progress r) = true
 

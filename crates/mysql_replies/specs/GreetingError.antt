@@ -3,14 +3,17 @@ use Rattle.std.specs.Prelude.{◌≡◌, ℕ, ◌<◌, ◌^◌, List, [], ◌∷
 use Rattle.mysql_wire.specs.Codec.{Codec, Fields}
 use Rattle.mysql_wire.specs.Codecs.{◌>>=◌, give, field, block, packet, with_context, const_u8, u16, raw_int}
 use Rattle.mysql_wire.specs.Form as form
-use Rattle.mysql_replies.specs.ServerError.{error_code, message, server_error, sql_state_of}
+use Rattle.mysql_replies.specs.ServerError.{ServerError, error_code, message, server_error, sql_state_of}
 use Rattle.mysql_replies.specs.SqlState.{state_bytes}
 use Rattle.mysql_replies.specs.declared.faults.InvalidErrPacketHeader.{InvalidErrPacketHeader}
-use Rattle.mysql_replies.specs.declared.greeting_error.GreetingError.{GreetingError}
-use Rattle.mysql_replies.specs.declared.server_error.ServerError.{ServerError}
+use Rattle.mysql_replies.specs.declared.greeting_error.GreetingErrorOf.{GreetingErrorOf}
 use Rattle.mysql_replies.specs.declared.sql_state.SqlState.{SqlState}
 
-abbrev pub error_of_greeting : GreetingError → ServerError
+-- the owned and the borrowed form in a clause
+abbrev pub GreetingError : Type 0
+GreetingError = GreetingErrorOf ServerError
+
+abbrev pub error_of_greeting : {E : Type 0} → GreetingErrorOf E → E
 error_of_greeting g = g.error
 
 abbrev pub greeting_error_of : ServerError → GreetingError

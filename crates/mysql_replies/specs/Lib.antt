@@ -3,7 +3,6 @@ pub mod SqlState
 pub mod ServerError
 pub mod ProgressReport
 pub mod ErrPacket
-pub mod ErrPacketRef
 pub mod GreetingError
 pub mod SessionStateInfo
 pub mod SentGtids

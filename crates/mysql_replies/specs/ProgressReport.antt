@@ -4,16 +4,20 @@ use Rattle.mysql_wire.specs.declared.int.RawInt.{RawInt}
 use Rattle.mysql_wire.specs.declared.little_endian.LeU24.{LeU24}
 use Rattle.mysql_wire.specs.Text.{lossy_text}
 use Rattle.mysql_wire.specs.Codecs.{Codec, Fields, ◌>>=◌, give, field, block, packet, u8, u24, string_lenenc, raw_int}
-use Rattle.mysql_replies.specs.declared.progress_report.ProgressReport.{ProgressReport}
+use Rattle.mysql_replies.specs.declared.progress_report.ProgressReportOf.{ProgressReportOf}
+
+-- the owned and the borrowed form in a clause
+abbrev pub ProgressReport : Type 0
+ProgressReport = ProgressReportOf (List ℕ)
 
 -- the stage, the last stage, the progress in thousandths of a percent, and the bytes of the stage's name
-abbrev pub stage : ProgressReport → ℕ
+abbrev pub stage : {B : Type 0} → ProgressReportOf B → ℕ
 stage r = r.stage.0
 
-abbrev pub max_stage : ProgressReport → ℕ
+abbrev pub max_stage : {B : Type 0} → ProgressReportOf B → ℕ
 max_stage r = r.max_stage.0
 
-abbrev pub progress : ProgressReport → ℕ
+abbrev pub progress : {B : Type 0} → ProgressReportOf B → ℕ
 progress r = r.progress.0
 
 abbrev pub stage_info : ProgressReport → List ℕ

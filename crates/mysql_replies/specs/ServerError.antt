@@ -4,10 +4,14 @@ use Rattle.mysql_wire.specs.Text.{lossy_text}
 use Rattle.mysql_wire.specs.Codecs.{Codec, Fields, ◌>>=◌, give, field, packet, from_context, when, without_context, string_eof}
 use Rattle.mysql_replies.specs.SqlState.{sql_state, state_bytes}
 use Rattle.mysql_replies.specs.declared.sql_state.SqlState.{SqlState}
-use Rattle.mysql_replies.specs.declared.server_error.ServerError.{ServerError}
+use Rattle.mysql_replies.specs.declared.server_error.ServerErrorOf.{ServerErrorOf}
+
+-- the owned and the borrowed form in a clause
+abbrev pub ServerError : Type 0
+ServerError = ServerErrorOf SqlState (List ℕ)
 
 -- the code, the SQL state, and the bytes of the message
-abbrev pub error_code : ServerError → ℕ
+abbrev pub error_code : {S B : Type 0} → ServerErrorOf S B → ℕ
 error_code e = e.code
 
 abbrev pub sql_state_of : ServerError → Option SqlState

@@ -6,14 +6,24 @@ ghost use Rattle.std.specs.Cow.{cow_slice_items};
 ghost use Rattle.mysql_wire.specs.Text.{GivesText};
 ghost use Rattle.mysql_replies.specs.ProgressReport as spec;
 
-use crate::progress_report_ref::ProgressReportRef;
 use bstr::BStr;
 use mysql_wire::{
-    AnyWidth, FaultOf, LeU24, LenEnc, MyDeserialize, ParseBuf, Parts, RawBytes, RawInt, Sink, parts,
+    AnyWidth, BytesRef, FaultOf, LeU24, LenEnc, MyDeserialize, ParseBuf, Parts, RawBytes, RawInt,
+    Sink, parts,
 };
 use std::alloc::{AllocError, Global};
 use std::borrow::{CowSlice, CowStr};
 use std::fmt;
+use std::fmt::Debug;
+
+/// A [`ProgressReport`], whose text is a `B`.
+#[derive(Clone, PartialEq, Eq, Drop)]
+pub struct ProgressReportOf<B> {
+    stage: RawInt<u8>,
+    max_stage: RawInt<u8>,
+    progress: RawInt<LeU24>,
+    stage_info: B,
+}
 
 /// The progress of a long statement, which a MariaDB server sends in an error packet.
 ///
@@ -29,28 +39,23 @@ use std::fmt;
 /// let report = packet.progress_report();
 /// Ok(Some((report.stage(), report.progress())))
 /// ```
-#[derive(Clone, Debug, PartialEq, Eq, Drop)]
-pub struct ProgressReport<'a> {
-    stage: RawInt<u8>,
-    max_stage: RawInt<u8>,
-    progress: RawInt<LeU24>,
-    stage_info: RawBytes<'a, LenEnc>,
-}
+pub type ProgressReport<'a> = ProgressReportOf<RawBytes<'a, LenEnc>>;
 
-impl<'a> ProgressReport<'a> {
-    /// Creates a report. Only the low 24 bits of `progress` are written.
-    #[inline]
-    pub fn new(stage: u8, max_stage: u8, progress: u32, stage_info: CowSlice<'a, u8>) -> Self
-        ensures value { result ≡ spec.report_of stage max_stage progress (cow_slice_items stage_info.entry) }
-    {
-        ProgressReport {
-            stage: RawInt::new(stage),
-            max_stage: RawInt::new(max_stage),
-            progress: RawInt::new(progress),
-            stage_info: RawBytes::new(stage_info),
-        }
-    }
+/// A progress report whose text stays in the packet: a [`ProgressReport`] for as long as the packet lives.
+///
+/// It is read from the same bytes with the same faults, and in a clause it is that report.
+///
+/// ```
+/// let packet: ErrPacketRef<'_> = ParseBuf::new(alloc, payload).parse(agreed)?;
+/// if packet.is_error() {
+///     return Ok(None);
+/// }
+/// let report = packet.progress_report();
+/// Ok(Some((report.stage(), report.progress())))
+/// ```
+pub type ProgressReportRef<'a> = ProgressReportOf<BytesRef<'a>>;
 
+impl<B> ProgressReportOf<B> {
     /// The stage, from 1 to `max_stage`.
     #[inline]
     pub fn stage(&self) -> u8
@@ -74,6 +79,21 @@ impl<'a> ProgressReport<'a> {
     {
         self.progress.0
     }
+}
+
+impl<'a> ProgressReport<'a> {
+    /// Creates a report. Only the low 24 bits of `progress` are written.
+    #[inline]
+    pub fn new(stage: u8, max_stage: u8, progress: u32, stage_info: CowSlice<'a, u8>) -> Self
+        ensures value { result ≡ spec.report_of stage max_stage progress (cow_slice_items stage_info.entry) }
+    {
+        ProgressReportOf {
+            stage: RawInt::new(stage),
+            max_stage: RawInt::new(max_stage),
+            progress: RawInt::new(progress),
+            stage_info: RawBytes::new(stage_info),
+        }
+    }
 
     /// The bytes of the stage's text.
     #[inline]
@@ -95,13 +115,74 @@ impl<'a> ProgressReport<'a> {
         ensures value { IfOk result (λ owned. owned ≡ self.entry) }
         ensures no_memory { spec.stage_info self.entry ≡ [] → IsOk result }
     {
-        Ok(ProgressReport {
+        Ok(ProgressReportOf {
             stage: self.stage,
             max_stage: self.max_stage,
             progress: self.progress,
             stage_info: self.stage_info.into_owned(alloc)?,
         })
     }
+}
+
+impl<'a> ProgressReportRef<'a> {
+    /// The bytes of the stage's text.
+    #[inline]
+    pub fn stage_info(&self) -> &'a [u8]
+        ensures value { result.now ≡ spec.stage_info self.now }
+    {
+        self.stage_info.as_bytes()
+    }
+
+    /// Converts to a [`ProgressReport`], which still borrows the text. It takes no memory.
+    pub fn to_report(&self) -> ProgressReport<'a>
+        ensures value { result ≡ self.now }
+    {
+        ProgressReport::new(
+            self.stage.0,
+            self.max_stage.0,
+            self.progress.0,
+            CowSlice::Borrowed(self.stage_info.as_bytes()),
+        )
+    }
+}
+
+impl<B: Debug> Debug for ProgressReportOf<B> {
+    fn fmt<W: fmt::Write>(&self, f: &mut fmt::Formatter<W>) -> fmt::Result {
+        f.debug_struct("ProgressReport")
+            .field("stage", &self.stage)
+            .field("max_stage", &self.max_stage)
+            .field("progress", &self.progress)
+            .field("stage_info", &self.stage_info)
+            .finish()
+    }
+}
+
+/// Read like a [`ProgressReport`].
+impl<'de> MyDeserialize<'de> for ProgressReportRef<'de> {
+    const SIZE: Option<usize> = None;
+
+    type Size = AnyWidth;
+
+    type Ctx = ();
+
+    ghost form = { spec.progress_report.form };
+
+    #[inline]
+    fn deserialize<'s>(_ctx: (), buf: &mut ParseBuf<'de>) -> Result<Self, FaultOf<'s>> {
+        let mut numbers: ParseBuf<'de> = buf.parse(6)?;
+        let _count: RawInt<u8> = RawInt::take(&mut numbers);
+        let stage: RawInt<u8> = RawInt::take(&mut numbers);
+        let max_stage: RawInt<u8> = RawInt::take(&mut numbers);
+        let progress: RawInt<LeU24> = RawInt::take(&mut numbers);
+        Ok(ProgressReportOf {
+            stage,
+            max_stage,
+            progress,
+            stage_info: BytesRef::read::<LenEnc>((), buf)?,
+        })
+    }
+
+    ghost size_is = { λ _. unfold spec.progress_report in refl };
 }
 
 impl<'de> MyDeserialize<'de> for ProgressReport<'de> {

@@ -8,9 +8,9 @@ use Rattle.mysql_auth.specs.HandshakeResponse as login
 use Rattle.mysql_auth.specs.PluginRequest as request
 use Rattle.mysql_auth.specs.SslRequest as tls
 use Rattle.mysql_auth.specs.declared.com_change_user.ComChangeUser.{ComChangeUser}
-use Rattle.mysql_auth.specs.declared.handshake.HandshakePacket.{HandshakePacket}
+use Rattle.mysql_auth.specs.Handshake.{HandshakePacket}
 use Rattle.mysql_auth.specs.declared.handshake_response.HandshakeResponse.{HandshakeResponse}
-use Rattle.mysql_auth.specs.declared.plugin_request.PluginRequest.{PluginRequest}
+use Rattle.mysql_auth.specs.PluginRequest.{PluginRequest}
 use Rattle.mysql_auth.specs.declared.ssl_request.SslRequest.{SslRequest}
 use Rattle.mysql_show.specs.Fields.{Said, said, Number, Bytes, OptionalBytes}
 

@@ -3,13 +3,11 @@ use Rattle.std.specs.Prelude.{List, [], ◌∷◌, codes, option_map}
 use Rattle.mysql_replies.specs.declared.column_count.ColumnCount.{ColumnCount}
 use Rattle.mysql_replies.specs.declared.local_infile.LocalInfilePacket.{LocalInfilePacket}
 use Rattle.mysql_replies.specs.declared.ok_packet.OkPacket.{OkPacket}
-use Rattle.mysql_replies.specs.declared.progress_report.ProgressReport.{ProgressReport}
-use Rattle.mysql_replies.specs.declared.server_error.ServerError.{ServerError}
+use Rattle.mysql_replies.specs.ProgressReport.{ProgressReport, progress, stage, max_stage, stage_info}
+use Rattle.mysql_replies.specs.ServerError.{ServerError, error_code, sql_state_of, message}
 use Rattle.mysql_replies.specs.ColumnCount.{count, metadata_follows}
 use Rattle.mysql_replies.specs.LocalInfile.{file_name}
 use Rattle.mysql_replies.specs.OkPacket.{affected_rows, last_insert_id, status_flags, warnings, info}
-use Rattle.mysql_replies.specs.ProgressReport.{progress, stage, max_stage, stage_info}
-use Rattle.mysql_replies.specs.ServerError.{error_code, sql_state_of, message}
 use Rattle.mysql_replies.specs.SqlState.{state_bytes}
 use Rattle.mysql_stmt.specs.declared.stmt.StmtPacket.{StmtPacket}
 use Rattle.mysql_stmt.specs.Stmt.{statement_id, num_columns, num_params, warning_count}

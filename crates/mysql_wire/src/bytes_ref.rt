@@ -1,10 +1,12 @@
 //! Borrowed bytes that run to the end of their packet.
 #![tactic(auto, unfolding(crate::specs::Writing::saturated))]
 
-ghost use Rattle.std.specs.Prelude.{◌≡◌, ⊤, refl};
+ghost use Rattle.std.specs.Prelude.{false, ◌≡◌, ⊤, refl, OnErr};
+ghost use Rattle.mysql_wire.specs.Reading.{Answers, IsTail};
 
 use crate::buf::ParseBuf;
 use crate::buffer::Buffer;
+use crate::bytes::BytesRepr;
 use crate::fault::FaultOf;
 use crate::proto::{AnyWidth, MyDeserialize, MySerialize};
 use std::alloc::AllocError;
@@ -14,7 +16,9 @@ use std::marker::Model;
 
 /// Borrowed bytes that run to the end of a packet (`string<EOF>`), such as a query's text or a schema's name.
 ///
-/// In a clause they are the list of the bytes. Reading and writing take no memory.
+/// In a clause they are the list of the bytes, like a [`RawBytes`](crate::RawBytes). So a record that is generic in
+/// what holds its strings is one type in a clause, whether it borrows them or may own them. Reading and writing
+/// take no memory.
 #[derive(Drop)]
 pub struct BytesRef<'a> {
     bytes: &'a [u8],
@@ -35,6 +39,21 @@ impl<'a> BytesRef<'a> {
         ensures value { result ≡ bytes.now }
     {
         BytesRef { bytes }
+    }
+
+    /// Reads a byte string in the encoding `R` from the front of the buffer, like a [`RawBytes`](crate::RawBytes).
+    #[inline(always)]
+    pub fn read<'s, R: BytesRepr>(
+        ctx: R::Ctx,
+        buf: &mut ParseBuf<'a>,
+    ) -> Result<BytesRef<'a>, FaultOf<'s>>
+        ensures value { Answers false result buf.new ((R.form ctx).reads buf.old) }
+        ensures tail { OnErr result (IsTail buf.new buf.old) }
+    {
+        let mut content = R::deserialize(ctx, buf)?;
+        Ok(BytesRef {
+            bytes: content.eat_all(),
+        })
     }
 
     /// The bytes, for as long as the packet lives.

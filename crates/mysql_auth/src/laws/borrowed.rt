@@ -5,11 +5,11 @@ ghost use Rattle.std.specs.Prelude.{◌≡◌, ℕ, List};
 ghost use Rattle.mysql_wire.specs.Flags.{CapabilityFlags};
 ghost use Rattle.mysql_auth.specs.Attributes.{attribute};
 ghost use Rattle.mysql_auth.specs.AuthMoreData.{auth_more_data};
-ghost use Rattle.mysql_auth.specs.AuthNextFactor.{auth_next_factor};
-ghost use Rattle.mysql_auth.specs.AuthSwitchRequest.{auth_switch_request};
+ghost use Rattle.mysql_auth.specs.AuthNextFactor.{AuthNextFactor, auth_next_factor};
+ghost use Rattle.mysql_auth.specs.AuthSwitchRequest.{AuthSwitchRequest, auth_switch_request};
 ghost use Rattle.mysql_auth.specs.ComChangeUser.{change_user, more_data, more_with_each_key_once};
 ghost use Rattle.mysql_auth.specs.ComChangeUser.{with_each_key_once as change_with_each_key_once};
-ghost use Rattle.mysql_auth.specs.Handshake.{handshake};
+ghost use Rattle.mysql_auth.specs.Handshake.{HandshakePacket, handshake};
 ghost use Rattle.mysql_auth.specs.HandshakeResponse.{handshake_response, with_each_key_once};
 ghost use Rattle.mysql_wire.specs.Form.{map};
 ghost use Rattle.mysql_auth.specs.PublicKeyResponse.{public_key_response};
@@ -59,4 +59,21 @@ pub fn borrowed_public_keys_read_public_keys()
 /// Borrowed connection attributes are read like owned ones.
 pub fn borrowed_connect_attributes_read_attributes()
     ensures read { (bytes : List ℕ) → (⟦<crate::connect_attribute_ref::ConnectAttributeRef<'static> as MyDeserialize<'static>>⟧.form tt).reads bytes ≡ (attribute.form tt).reads bytes }
+{}
+
+/// Borrowed handshakes and requests for a plugin compare like owned ones.
+pub fn borrowed_handshakes_compare_like_handshakes()
+    ensures handshake { (x y : HandshakePacket) → ⟦<crate::handshake_ref::HandshakePacketRef<'static> as PartialEq>⟧.eq x y ≡ ⟦<crate::handshake::HandshakePacket<'static> as PartialEq>⟧.eq x y }
+    ensures switch_request { (x y : AuthSwitchRequest) → ⟦<crate::auth_switch_request::AuthSwitchRequestRef<'static> as PartialEq>⟧.eq x y ≡ ⟦<crate::auth_switch_request::AuthSwitchRequest<'static> as PartialEq>⟧.eq x y }
+    ensures next_factor { (x y : AuthNextFactor) → ⟦<crate::auth_next_factor::AuthNextFactorRef<'static> as PartialEq>⟧.eq x y ≡ ⟦<crate::auth_next_factor::AuthNextFactor<'static> as PartialEq>⟧.eq x y }
+{}
+
+/// A clone of a borrowed handshake or request for a plugin is the same, and is made without memory.
+pub fn clones_of_borrowed_handshakes_are_the_same()
+    ensures handshake { (x y : HandshakePacket) → ⟦<crate::handshake_ref::HandshakePacketRef<'static> as Clone>⟧.is_clone x y → y ≡ x }
+    ensures switch_request { (x y : AuthSwitchRequest) → ⟦<crate::auth_switch_request::AuthSwitchRequestRef<'static> as Clone>⟧.is_clone x y → y ≡ x }
+    ensures next_factor { (x y : AuthNextFactor) → ⟦<crate::auth_next_factor::AuthNextFactorRef<'static> as Clone>⟧.is_clone x y → y ≡ x }
+    ensures handshake_infallible { (x : HandshakePacket) → ⟦<crate::handshake_ref::HandshakePacketRef<'static> as Clone>⟧.is_infallible x }
+    ensures switch_request_infallible { (x : AuthSwitchRequest) → ⟦<crate::auth_switch_request::AuthSwitchRequestRef<'static> as Clone>⟧.is_infallible x }
+    ensures next_factor_infallible { (x : AuthNextFactor) → ⟦<crate::auth_next_factor::AuthNextFactorRef<'static> as Clone>⟧.is_infallible x }
 {}

@@ -10,7 +10,7 @@ ghost use Rattle.mysql_auth.specs.declared.auth_reply.AuthReply.{AuthReply};
 ghost use Rattle.mysql_auth.specs.AuthSwitchRequest.{AuthSwitchRequest};
 ghost use Rattle.mysql_auth.specs.declared.com_change_user.ComChangeUser.{ComChangeUser};
 ghost use Rattle.mysql_auth.specs.declared.com_change_user_more_data.ComChangeUserMoreData.{ComChangeUserMoreData};
-ghost use Rattle.mysql_auth.specs.declared.handshake.HandshakePacket.{HandshakePacket};
+ghost use Rattle.mysql_auth.specs.Handshake.{HandshakePacket};
 ghost use Rattle.mysql_auth.specs.declared.handshake_response.HandshakeResponse.{HandshakeResponse};
 ghost use Rattle.mysql_auth.specs.declared.public_key_response.PublicKeyResponse.{PublicKeyResponse};
 ghost use Rattle.mysql_auth.specs.declared.ssl_request.SslRequest.{SslRequest};

@@ -2,7 +2,7 @@ use Rattle.std.proofs.Common.{rules}
 use Rattle.mysql_wire.specs.ConstantValue.{coded}
 use Rattle.mysql_wire.specs.Int.{raw}
 use Rattle.mysql_auth.specs.Handshake.{handshake_block}
-use Rattle.mysql_auth.proofs.handshake_head_ref.HandshakeHeadRef.read_block.Goals as goal
+use Rattle.mysql_auth.proofs.handshake_head.HandshakeHeadRef.read_block.Goals as goal
 
 pub returns-clause-value : goal.returns-clause-value
 unfolding handshake_block raw coded
