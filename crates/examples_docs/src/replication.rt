@@ -22,7 +22,7 @@ pub fn registers(alloc: Global, payload: &[u8]) -> Result<u32, Error> {
 /// The file and the place that a dump begins at.
 pub fn dump_from<'a>(alloc: Global, payload: &'a [u8]) -> Result<(&'a [u8], u32), Error> {
     let request: ComBinlogDumpRef<'_> = ParseBuf::new(alloc, payload).parse(())?;
-    Ok((request.filename(), request.pos()))
+    Ok((request.filename_raw(), request.pos()))
 }
 
 /// The number of transactions in a replica's request for a dump.

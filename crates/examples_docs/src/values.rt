@@ -23,7 +23,7 @@ pub fn unsigned_int<'a>(buf: &mut ParseBuf<'a>) -> Result<ValueRef<'a>, Fault> {
 
 /// A value that outlives its packet.
 pub fn keep(alloc: Global, value: ValueRef<'_>) -> Result<Value, AllocError> {
-    value.to_value(alloc)
+    value.to_owned(alloc)
 }
 
 /// A number, or the value if it is none.

@@ -49,11 +49,11 @@ fn keep_packet<R: Read, W: Write>(
     let alloc = connection.alloc;
     match packet {
         ServerPacket::ProgressReport(report) => {
-            let report = report.to_report().into_owned(alloc)?;
+            let report = report.to_owned().into_owned(alloc)?;
             Ok(connection.reports.push(report)?)
         }
         ServerPacket::GreetingError(packet) => {
-            let error = packet.server_error().to_error();
+            let error = packet.server_error().to_owned();
             Err(Error::Server(error.into_owned(alloc)?))
         }
         ServerPacket::Error(packet) | ServerPacket::UnsolicitedError(packet) => {
@@ -64,7 +64,7 @@ fn keep_packet<R: Read, W: Write>(
 }
 
 fn error_of(alloc: Global, packet: &ErrPacketRef<'_>) -> Result<ServerError<'static>> {
-    match packet.to_packet() {
+    match packet.to_owned() {
         ErrPacket::Error(error) => Ok(error.into_owned(alloc)?),
         ErrPacket::Progress(_) => Err(Error::Unknown("a report in place of an error")),
     }

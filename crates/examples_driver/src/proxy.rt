@@ -324,7 +324,7 @@ fn ok_as_read<T: OkPacketLayout>(
     payload: &[u8],
     written: &mut Vec<u8>,
 ) -> Result<bool, AllocError> {
-    let packet = packet.to_ok_packet();
+    let packet = packet.to_owned();
     let sent = OkPacketSerializer::<T>::new(&packet, capabilities);
     as_read(&sent, payload, written)
 }
@@ -337,7 +337,7 @@ fn write_client(
     written: &mut Vec<u8>,
 ) -> Result<bool, AllocError> {
     match packet {
-        ClientPacket::Login(packet) => as_read(&packet.to_response(alloc)?, payload, written),
+        ClientPacket::Login(packet) => as_read(&packet.to_owned(alloc)?, payload, written),
         ClientPacket::AuthData(data) | ClientPacket::Clone(data) => as_read(data, payload, written),
         ClientPacket::Command(command) => as_read(command, payload, written),
         ClientPacket::SemiSyncAck(packet) => as_read(packet, payload, written),
@@ -356,21 +356,21 @@ fn write_server(
     written: &mut Vec<u8>,
 ) -> Result<bool, AllocError> {
     match packet {
-        ServerPacket::Handshake(packet) => as_read(&packet.to_packet(), payload, written),
-        ServerPacket::GreetingError(packet) => as_read(&packet.to_packet(), payload, written),
-        ServerPacket::AuthSwitch(packet) => as_read(&packet.to_packet(), payload, written),
+        ServerPacket::Handshake(packet) => as_read(&packet.to_owned(), payload, written),
+        ServerPacket::GreetingError(packet) => as_read(&packet.to_owned(), payload, written),
+        ServerPacket::AuthSwitch(packet) => as_read(&packet.to_owned(), payload, written),
         ServerPacket::OldAuthSwitch(packet) => as_read(packet, payload, written),
-        ServerPacket::AuthMoreData(packet) => as_read(&packet.to_packet(), payload, written),
-        ServerPacket::AuthNextFactor(packet) => as_read(&packet.to_packet(), payload, written),
+        ServerPacket::AuthMoreData(packet) => as_read(&packet.to_owned(), payload, written),
+        ServerPacket::AuthNextFactor(packet) => as_read(&packet.to_owned(), payload, written),
         ServerPacket::AuthPluginData(data) => as_read(data, payload, written),
         ServerPacket::Ok(ok) => ok_as_read::<CommonOkPacket>(capabilities, ok, payload, written),
         ServerPacket::Eof(eof) => ok_as_read::<OldEofPacket>(capabilities, eof, payload, written),
         ServerPacket::OkTerminator(ok) => {
             ok_as_read::<ResultSetTerminator>(capabilities, ok, payload, written)
         }
-        ServerPacket::Error(error) => as_read(&error.to_packet(), payload, written),
-        ServerPacket::UnsolicitedError(error) => as_read(&error.to_packet(), payload, written),
-        ServerPacket::LocalInfile(packet) => as_read(&packet.to_packet(), payload, written),
+        ServerPacket::Error(error) => as_read(&error.to_owned(), payload, written),
+        ServerPacket::UnsolicitedError(error) => as_read(&error.to_owned(), payload, written),
+        ServerPacket::LocalInfile(packet) => as_read(&packet.to_owned(), payload, written),
         ServerPacket::ColumnCount(count) => as_read(count, payload, written),
         ServerPacket::Column(column) => as_read(column, payload, written),
         ServerPacket::FieldListColumn(column) => as_read(column, payload, written),

@@ -75,7 +75,7 @@ impl<'de> MyDeserialize<'de> for AuthMoreData<'de> {
     ghost form = { spec.auth_more_data.form };
 
     fn deserialize<'s>(_ctx: (), buf: &mut ParseBuf<'de>) -> Result<Self, FaultOf<'s>> {
-        Ok(AuthMoreDataRef::deserialize((), buf)?.to_packet())
+        Ok(AuthMoreDataRef::deserialize((), buf)?.to_owned())
     }
 
     ghost size_is = { λ _. spec.size-auth_more_data };

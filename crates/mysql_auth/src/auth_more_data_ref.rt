@@ -46,7 +46,7 @@ impl<'a> AuthMoreDataRef<'a> {
 
     /// Converts to an [`AuthMoreData`], which still borrows the data. It takes no memory.
     #[inline]
-    pub fn to_packet(&self) -> AuthMoreData<'a>
+    pub fn to_owned(&self) -> AuthMoreData<'a>
         ensures value { result ≡ self.now }
     {
         AuthMoreData::new(CowSlice::Borrowed(self.content))
@@ -73,7 +73,7 @@ impl PartialEq for AuthMoreDataRef<'_> {
     ghost laws = { laws-law };
 
     fn eq(&self, other: &Self) -> bool {
-        self.to_packet() == other.to_packet()
+        self.to_owned() == other.to_owned()
     }
 }
 
@@ -85,7 +85,7 @@ impl Eq for AuthMoreDataRef<'_> {
 
 impl Debug for AuthMoreDataRef<'_> {
     fn fmt<W: fmt::Write>(&self, f: &mut fmt::Formatter<W>) -> fmt::Result {
-        self.to_packet().fmt(f)
+        self.to_owned().fmt(f)
     }
 }
 

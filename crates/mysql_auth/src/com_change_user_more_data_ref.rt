@@ -82,7 +82,7 @@ impl<'a> ComChangeUserMoreDataRef<'a> {
 
     /// Converts to a [`ComChangeUserMoreData`], which still borrows the texts and has each key once. Only the
     /// attributes take memory.
-    pub fn to_more_data(&self, alloc: Global) -> Result<ComChangeUserMoreData<'a>, AllocError>
+    pub fn to_owned(&self, alloc: Global) -> Result<ComChangeUserMoreData<'a>, AllocError>
         ensures value { IfOk result (λ more. more ≡ spec.more_with_each_key_once self.now) }
         // Without attributes it doesn't allocate.
         ensures no_memory { unwrap_or (spec.connect_attributes self.now) [] ≡ [] → IsOk result }

@@ -98,13 +98,13 @@ impl<'a> ComChangeUserRef<'a> {
 
     /// Converts to a [`ComChangeUser`], which still borrows the texts and has each key once. Only the
     /// attributes take memory.
-    pub fn to_change(&self, alloc: Global) -> Result<ComChangeUser<'a>, AllocError>
+    pub fn to_owned(&self, alloc: Global) -> Result<ComChangeUser<'a>, AllocError>
         ensures value { IfOk result (λ change. change ≡ spec.with_each_key_once self.now) }
         // Without attributes it doesn't allocate.
         ensures no_memory { IfSome (spec.more_data_in self.now) (λ more. unwrap_or (spec.connect_attributes more) [] ≡ []) → IsOk result }
     {
         let more_data = match &self.more_data {
-            Some(more) => Some(more.to_more_data(alloc)?),
+            Some(more) => Some(more.to_owned(alloc)?),
             None => None,
         };
         Ok(self.with_more_data(more_data))

@@ -366,7 +366,7 @@ impl<'de> MyDeserialize<'de> for HandshakePacket<'de> {
 
     fn deserialize<'s>(_ctx: (), buf: &mut ParseBuf<'de>) -> Result<Self, FaultOf<'s>> {
         let handshake = HandshakePacketRef::deserialize((), buf)?;
-        Ok(handshake.to_packet())
+        Ok(handshake.to_owned())
     }
 
     ghost size_is = { λ _. spec.size-handshake };

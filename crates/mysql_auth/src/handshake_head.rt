@@ -86,7 +86,7 @@ impl OwnedHead<'_> {
 
 impl<'a> HandshakeHeadRef<'a> {
     /// Converts to an [`OwnedHead`], which still borrows the version.
-    pub(crate) fn to_head(&self) -> OwnedHead<'a>
+    pub(crate) fn to_owned(&self) -> OwnedHead<'a>
         ensures value { result ≡ self.now }
     {
         HandshakeHead {

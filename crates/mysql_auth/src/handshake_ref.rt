@@ -84,11 +84,11 @@ impl<'a> HandshakePacketRef<'a> {
     }
 
     /// Converts to a [`HandshakePacket`], which still borrows the texts. It takes no memory.
-    pub fn to_packet(&self) -> HandshakePacket<'a>
+    pub fn to_owned(&self) -> HandshakePacket<'a>
         ensures value { result ≡ self.now }
     {
         HandshakePacketOf {
-            head: self.head.to_head(),
+            head: self.head.to_owned(),
             scramble_2: match &self.scramble_2 {
                 Some(scramble) => Some(RawBytes::new(CowSlice::Borrowed(scramble.as_bytes()))),
                 None => None,

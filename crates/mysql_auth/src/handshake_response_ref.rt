@@ -191,7 +191,7 @@ impl<'a> HandshakeResponseRef<'a> {
 
     /// Converts to a [`HandshakeResponse`], which still borrows the texts and has each key once. Only the
     /// attributes take memory.
-    pub fn to_response(&self, alloc: Global) -> Result<HandshakeResponse<'a>, AllocError>
+    pub fn to_owned(&self, alloc: Global) -> Result<HandshakeResponse<'a>, AllocError>
         ensures value { IfOk result (λ response. response ≡ spec.with_each_key_once self.now) }
         // Without attributes it doesn't allocate.
         ensures no_memory { unwrap_or (spec.connect_attributes self.now) [] ≡ [] → IsOk result }

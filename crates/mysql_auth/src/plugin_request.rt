@@ -164,7 +164,7 @@ impl<'a, T, const HEADER: u8> PluginRequestRef<'a, T, HEADER> {
 
     /// Converts to a [`PluginRequest`], which still borrows the texts. It takes no memory.
     #[inline]
-    pub fn to_packet(&self) -> PluginRequest<'a, T, HEADER>
+    pub fn to_owned(&self) -> PluginRequest<'a, T, HEADER>
         ensures value { result ≡ self.now }
     {
         PluginRequest::new(
@@ -218,7 +218,7 @@ impl<'de, T: ConstFault, const HEADER: u8> MyDeserialize<'de> for PluginRequest<
     ghost form = { (spec.plugin_request HEADER).form };
 
     fn deserialize<'s>(_ctx: (), buf: &mut ParseBuf<'de>) -> Result<Self, FaultOf<'s>> {
-        Ok(PluginRequestRef::deserialize((), buf)?.to_packet())
+        Ok(PluginRequestRef::deserialize((), buf)?.to_owned())
     }
 
     ghost size_is = { λ _. spec.size-plugin_request _ HEADER };

@@ -63,7 +63,7 @@ impl<'de> MyDeserialize<'de> for PublicKeyResponse<'de> {
     ghost form = { spec.public_key_response.form };
 
     fn deserialize<'s>(_ctx: (), buf: &mut ParseBuf<'de>) -> Result<Self, FaultOf<'s>> {
-        Ok(PublicKeyResponseRef::deserialize((), buf)?.to_packet())
+        Ok(PublicKeyResponseRef::deserialize((), buf)?.to_owned())
     }
 
     ghost size_is = { λ _. spec.size-public_key_response };

@@ -36,7 +36,7 @@ impl<'a> Model for PublicKeyResponseRef<'a> {
 impl<'a> PublicKeyResponseRef<'a> {
     /// The bytes of the key (PEM).
     #[inline]
-    pub fn rsa_key(&self) -> &'a [u8]
+    pub fn rsa_key_raw(&self) -> &'a [u8]
         ensures value { result.now ≡ spec.rsa_key self.now }
     {
         self.rsa_key
@@ -44,7 +44,7 @@ impl<'a> PublicKeyResponseRef<'a> {
 
     /// Converts to a [`PublicKeyResponse`], which still borrows the key. It takes no memory.
     #[inline]
-    pub fn to_packet(&self) -> PublicKeyResponse<'a>
+    pub fn to_owned(&self) -> PublicKeyResponse<'a>
         ensures value { result ≡ self.now }
     {
         PublicKeyResponse::new(CowSlice::Borrowed(self.rsa_key))
@@ -71,7 +71,7 @@ impl PartialEq for PublicKeyResponseRef<'_> {
     ghost laws = { laws-law };
 
     fn eq(&self, other: &Self) -> bool {
-        self.to_packet() == other.to_packet()
+        self.to_owned() == other.to_owned()
     }
 }
 
@@ -83,7 +83,7 @@ impl Eq for PublicKeyResponseRef<'_> {
 
 impl Debug for PublicKeyResponseRef<'_> {
     fn fmt<W: fmt::Write>(&self, f: &mut fmt::Formatter<W>) -> fmt::Result {
-        self.to_packet().fmt(f)
+        self.to_owned().fmt(f)
     }
 }
 

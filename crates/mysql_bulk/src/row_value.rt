@@ -148,7 +148,7 @@ fn push_any(alloc: Global, values: &mut Vec<Value>, value: &ValueRef<'_>, most: 
     if most < size {
         return None;
     }
-    values.push_reserved(value.to_value(alloc).ok()?);
+    values.push_reserved(value.to_owned(alloc).ok()?);
     Some(size)
 }
 

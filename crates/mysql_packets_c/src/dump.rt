@@ -32,7 +32,7 @@ pub extern "C" fn myp_read_dump<'a>(alloc: Global, packet: &'a [u8], out: &mut C
 {
     match read::<ComBinlogDumpRef<'a>>(alloc, packet, ()) {
         Ok((found, _used)) => {
-            out.file_name = found.filename();
+            out.file_name = found.filename_raw();
             out.server_id = found.server_id();
             out.position = found.pos();
             out.flags = found.flags().0;

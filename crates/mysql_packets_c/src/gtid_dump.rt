@@ -70,7 +70,7 @@ pub extern "C" fn myp_read_gtid_dump<'a>(
 {
     match read::<ComBinlogDumpGtidRef<'a>>(alloc, packet, ()) {
         Ok((found, used)) => {
-            out.file_name = found.filename();
+            out.file_name = found.filename_raw();
             out.position = found.pos();
             out.used = used;
             out.server_id = found.server_id();

@@ -49,7 +49,7 @@ fn put_ok<'a>(packet: &OkPacketRef<'a>, used: usize, out: &mut COk<'a>)
         Some(info) => info,
         None => &[],
     };
-    out.session_state = match packet.session_state_info() {
+    out.session_state = match packet.session_state_info_ref() {
         Some(state) => state,
         None => &[],
     };

@@ -28,7 +28,7 @@ pub extern "C" fn myp_read_public_key<'a>(
 {
     match read::<PublicKeyResponseRef<'a>>(alloc, packet, ()) {
         Ok((found, _used)) => {
-            pem.bytes = found.rsa_key();
+            pem.bytes = found.rsa_key_raw();
             OK
         }
         Err(fault) => code_of(&fault),

@@ -39,9 +39,9 @@ pub extern "C" fn myp_read_register_replica<'a>(
 {
     match read::<ComRegisterSlaveRef<'a>>(alloc, packet, ()) {
         Ok((found, used)) => {
-            out.hostname = found.hostname();
-            out.user = found.user();
-            out.password = found.password();
+            out.hostname = found.hostname_raw();
+            out.user = found.user_raw();
+            out.password = found.password_raw();
             out.used = used;
             out.server_id = found.server_id();
             out.replication_rank = found.replication_rank();

@@ -90,9 +90,9 @@ pub extern "C" fn myp_next_change<'a>(
     match next_entry(alloc, rest.bytes) {
         Ok((info, change, after)) => {
             let (text, is_tracked) = text_and_tracked(change);
-            out.content = info.data_bytes();
+            out.content = info.data_ref();
             out.text = text;
-            out.variables = variables_in(info.data_type(), info.data_bytes());
+            out.variables = variables_in(info.data_type(), info.data_ref());
             out.change_type = info.data_type().code();
             out.is_tracked = is_tracked;
             rest.bytes = after;

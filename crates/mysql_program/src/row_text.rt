@@ -40,7 +40,7 @@ impl RowCell {
         ensures value { IfOk result (λ value. option_map content_of value ≡ spec.value_in (spec.cell_read self.now)) }
     {
         match self {
-            RowCell::Given(value) if is_plain(value) => Ok(Some(value.as_ref().to_value(alloc)?)),
+            RowCell::Given(value) if is_plain(value) => Ok(Some(value.as_ref().to_owned(alloc)?)),
             _ => Ok(None),
         }
     }

@@ -198,7 +198,7 @@ fn append_dump<'p>(
 {
     let (flags, pos) = (dump.flags(), u64::from(dump.pos()));
     add_fields(
-        &dump_fields(dump.server_id(), flags, dump.filename(), pos),
+        &dump_fields(dump.server_id(), flags, dump.filename_raw(), pos),
         fields,
     )
 }
@@ -211,7 +211,7 @@ fn append_gtid_dump<'p>(
 {
     let (flags, pos) = (dump.flags(), dump.pos());
     add_fields(
-        &dump_fields(dump.server_id(), flags, dump.filename(), pos),
+        &dump_fields(dump.server_id(), flags, dump.filename_raw(), pos),
         fields,
     )
 }

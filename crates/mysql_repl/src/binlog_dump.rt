@@ -162,7 +162,7 @@ impl<'de> MyDeserialize<'de> for ComBinlogDump<'de> {
 
     fn deserialize<'s>(_ctx: (), buf: &mut ParseBuf<'de>) -> Result<Self, FaultOf<'s>> {
         let request: ComBinlogDumpRef<'de> = buf.parse(())?;
-        Ok(request.to_packet())
+        Ok(request.to_owned())
     }
 
     ghost size_is = { λ _. spec.size-binlog_dump };

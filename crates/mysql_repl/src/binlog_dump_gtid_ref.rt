@@ -68,7 +68,7 @@ impl<'a> ComBinlogDumpGtidRef<'a> {
 
     /// The bytes of the log's name.
     #[inline]
-    pub fn filename(&self) -> &'a [u8]
+    pub fn filename_raw(&self) -> &'a [u8]
         ensures value { result.now ≡ spec.filename self.now }
     {
         self.filename
@@ -91,11 +91,11 @@ impl<'a> ComBinlogDumpGtidRef<'a> {
     }
 
     /// Converts to a [`ComBinlogDumpGtid`], which still borrows the name and the tags. Without sids it takes no memory.
-    pub fn to_packet(&self, alloc: Global) -> Result<ComBinlogDumpGtid<'a>, AllocError>
+    pub fn to_owned(&self, alloc: Global) -> Result<ComBinlogDumpGtid<'a>, AllocError>
         ensures value { IfOk result (λ packet. packet ≡ self.now) }
         ensures no_memory { spec.sids self.now ≡ [] → IsOk result }
     {
-        let sids = self.sids.to_vec(alloc)?;
+        let sids = self.sids.to_owned(alloc)?;
         Ok(of_parts(self.flags, self.server_id, self.filename, self.pos, sids))
     }
 }

@@ -21,7 +21,7 @@ use std::marker::Model;
 ///
 /// ```
 /// let request: ComBinlogDumpRef<'_> = ParseBuf::new(alloc, payload).parse(())?;
-/// Ok((request.filename(), request.pos()))
+/// Ok((request.filename_raw(), request.pos()))
 /// ```
 #[derive(Drop)]
 pub struct ComBinlogDumpRef<'a> {
@@ -67,7 +67,7 @@ impl<'a> ComBinlogDumpRef<'a> {
 
     /// The bytes of the log's name.
     #[inline]
-    pub fn filename(&self) -> &'a [u8]
+    pub fn filename_raw(&self) -> &'a [u8]
         ensures value { result.now ≡ spec.filename self.now }
     {
         self.filename
@@ -75,7 +75,7 @@ impl<'a> ComBinlogDumpRef<'a> {
 
     /// Converts to a [`ComBinlogDump`], which still borrows the name. It takes no memory.
     #[inline]
-    pub fn to_packet(&self) -> ComBinlogDump<'a>
+    pub fn to_owned(&self) -> ComBinlogDump<'a>
         ensures value { result ≡ self.now }
     {
         ComBinlogDump::new(self.server_id)
@@ -108,7 +108,7 @@ impl PartialEq for ComBinlogDumpRef<'_> {
     ghost laws = { laws-law };
 
     fn eq(&self, other: &Self) -> bool {
-        self.to_packet() == other.to_packet()
+        self.to_owned() == other.to_owned()
     }
 }
 
@@ -120,7 +120,7 @@ impl Eq for ComBinlogDumpRef<'_> {
 
 impl Debug for ComBinlogDumpRef<'_> {
     fn fmt<W: fmt::Write>(&self, f: &mut fmt::Formatter<W>) -> fmt::Result {
-        self.to_packet().fmt(f)
+        self.to_owned().fmt(f)
     }
 }
 

@@ -126,7 +126,7 @@ impl<'a> IntervalsRef<'a> {
     }
 
     /// Copies the intervals. Without intervals it takes no memory.
-    pub fn to_vec(&self, alloc: Global) -> Result<Vec<GnoInterval>, AllocError>
+    pub fn to_owned(&self, alloc: Global) -> Result<Vec<GnoInterval>, AllocError>
         ensures value { IfOk result (λ intervals. intervals.items ≡ self.now) }
         ensures no_memory { self.now ≡ [] → IsOk result }
     {

@@ -249,7 +249,7 @@ impl<'de> MyDeserialize<'de> for ComRegisterSlave<'de> {
 
     fn deserialize<'s>(_ctx: (), buf: &mut ParseBuf<'de>) -> Result<Self, FaultOf<'s>> {
         let registration: ComRegisterSlaveRef<'de> = buf.parse(())?;
-        Ok(registration.to_packet())
+        Ok(registration.to_owned())
     }
 
     ghost size_is = { λ _. spec.size-register_slave };

@@ -63,7 +63,7 @@ impl<'a> ComRegisterSlaveRef<'a> {
 
     /// The bytes of the replica's name or address.
     #[inline]
-    pub fn hostname(&self) -> &'a [u8]
+    pub fn hostname_raw(&self) -> &'a [u8]
         ensures value { result.now ≡ spec.hostname self.now }
     {
         self.hostname
@@ -71,7 +71,7 @@ impl<'a> ComRegisterSlaveRef<'a> {
 
     /// The bytes of the account's name.
     #[inline]
-    pub fn user(&self) -> &'a [u8]
+    pub fn user_raw(&self) -> &'a [u8]
         ensures value { result.now ≡ spec.user self.now }
     {
         self.user
@@ -79,7 +79,7 @@ impl<'a> ComRegisterSlaveRef<'a> {
 
     /// The bytes of the password.
     #[inline]
-    pub fn password(&self) -> &'a [u8]
+    pub fn password_raw(&self) -> &'a [u8]
         ensures value { result.now ≡ spec.password self.now }
     {
         self.password
@@ -111,7 +111,7 @@ impl<'a> ComRegisterSlaveRef<'a> {
 
     /// Converts to a [`ComRegisterSlave`], which still borrows the texts. It takes no memory.
     #[inline]
-    pub fn to_packet(&self) -> ComRegisterSlave<'a>
+    pub fn to_owned(&self) -> ComRegisterSlave<'a>
         ensures value { result ≡ self.now }
     {
         ComRegisterSlave::new(self.server_id)
@@ -178,7 +178,7 @@ impl PartialEq for ComRegisterSlaveRef<'_> {
     ghost laws = { laws-law };
 
     fn eq(&self, other: &Self) -> bool {
-        self.to_packet() == other.to_packet()
+        self.to_owned() == other.to_owned()
     }
 }
 
@@ -190,7 +190,7 @@ impl Eq for ComRegisterSlaveRef<'_> {
 
 impl Debug for ComRegisterSlaveRef<'_> {
     fn fmt<W: fmt::Write>(&self, f: &mut fmt::Formatter<W>) -> fmt::Result {
-        self.to_packet().fmt(f)
+        self.to_owned().fmt(f)
     }
 }
 

@@ -79,13 +79,13 @@ impl<'a> SidRef<'a> {
     }
 
     /// Converts to a [`Sid`], which still borrows the tag and copies the intervals. Without intervals it takes no memory.
-    pub fn to_sid(&self, alloc: Global) -> Result<Sid<'a>, AllocError>
+    pub fn to_owned(&self, alloc: Global) -> Result<Sid<'a>, AllocError>
         ensures value { IfOk result (λ sid. sid ≡ self.now) }
         ensures no_memory { spec.intervals self.now ≡ [] → IsOk result }
     {
-        let sid = Sid::new(self.uuid).with_intervals(self.intervals.to_vec(alloc)?);
+        let sid = Sid::new(self.uuid).with_intervals(self.intervals.to_owned(alloc)?);
         match &self.tag {
-            Some(tag) => Ok(sid.with_tag(tag.to_tag())),
+            Some(tag) => Ok(sid.with_tag(tag.to_owned())),
             None => Ok(sid),
         }
     }

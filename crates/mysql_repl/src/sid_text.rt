@@ -221,7 +221,7 @@ fn read_sid(alloc: Global, text: &str) -> Result<Sid<'static>, InvalidSid>
         let intervals = read_intervals(alloc, text.intervals())?;
         return Ok(Sid::new(text.uuid()).with_intervals(intervals));
     };
-    let tag = tag.to_tag().into_owned(alloc)?;
+    let tag = tag.to_owned().into_owned(alloc)?;
     let intervals = read_intervals(alloc, text.intervals())?;
     Ok(
         Sid::new(text.uuid())

@@ -165,13 +165,13 @@ impl<'a> SidsRef<'a> {
     }
 
     /// Converts to a list of [`Sid`](crate::Sid)s, which still borrow the tags. Without sids it takes no memory.
-    pub fn to_vec(&self, alloc: Global) -> Result<Vec<Sid<'a>>, AllocError>
+    pub fn to_owned(&self, alloc: Global) -> Result<Vec<Sid<'a>>, AllocError>
         ensures value { IfOk result (λ sids. sids.items ≡ self.now) }
         ensures no_memory { self.now ≡ [] → IsOk result }
     {
         let mut sids = Vec::with_capacity(alloc, self.left() as usize)?;
         for sid in self.iter() {
-            sids.push(sid.to_sid(alloc)?)?;
+            sids.push(sid.to_owned(alloc)?)?;
         }
         Ok(sids)
     }

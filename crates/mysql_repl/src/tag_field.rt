@@ -47,7 +47,7 @@ pub(crate) fn read_tag<'s, 'de>(buf: &mut ParseBuf<'de>) -> Result<Option<Tag<'d
     ensures value { Answers false result buf.new (spec.tag_form.reads buf.old) }
 {
     match read_tag_ref(buf)? {
-        Some(tag) => Ok(Some(tag.to_tag())),
+        Some(tag) => Ok(Some(tag.to_owned())),
         None => Ok(None),
     }
 }

@@ -50,7 +50,7 @@ impl<'a> TagRef<'a> {
 
     /// Converts to a [`Tag`], which still borrows the text. It takes no memory.
     #[inline]
-    pub fn to_tag(&self) -> Tag<'a>
+    pub fn to_owned(&self) -> Tag<'a>
         ensures value { result ≡ self.now }
     {
         Tag::of(self.text)
@@ -75,7 +75,7 @@ impl PartialEq for TagRef<'_> {
     ghost laws = { laws-law };
 
     fn eq(&self, other: &Self) -> bool {
-        self.to_tag() == other.to_tag()
+        self.to_owned() == other.to_owned()
     }
 }
 
@@ -87,6 +87,6 @@ impl Eq for TagRef<'_> {
 
 impl Debug for TagRef<'_> {
     fn fmt<W: fmt::Write>(&self, f: &mut fmt::Formatter<W>) -> fmt::Result {
-        self.to_tag().fmt(f)
+        self.to_owned().fmt(f)
     }
 }

@@ -138,7 +138,7 @@ impl<'de> MyDeserialize<'de> for ColumnAttribute<'de> {
 
     fn deserialize<'s>(_ctx: (), buf: &mut ParseBuf<'de>) -> Result<Self, FaultOf<'s>> {
         let attribute: ColumnAttributeRef<'de> = buf.parse(())?;
-        Ok(attribute.to_attribute())
+        Ok(attribute.to_owned())
     }
 
     ghost size_is = { λ _. unfold spec.column_attribute in refl };

@@ -58,7 +58,7 @@ impl<'a> ColumnAttributeRef<'a> {
 
     /// Converts to a [`ColumnAttribute`], which still borrows the text. It takes no memory.
     #[inline]
-    pub fn to_attribute(&self) -> ColumnAttribute<'a>
+    pub fn to_owned(&self) -> ColumnAttribute<'a>
         ensures value { result ≡ self.now }
     {
         ColumnAttribute::of_code(self.code, CowSlice::Borrowed(self.text))
@@ -86,7 +86,7 @@ impl PartialEq for ColumnAttributeRef<'_> {
     ghost laws = { laws-law };
 
     fn eq(&self, other: &Self) -> bool {
-        self.to_attribute() == other.to_attribute()
+        self.to_owned() == other.to_owned()
     }
 }
 
@@ -98,7 +98,7 @@ impl Eq for ColumnAttributeRef<'_> {
 
 impl Debug for ColumnAttributeRef<'_> {
     fn fmt<W: fmt::Write>(&self, f: &mut fmt::Formatter<W>) -> fmt::Result {
-        self.to_attribute().fmt(f)
+        self.to_owned().fmt(f)
     }
 }
 

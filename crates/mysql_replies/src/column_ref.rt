@@ -141,7 +141,7 @@ impl<'a> ColumnRef<'a> {
     }
 
     /// Converts to an owned column. It takes memory unless all names are empty.
-    pub fn to_column(&self, alloc: Global) -> Result<Column, AllocError>
+    pub fn to_owned(&self, alloc: Global) -> Result<Column, AllocError>
         ensures value { IfOk result (λ column. column ≡ self.now) }
         ensures memory { IfErr result (λ _. IsTrue (has_a_name (spec.names_of self.now))) }
     {

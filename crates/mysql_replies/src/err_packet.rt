@@ -40,7 +40,7 @@ pub enum ErrPacketOf<E, R> {
 /// is a [`GreetingError`](crate::GreetingError), with or without an SQL state.
 ///
 /// ```
-/// match packet.to_packet() {
+/// match packet.to_owned() {
 /// ErrPacket::Error(error) => Ok(error.into_owned(alloc)?),
 /// ErrPacket::Progress(_) => Err(Error::Unknown("a report in place of an error")),
 /// }
@@ -52,7 +52,7 @@ pub type ErrPacket<'a> = ErrPacketOf<ServerError<'a>, ProgressReport<'a>>;
 /// It is read from the same bytes with the same faults, and in a clause it is that packet.
 ///
 /// ```
-/// match packet.to_packet() {
+/// match packet.to_owned() {
 ///     ErrPacket::Error(error) => Ok(error.into_owned(alloc)?),
 ///     ErrPacket::Progress(_) => Err(Error::Unknown("a report in place of an error")),
 /// }
@@ -101,12 +101,12 @@ impl<E, R> ErrPacketOf<E, R> {
 
 impl<'a> ErrPacketRef<'a> {
     /// Converts to an [`ErrPacket`], which still borrows the texts. It takes no memory.
-    pub fn to_packet(&self) -> ErrPacket<'a>
+    pub fn to_owned(&self) -> ErrPacket<'a>
         ensures value { result ≡ self.now }
     {
         match self {
-            ErrPacketOf::Error(error) => ErrPacket::Error(error.to_error()),
-            ErrPacketOf::Progress(report) => ErrPacket::Progress(report.to_report()),
+            ErrPacketOf::Error(error) => ErrPacket::Error(error.to_owned()),
+            ErrPacketOf::Progress(report) => ErrPacket::Progress(report.to_owned()),
         }
     }
 }
@@ -152,7 +152,7 @@ impl<'de> MyDeserialize<'de> for ErrPacket<'de> {
     ghost form = { spec.err_packet.form };
 
     fn deserialize<'s>(agreed: Self::Ctx, buf: &mut ParseBuf<'de>) -> Result<Self, FaultOf<'s>> {
-        Ok(ErrPacketRef::deserialize(agreed, buf)?.to_packet())
+        Ok(ErrPacketRef::deserialize(agreed, buf)?.to_owned())
     }
 
     ghost size_is = { λ _. unfold spec.err_packet in refl };

@@ -153,7 +153,7 @@ impl<'de> MyDeserialize<'de> for ExtendedColumn {
     #[tactic(auto, using(mysql_wire::proofs::Packets::packets, crate::proofs::ExtendedColumns::texts))]
     fn deserialize<'s>(agreed: Self::Ctx, buf: &mut ParseBuf<'de>) -> Result<Self, FaultOf<'s>> {
         let column: ExtendedColumnRef<'de> = buf.parse(agreed)?;
-        Ok(column.to_column(buf.alloc())?)
+        Ok(column.to_owned(buf.alloc())?)
     }
 
     ghost size_is = { λ _. unfold spec.extended_column in refl };

@@ -87,11 +87,11 @@ impl<'a> ExtendedColumnRef<'a> {
     }
 
     /// Converts to an owned column. It takes memory unless all texts are empty.
-    pub fn to_column(&self, alloc: Global) -> Result<ExtendedColumn, AllocError>
+    pub fn to_owned(&self, alloc: Global) -> Result<ExtendedColumn, AllocError>
         ensures value { IfOk result (λ column. column ≡ self.now) }
         ensures memory { OnErr result (IsTrue (spec.has_text self.now)) }
     {
-        let column = self.column.to_column(alloc)?;
+        let column = self.column.to_owned(alloc)?;
         ExtendedColumn::of(alloc, column, self.metadata)
     }
 }

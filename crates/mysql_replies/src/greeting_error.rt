@@ -89,10 +89,10 @@ impl<'a> GreetingError<'a> {
 
 impl<'a> GreetingErrorRef<'a> {
     /// Converts to a [`GreetingError`], which still borrows the message. It takes no memory.
-    pub fn to_packet(&self) -> GreetingError<'a>
+    pub fn to_owned(&self) -> GreetingError<'a>
         ensures value { result ≡ self.now }
     {
-        GreetingError::new(self.error.to_error())
+        GreetingError::new(self.error.to_owned())
     }
 }
 
@@ -148,7 +148,7 @@ impl<'de> MyDeserialize<'de> for GreetingError<'de> {
 
     fn deserialize<'s>(_ctx: (), buf: &mut ParseBuf<'de>) -> Result<Self, FaultOf<'s>> {
         let packet: GreetingErrorRef<'de> = buf.parse(())?;
-        Ok(packet.to_packet())
+        Ok(packet.to_owned())
     }
 
     ghost size_is = { λ _. unfold spec.greeting_error in refl };

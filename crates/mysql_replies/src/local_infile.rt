@@ -82,7 +82,7 @@ impl<'de> MyDeserialize<'de> for LocalInfilePacket<'de> {
 
     fn deserialize<'s>(_ctx: (), buf: &mut ParseBuf<'de>) -> Result<Self, FaultOf<'s>> {
         let request: LocalInfilePacketRef<'de> = buf.parse(())?;
-        Ok(request.to_packet())
+        Ok(request.to_owned())
     }
 
     ghost size_is = { λ _. unfold infile.local_infile in refl };

@@ -42,7 +42,7 @@ impl<'a> LocalInfilePacketRef<'a> {
 
     /// Converts to a [`LocalInfilePacket`], which still borrows the name. It takes no memory.
     #[inline]
-    pub fn to_packet(&self) -> LocalInfilePacket<'a>
+    pub fn to_owned(&self) -> LocalInfilePacket<'a>
         ensures value { result ≡ self.now }
     {
         LocalInfilePacket::new(CowSlice::Borrowed(self.file_name))

@@ -39,7 +39,7 @@ impl<'a> Model for OkPacketBodyRef<'a> {
 impl<'a> OkPacketBodyRef<'a> {
     /// Converts to an [`OkPacketBody`], which still borrows the texts. It takes no memory.
     #[inline(always)]
-    pub fn to_body(&self) -> OkPacketBody<'a>
+    pub fn to_owned(&self) -> OkPacketBody<'a>
         ensures value { result ≡ self.now }
     {
         let (mut info, mut session_state_info) = (self.info.rest(), self.session_state_info.rest());

@@ -107,7 +107,7 @@ impl<T: ProtocolKind> OkPacketKind for T {
         capabilities: CapabilityFlags,
         buf: &mut ParseBuf<'de>,
     ) -> Result<OkPacketBody<'de>, FaultOf<'s>> {
-        Ok(T::read(capabilities, buf)?.to_body())
+        Ok(T::read(capabilities, buf)?.to_owned())
     }
 }
 

@@ -90,7 +90,7 @@ impl<'a> OkPacketRef<'a> {
 
     /// The bytes of the state string, if it isn't empty.
     #[inline]
-    pub fn session_state_info(&self) -> Option<&'a [u8]>
+    pub fn session_state_info_ref(&self) -> Option<&'a [u8]>
         ensures value { option_map (λ bytes. bytes.now) result ≡ spec.session_state self.now }
     {
         unless_empty(&self.body.session_state_info)
@@ -107,10 +107,10 @@ impl<'a> OkPacketRef<'a> {
 
     /// Converts to an [`OkPacket`], which still borrows the texts. It takes no memory.
     #[inline]
-    pub fn to_ok_packet(&self) -> OkPacket<'a>
+    pub fn to_owned(&self) -> OkPacket<'a>
         ensures value { result ≡ self.now }
     {
-        OkPacket::from_body(self.body.to_body())
+        OkPacket::from_body(self.body.to_owned())
     }
 }
 

@@ -134,7 +134,7 @@ impl<'a> ProgressReportRef<'a> {
     }
 
     /// Converts to a [`ProgressReport`], which still borrows the text. It takes no memory.
-    pub fn to_report(&self) -> ProgressReport<'a>
+    pub fn to_owned(&self) -> ProgressReport<'a>
         ensures value { result ≡ self.now }
     {
         ProgressReport::new(
@@ -196,7 +196,7 @@ impl<'de> MyDeserialize<'de> for ProgressReport<'de> {
 
     fn deserialize<'s>(_ctx: (), buf: &mut ParseBuf<'de>) -> Result<Self, FaultOf<'s>> {
         let report: ProgressReportRef<'de> = buf.parse(())?;
-        Ok(report.to_report())
+        Ok(report.to_owned())
     }
 
     ghost size_is = { λ _. unfold spec.progress_report in refl };

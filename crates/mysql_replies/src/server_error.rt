@@ -31,7 +31,7 @@ pub struct ServerErrorOf<S, B> {
 /// The code is a field of the packet around the error: it is passed to the reader, and isn't written.
 ///
 /// ```
-/// match packet.to_packet() {
+/// match packet.to_owned() {
 /// ErrPacket::Error(error) => Ok(error.into_owned(alloc)?),
 /// ErrPacket::Progress(_) => Err(Error::Unknown("a report in place of an error")),
 /// }
@@ -131,11 +131,11 @@ impl<'a> ServerErrorRef<'a> {
     }
 
     /// Converts to a [`ServerError`], which still borrows the message. It takes no memory.
-    pub fn to_error(&self) -> ServerError<'a>
+    pub fn to_owned(&self) -> ServerError<'a>
         ensures value { result ≡ self.now }
     {
         let state = match &self.state {
-            Some(state) => Some(state.to_state()),
+            Some(state) => Some(state.to_owned()),
             None => None,
         };
         ServerError::new(
@@ -193,7 +193,7 @@ impl<'de> MyDeserialize<'de> for ServerError<'de> {
 
     fn deserialize<'s>(ctx: (u16, bool), buf: &mut ParseBuf<'de>) -> Result<Self, FaultOf<'s>> {
         let error: ServerErrorRef<'de> = buf.parse(ctx)?;
-        Ok(error.to_error())
+        Ok(error.to_owned())
     }
 
     ghost size_is = { λ _. unfold spec.server_error in refl };

@@ -145,7 +145,7 @@ impl<'de> MyDeserialize<'de> for SessionStateInfo<'de> {
 
     fn deserialize<'s>(_ctx: (), buf: &mut ParseBuf<'de>) -> Result<Self, FaultOf<'s>> {
         let info: SessionStateInfoRef<'de> = buf.parse(())?;
-        Ok(info.to_info())
+        Ok(info.to_owned())
     }
 
     ghost size_is = { λ _. unfold spec.session_state_info in refl };

@@ -44,7 +44,7 @@ impl<'a> SessionStateInfoRef<'a> {
 
     /// The bytes of the data.
     #[inline]
-    pub fn data_bytes(&self) -> &'a [u8]
+    pub fn data_ref(&self) -> &'a [u8]
         ensures value { result.now ≡ spec.data_bytes self.now }
     {
         let mut data_bytes = self.content.rest();
@@ -71,12 +71,12 @@ impl<'a> SessionStateInfoRef<'a> {
     }
 
     /// Converts to a [`SessionStateInfo`], which still borrows the data. It takes no memory.
-    pub fn to_info(&self) -> SessionStateInfo<'a>
+    pub fn to_owned(&self) -> SessionStateInfo<'a>
         ensures value { result ≡ self.now }
     {
         SessionStateInfo {
             data_type: self.data_type,
-            content: RawBytes::new(CowSlice::Borrowed(self.data_bytes())),
+            content: RawBytes::new(CowSlice::Borrowed(self.data_ref())),
         }
     }
 }

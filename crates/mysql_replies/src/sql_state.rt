@@ -64,7 +64,7 @@ impl<'de> MyDeserialize<'de> for SqlState {
 
     fn deserialize<'s>(_ctx: (), buf: &mut ParseBuf<'de>) -> Result<Self, FaultOf<'s>> {
         let state: SqlStateRef<'de> = buf.parse_unchecked(())?;
-        Ok(state.to_state())
+        Ok(state.to_owned())
     }
 
     ghost size_is = { λ _. unfold spec.sql_state in size-block 6 (spec.sql_state_fields.form tt) };

@@ -40,7 +40,7 @@ impl<'a> SqlStateRef<'a> {
 
     /// Converts to a [`SqlState`].
     #[inline]
-    pub fn to_state(&self) -> SqlState
+    pub fn to_owned(&self) -> SqlState
         ensures value { result ≡ self.now }
     {
         SqlState::new(*self.state)
@@ -65,7 +65,7 @@ impl PartialEq for SqlStateRef<'_> {
     ghost laws = { laws-law };
 
     fn eq(&self, other: &Self) -> bool {
-        self.to_state() == other.to_state()
+        self.to_owned() == other.to_owned()
     }
 }
 
@@ -77,7 +77,7 @@ impl Eq for SqlStateRef<'_> {
 
 impl Debug for SqlStateRef<'_> {
     fn fmt<W: fmt::Write>(&self, f: &mut fmt::Formatter<W>) -> fmt::Result {
-        self.to_state().fmt(f)
+        self.to_owned().fmt(f)
     }
 }
 

@@ -76,10 +76,7 @@ impl<'a> SessionStateChangeRef<'a> {
 
     /// Converts to a [`SessionStateChange`], whose texts still borrow from the packet. Only a nonempty list of system variables
     /// takes memory.
-    pub fn to_session_state_change(
-        &self,
-        alloc: Global,
-    ) -> Result<SessionStateChange<'a>, AllocError>
+    pub fn to_owned(&self, alloc: Global) -> Result<SessionStateChange<'a>, AllocError>
         ensures value { IfOk result (λ change. change ≡ self.now) }
         ensures memory { OnErr result (ListsVariables self.now) }
     {
@@ -89,7 +86,7 @@ impl<'a> SessionStateChangeRef<'a> {
                 SessionStateChange::Schema(Schema::new(CowSlice::Borrowed(*name)))
             }
             ChangeRef::SystemVariables(variables) => {
-                SessionStateChange::SystemVariables(variables.to_system_variables(alloc)?)
+                SessionStateChange::SystemVariables(variables.to_owned(alloc)?)
             }
             ChangeRef::Gtids(gtids) => {
                 SessionStateChange::Gtids(Gtids::new(CowSlice::Borrowed(*gtids)))

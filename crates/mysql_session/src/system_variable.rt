@@ -99,7 +99,7 @@ impl<'de> MyDeserialize<'de> for SystemVariable<'de> {
 
     fn deserialize<'s>(_ctx: (), buf: &mut ParseBuf<'de>) -> Result<Self, FaultOf<'s>> {
         let variable: SystemVariableRef<'de> = buf.parse(())?;
-        Ok(variable.to_variable())
+        Ok(variable.to_owned())
     }
 
     ghost size_is = { λ _. unfold spec.system_variable in refl };

@@ -45,7 +45,7 @@ impl<'a> SystemVariableRef<'a> {
 
     /// Converts to a [`SystemVariable`], whose texts still borrow from the packet. It takes no memory.
     #[inline]
-    pub fn to_variable(&self) -> SystemVariable<'a>
+    pub fn to_owned(&self) -> SystemVariable<'a>
         ensures value { result ≡ self.now }
     {
         SystemVariable::new(

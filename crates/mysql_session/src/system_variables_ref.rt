@@ -75,13 +75,13 @@ impl<'a> SystemVariablesRef<'a> {
     }
 
     /// Converts to a [`SystemVariables`], whose texts still borrow from the packet. An empty list takes no memory.
-    pub fn to_system_variables(&self, alloc: Global) -> Result<SystemVariables<'a>, AllocError>
+    pub fn to_owned(&self, alloc: Global) -> Result<SystemVariables<'a>, AllocError>
         ensures value { IfOk result (λ variables. variables ≡ self.now) }
         ensures memory { OnErr result (self.now ≢ []) }
     {
         let mut variables = Vec::new(alloc);
         for variable in self.iter() {
-            variables.push(variable.to_variable())?;
+            variables.push(variable.to_owned())?;
         }
         Ok(SystemVariables::new(variables))
     }

@@ -30,8 +30,8 @@ pub fn replica_fields<'p>(replica: &ComRegisterSlaveRef<'p>) -> [Field<'p>; 4]
 {
     [
         Field::number("server_id", u64::from(replica.server_id())),
-        Field::bytes("hostname", replica.hostname()),
-        Field::bytes("user", replica.user()),
+        Field::bytes("hostname", replica.hostname_raw()),
+        Field::bytes("user", replica.user_raw()),
         Field::number("port", u64::from(replica.port())),
     ]
 }

@@ -63,7 +63,7 @@ impl<'a> ComStmtSendLongDataRef<'a> {
 
     /// Converts to a [`ComStmtSendLongData`], which still borrows the data. It takes no memory.
     #[inline]
-    pub fn to_packet(&self) -> ComStmtSendLongData<'a>
+    pub fn to_owned(&self) -> ComStmtSendLongData<'a>
         ensures value { result ≡ self.now }
     {
         let content = CowSlice::Borrowed(self.content);
@@ -93,7 +93,7 @@ impl PartialEq for ComStmtSendLongDataRef<'_> {
     ghost laws = { laws-law };
 
     fn eq(&self, other: &Self) -> bool {
-        self.to_packet() == other.to_packet()
+        self.to_owned() == other.to_owned()
     }
 }
 
@@ -105,7 +105,7 @@ impl Eq for ComStmtSendLongDataRef<'_> {
 
 impl Debug for ComStmtSendLongDataRef<'_> {
     fn fmt<W: fmt::Write>(&self, f: &mut fmt::Formatter<W>) -> fmt::Result {
-        self.to_packet().fmt(f)
+        self.to_owned().fmt(f)
     }
 }
 

@@ -218,7 +218,7 @@ impl StoredRow {
         let mut cells = Vec::with_capacity(alloc, count)?;
         for place in 0..count {
             let value = self.value(place).unwrap();
-            cells.push_reserved(Some(value.to_value(alloc)?));
+            cells.push_reserved(Some(value.to_owned(alloc)?));
         }
         Ok(new_row_raw(cells, columns))
     }

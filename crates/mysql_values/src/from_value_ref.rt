@@ -15,7 +15,7 @@ pub struct FromValueRefError<'a>(pub ValueRef<'a>);
 
 /// A type that values convert to without memory: bytes are borrowed.
 ///
-/// [`ValueRef::to_value`] makes an owned value, which converts by [`FromValue`](crate::FromValue).
+/// [`ValueRef::to_owned`] makes an owned value, which converts by [`FromValue`](crate::FromValue).
 ///
 /// ```
 /// let row = TextRowView::new(columns, ParseBuf::new(alloc, payload));

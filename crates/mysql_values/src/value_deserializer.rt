@@ -135,7 +135,7 @@ pub(crate) fn read_kind<'s>(
 {
     let mut rest = buf.rest();
     let value = read_kind_ref(kind, is_unsigned, &mut rest)?;
-    let value = value.to_value(buf.alloc())?;
+    let value = value.to_owned(buf.alloc())?;
     *buf = rest;
     Ok(value)
 }

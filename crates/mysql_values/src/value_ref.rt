@@ -12,7 +12,7 @@ use std::alloc::{AllocError, Global};
 /// Floats are compared by their bits.
 ///
 /// ```
-/// value.to_value(alloc)
+/// value.to_owned(alloc)
 /// ```
 #[derive(Clone, Copy, PartialEq, Debug)]
 pub enum ValueRef<'a> {
@@ -68,7 +68,7 @@ impl ValueRef<'_> {
     ghost use Rattle.mysql_values.specs.ValueDeserializer.{has_bytes};
 
     /// Copies the value into an owned one. Only nonempty bytes take memory.
-    pub fn to_value(&self, alloc: Global) -> Result<Value, AllocError>
+    pub fn to_owned(&self, alloc: Global) -> Result<Value, AllocError>
         ensures value { IfOk result (λ value. content_of value ≡ ref_content self.now) }
         ensures memory { IfErr result (λ _. IsTrue (has_bytes (ref_content self.now))) }
     {

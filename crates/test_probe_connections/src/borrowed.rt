@@ -82,7 +82,7 @@ fn is_response(
 ) -> Result<bool> {
     let has_attributes = texts(alloc, place.connect_attributes())?
         == owned.connect_attributes(alloc)?;
-    Ok(has_attributes && place.to_response(alloc)? == *owned)
+    Ok(has_attributes && place.to_owned(alloc)? == *owned)
 }
 
 /// Whether a copy of a response is that response.
@@ -92,7 +92,7 @@ fn is_copied_response(
     alloc: Global,
 ) -> Result<bool> {
     let copy = counted!(alloc; place.clone())?;
-    Ok(copy.to_response(alloc)? == *owned)
+    Ok(copy.to_owned(alloc)? == *owned)
 }
 
 impl<'a> InPlace<HandshakeResponse<'a>, HandshakeResponseRef<'a>> for Connections {
@@ -141,8 +141,8 @@ fn is_more_data(
     };
     let copy = counted!(alloc; place.clone())?;
     Ok(
-        place.to_more_data(alloc)? == *owned
-            && copy.to_more_data(alloc)? == *owned
+        place.to_owned(alloc)? == *owned
+            && copy.to_owned(alloc)? == *owned
             && place.auth_plugin() == of_name
             && (!are_texts || more_again(place, alloc)? == *owned),
     )
@@ -165,7 +165,7 @@ fn is_change(
     alloc: Global,
 ) -> Result<bool> {
     let more = match place.more_data() {
-        Some(more) => Some(more.to_more_data(alloc)?),
+        Some(more) => Some(more.to_owned(alloc)?),
         None => None,
     };
     let again = ComChangeUser::new()
@@ -174,7 +174,7 @@ fn is_change(
         .with_database(Some(CowSlice::Borrowed(place.database())))
         .with_more_data(more);
     let copy = counted!(alloc; place.clone())?;
-    Ok(again == *owned && place.to_change(alloc)? == *owned && copy.to_change(alloc)? == *owned)
+    Ok(again == *owned && place.to_owned(alloc)? == *owned && copy.to_owned(alloc)? == *owned)
 }
 
 impl<'a> InPlace<ComChangeUser<'a>, ComChangeUserRef<'a>> for Connections {
@@ -187,22 +187,22 @@ impl<'a> InPlace<AuthSwitchRequest<'a>, AuthSwitchRequestRef<'a>> for Connection
     fn is(place: &AuthSwitchRequestRef<'a>, owned: &AuthSwitchRequest<'a>, out: &mut Out) -> bool {
         fields!(place, owned; alike auth_plugin, plugin_data, plugin_data_raw)
             && AuthPlugin::from_bytes(place.auth_plugin_name()) == owned.auth_plugin()
-            && place.to_packet() == *owned
+            && place.to_owned() == *owned
             && is_copied(place, out)
     }
 }
 
 impl<'a> InPlace<AuthMoreData<'a>, AuthMoreDataRef<'a>> for Connections {
     fn is(place: &AuthMoreDataRef<'a>, owned: &AuthMoreData<'a>, _out: &mut Out) -> bool {
-        fields!(place, owned; alike data) && place.to_packet() == *owned
+        fields!(place, owned; alike data) && place.to_owned() == *owned
     }
 }
 
 /// The owned form has its key as text alone.
 impl<'a> InPlace<PublicKeyResponse<'a>, PublicKeyResponseRef<'a>> for Connections {
     fn is(place: &PublicKeyResponseRef<'a>, owned: &PublicKeyResponse<'a>, _out: &mut Out) -> bool {
-        PublicKeyResponse::new(CowSlice::Borrowed(place.rsa_key())) == *owned
-            && place.to_packet() == *owned
+        PublicKeyResponse::new(CowSlice::Borrowed(place.rsa_key_raw())) == *owned
+            && place.to_owned() == *owned
     }
 }
 

@@ -47,16 +47,16 @@ impl Shows<ComBinlogDump<'_>> for Connections {
 
 impl InPlace<ComRegisterSlave<'_>, ComRegisterSlaveRef<'_>> for Connections {
     fn is(place: &ComRegisterSlaveRef<'_>, owned: &ComRegisterSlave<'_>, _out: &mut Out) -> bool {
-        fields!(place, owned; alike server_id, hostname with hostname_raw, user with user_raw, password with password_raw,
+        fields!(place, owned; alike server_id, hostname_raw, user_raw, password_raw,
             port, replication_rank, master_id)
-            && place.to_packet() == *owned
+            && place.to_owned() == *owned
     }
 }
 
 impl InPlace<ComBinlogDump<'_>, ComBinlogDumpRef<'_>> for Connections {
     fn is(place: &ComBinlogDumpRef<'_>, owned: &ComBinlogDump<'_>, _out: &mut Out) -> bool {
-        fields!(place, owned; alike pos, flags, server_id, filename with filename_raw)
-            && place.to_packet() == *owned
+        fields!(place, owned; alike pos, flags, server_id, filename_raw)
+            && place.to_owned() == *owned
     }
 }
 

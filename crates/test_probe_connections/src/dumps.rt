@@ -39,7 +39,7 @@ fn are_read_again(place: (&[u8], bool), owned: &[Sid<'_>], out: &mut Out) -> boo
 /// Whether sids that stay in their packet are these: one by one, and where their bytes are read once more.
 fn are_sids(place: &SidsRef<'_>, owned: &[Sid<'_>], out: &mut Out) -> bool {
     let alloc = out.alloc();
-    let listed = counted!(alloc; place.to_vec(alloc));
+    let listed = counted!(alloc; place.to_owned(alloc));
     let mut left = place.iter();
     let are_same = owned.iter().all(|owned| {
         let next = counted!(out.alloc(); value left.next());
@@ -58,9 +58,9 @@ fn are_sids(place: &SidsRef<'_>, owned: &[Sid<'_>], out: &mut Out) -> bool {
 impl InPlace<ComBinlogDumpGtid<'_>, ComBinlogDumpGtidRef<'_>> for Connections {
     fn is(place: &ComBinlogDumpGtidRef<'_>, owned: &ComBinlogDumpGtid<'_>, out: &mut Out) -> bool {
         let alloc = out.alloc();
-        let made = counted!(alloc; place.to_packet(alloc));
+        let made = counted!(alloc; place.to_owned(alloc));
         or_lost(out, made).is_some_and(|made| made == *owned)
-            && fields!(place, owned; alike server_id, flags, filename with filename_raw, pos)
+            && fields!(place, owned; alike server_id, flags, filename_raw, pos)
             && are_sids(&place.sids(), owned.sids(), out)
             && is_copied(place, out)
     }

@@ -47,7 +47,7 @@ impl InPlace<HandshakePacket<'_>, HandshakePacketRef<'_>> for Connections {
         fields!(place, owned; alike protocol_version, server_version with server_version_ref, connection_id,
             scramble_1 with scramble_1_ref, scramble_2 with scramble_2_ref, capabilities, default_collation,
             status_flags, mariadb_ext_capabilities, auth_plugin_name with auth_plugin_name_ref, auth_plugin)
-            && place.to_packet() == *owned
+            && place.to_owned() == *owned
             && is_copied(place, out)
     }
 }

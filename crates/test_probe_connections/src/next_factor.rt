@@ -17,7 +17,7 @@ impl<'a> InPlace<AuthNextFactor<'a>, AuthNextFactorRef<'a>> for Connections {
     fn is(place: &AuthNextFactorRef<'a>, owned: &AuthNextFactor<'a>, out: &mut Out) -> bool {
         fields!(place, owned; alike auth_plugin, plugin_data, plugin_data_raw)
             && AuthPlugin::from_bytes(place.auth_plugin_name()) == owned.auth_plugin()
-            && place.to_packet() == *owned
+            && place.to_owned() == *owned
             && is_copied(place, out)
     }
 }

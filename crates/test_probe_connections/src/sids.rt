@@ -37,7 +37,7 @@ impl Shows<Sid<'_>> for Connections {
 
 /// Whether a tag that stays in its packet is this one.
 fn is_tag(place: &TagRef<'_>, owned: &Tag<'_>) -> bool {
-    let again = TagRef::new(place.as_str()).map(|tag| tag.to_tag());
+    let again = TagRef::new(place.as_str()).map(|tag| tag.to_owned());
     place.as_str() == owned.as_str() && again.is_ok_and(|tag| tag == *owned)
 }
 
@@ -52,7 +52,7 @@ fn are_tags(place: Option<&TagRef<'_>>, owned: Option<&Tag<'_>>) -> bool {
 /// Whether intervals that stay in their packet are these: one by one, in a list, and by their bytes.
 fn are_intervals(place: &IntervalsRef<'_>, owned: &[GnoInterval], out: &mut Out) -> bool {
     let alloc = out.alloc();
-    let listed = counted!(alloc; place.to_vec(alloc));
+    let listed = counted!(alloc; place.to_owned(alloc));
     let mut left = place.iter();
     let are_same = owned
         .iter()
@@ -70,7 +70,7 @@ fn are_intervals(place: &IntervalsRef<'_>, owned: &[GnoInterval], out: &mut Out)
 impl InPlace<Sid<'_>, SidRef<'_>> for Connections {
     fn is(place: &SidRef<'_>, owned: &Sid<'_>, out: &mut Out) -> bool {
         let alloc = out.alloc();
-        let made = counted!(alloc; place.to_sid(alloc));
+        let made = counted!(alloc; place.to_owned(alloc));
         or_lost(out, made).is_some_and(|made| made == *owned)
             && place.uuid() == owned.uuid()
             && are_tags(place.tag(), owned.tag())

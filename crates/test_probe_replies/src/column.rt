@@ -55,7 +55,7 @@ impl Shows<LocalInfilePacket<'_>> for Server {
 
 impl<'a> InPlace<LocalInfilePacket<'a>, LocalInfilePacketRef<'a>> for Server {
     fn is(place: &LocalInfilePacketRef<'a>, owned: &LocalInfilePacket<'a>, _out: &mut Out) -> bool {
-        place.file_name() == owned.file_name_ref() && place.to_packet() == *owned
+        place.file_name() == owned.file_name_ref() && place.to_owned() == *owned
     }
 }
 
@@ -79,7 +79,7 @@ pub fn made_column(column: &Column, alloc: Global) -> Result<Column> {
 impl InPlace<Column, ColumnRef<'_>> for Server {
     fn is(place: &ColumnRef<'_>, owned: &Column, out: &mut Out) -> bool {
         let alloc = out.alloc();
-        let made = counted!(alloc; place.to_column(alloc));
+        let made = counted!(alloc; place.to_owned(alloc));
         or_lost(out, made).is_some_and(|made| made == *owned)
             && is_copied(place, out)
             && place.column_type() == owned.column_type()

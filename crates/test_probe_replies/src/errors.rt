@@ -28,11 +28,7 @@ impl Shows<ErrPacket<'_>> for Server {
         }
         displayed(it, out);
         let alloc = out.alloc();
-        let made = match it {
-            ErrPacket::Error(error) => made_error(error, alloc).map(ErrPacket::Error),
-            ErrPacket::Progress(report) => made_progress(report, alloc).map(ErrPacket::Progress),
-        };
-        made_anew(out, it, made)
+        made_anew(out, it, made_packet(it, alloc))
     }
 }
 
@@ -88,7 +84,7 @@ impl<'a> InPlace<ErrPacket<'a>, ErrPacketRef<'a>> for Server {
                 place.is_progress_report() && Server::is(place.progress_report(), report, out)
             }
         };
-        is_same && place.to_packet() == *owned
+        is_same && place.to_owned() == *owned
     }
 }
 
@@ -96,7 +92,7 @@ impl<'a> InPlace<GreetingError<'a>, GreetingErrorRef<'a>> for Server {
     fn is(place: &GreetingErrorRef<'a>, owned: &GreetingError<'a>, out: &mut Out) -> bool {
         Server::is(place.server_error(), owned.server_error(), out)
             && is_copied(place, out)
-            && place.to_packet() == *owned
+            && place.to_owned() == *owned
     }
 }
 
@@ -106,6 +102,14 @@ fn show_error(error: &ServerError<'_>, out: &mut Out) {
     out.show("sql_state", state);
     fields!(out, error; message = message_ref; texts message_str = message_str);
     laws::this_server_error_round_trips(error)
+}
+
+/// The packet of the same parts, on memory of its own.
+fn made_packet(packet: &ErrPacket<'_>, alloc: Global) -> Result<ErrPacket<'static>> {
+    match packet {
+        ErrPacket::Error(error) => Ok(ErrPacket::Error(made_error(error, alloc)?)),
+        ErrPacket::Progress(report) => Ok(ErrPacket::Progress(made_progress(report, alloc)?)),
+    }
 }
 
 /// The error of the same parts, on memory of its own.
@@ -121,7 +125,7 @@ impl<'a> InPlace<ServerError<'a>, ServerErrorRef<'a>> for Server {
         is_copied(place, out)
             && place.sql_state() == state.as_ref().map(|state| state.as_slice())
             && fields!(place, owned; alike error_code, message with message_ref)
-            && place.to_error() == *owned
+            && place.to_owned() == *owned
     }
 }
 
@@ -129,7 +133,7 @@ impl InPlace<SqlState, SqlStateRef<'_>> for Server {
     fn is(place: &SqlStateRef<'_>, owned: &SqlState, out: &mut Out) -> bool {
         place.as_bytes() == owned.as_bytes().as_slice()
             && is_copied(place, out)
-            && place.to_state() == *owned
+            && place.to_owned() == *owned
     }
 }
 
@@ -149,6 +153,6 @@ fn made_progress(report: &ProgressReport<'_>, alloc: Global) -> Result<ProgressR
 impl<'a> InPlace<ProgressReport<'a>, ProgressReportRef<'a>> for Server {
     fn is(place: &ProgressReportRef<'a>, owned: &ProgressReport<'a>, _out: &mut Out) -> bool {
         fields!(place, owned; alike stage, max_stage, progress, stage_info with stage_info_ref)
-            && place.to_report() == *owned
+            && place.to_owned() == *owned
     }
 }

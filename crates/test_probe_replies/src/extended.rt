@@ -36,7 +36,7 @@ impl<'a> InPlace<ColumnAttribute<'a>, ColumnAttributeRef<'a>> for Server {
         is_copied(place, out)
             && place.kind() == owned.kind()
             && place.text() == owned.text_ref()
-            && place.to_attribute() == *owned
+            && place.to_owned() == *owned
     }
 }
 
@@ -81,7 +81,7 @@ fn are_same(place: ColumnAttributes<'_>, owned: ColumnAttributes<'_>) -> bool {
 impl InPlace<ExtendedColumn, ExtendedColumnRef<'_>> for Server {
     fn is(place: &ExtendedColumnRef<'_>, owned: &ExtendedColumn, out: &mut Out) -> bool {
         let alloc = out.alloc();
-        let made = counted!(alloc; place.to_column(alloc));
+        let made = counted!(alloc; place.to_owned(alloc));
         let Some(made) = or_lost(out, made) else {
             return false;
         };

@@ -6,7 +6,7 @@ use crate::prelude::*;
 impl Shows<FieldListColumn<'_>> for Server {
     fn show(it: &FieldListColumn<'_>, out: &mut Out) {
         let alloc = out.alloc();
-        let column = counted!(alloc; it.column().to_column(alloc));
+        let column = counted!(alloc; it.column().to_owned(alloc));
         if let Some(column) = or_lost(out, column) {
             show_column(column.column(), out);
         }

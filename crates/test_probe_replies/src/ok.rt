@@ -91,8 +91,8 @@ impl<'a> InPlace<OkPacket<'a>, OkPacketRef<'a>> for Server {
         gives_changes_of(&mut changes, owned, out)
             && changes.next().is_none()
             && fields!(place, owned; alike affected_rows, last_insert_id, status_flags, warnings, info with info_ref,
-                session_state_info with session_state_info_ref)
-            && place.to_ok_packet() == *owned
+                session_state_info_ref)
+            && place.to_owned() == *owned
     }
 }
 
@@ -139,7 +139,7 @@ fn lies_in(
     let place: Result<OkPacketBodyRef<'_>, Fault> =
         counted!(alloc; CommonOkPacket::parse_body_ref(capabilities, &mut buf));
     match place {
-        Ok(place) => place.to_body() == *body,
+        Ok(place) => place.to_owned() == *body,
         Err(_) => false,
     }
 }

@@ -83,7 +83,7 @@ impl Shows<SystemVariables<'_>> for Server {
 impl<'a> InPlace<Change<'a>, SessionStateChangeRef<'a>> for Server {
     fn is(place: &SessionStateChangeRef<'a>, owned: &Change<'a>, out: &mut Out) -> bool {
         let alloc = out.alloc();
-        let made = counted!(alloc; place.to_session_state_change(alloc));
+        let made = counted!(alloc; place.to_owned(alloc));
         let is_made = or_lost(out, made).is_some_and(|made| made == *owned);
         is_made && lies_there(place.change(), owned, out)
     }
@@ -126,7 +126,7 @@ fn made_variable<'a>(variable: &'a SystemVariable<'_>) -> SystemVariable<'a> {
 impl<'a> InPlace<SystemVariable<'a>, SystemVariableRef<'a>> for Server {
     fn is(place: &SystemVariableRef<'a>, owned: &SystemVariable<'a>, _out: &mut Out) -> bool {
         fields!(place, owned; alike name with name_bytes, value with value_bytes)
-            && place.to_variable() == *owned
+            && place.to_owned() == *owned
     }
 }
 
@@ -138,7 +138,7 @@ impl<'a> InPlace<SystemVariables<'a>, SystemVariablesRef<'a>> for Server {
             next.is_some_and(|variable| Server::is(&variable, owned, out))
         });
         let alloc = out.alloc();
-        let listed = counted!(alloc; place.to_system_variables(alloc));
+        let listed = counted!(alloc; place.to_owned(alloc));
         are_same
             && left.next().is_none()
             && or_lost(out, listed).is_some_and(|listed| listed == *owned)

@@ -53,10 +53,10 @@ impl<'a> InPlace<SessionStateInfo<'a>, SessionStateInfoRef<'a>> for Server {
         let decoded = counted!(alloc; value place.decode());
         let sent = counted!(alloc; value place.decode_wire());
         place.data_type() == owned.data_type()
-            && place.data_bytes() == owned.data_ref()
+            && place.data_ref() == owned.data_ref()
             && is_same_change(decoded, &owned.decode(alloc), out)
             && is_same_change(sent, &owned.decode_wire(alloc), out)
-            && place.to_info() == *owned
+            && place.to_owned() == *owned
     }
 }
 

@@ -23,7 +23,7 @@ pub fn is_alike(alloc: Global, value: &Value) -> Result<bool> {
     is_alike = is_alike && borrowed.sent_type() == value.sent_type();
     is_alike = is_alike && borrowed.is_uint() == value.is_uint();
     is_alike = is_alike && ParamType::from_value_ref(&borrowed) == ParamType::from_value(value);
-    let copy = counted!(alloc; borrowed.to_value(alloc))?;
+    let copy = counted!(alloc; borrowed.to_owned(alloc))?;
     Ok(is_alike && copy == *value && borrowed == copy.as_ref())
 }
 

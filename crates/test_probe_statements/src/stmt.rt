@@ -47,7 +47,7 @@ impl InPlace<ComStmtSendLongData<'_>, ComStmtSendLongDataRef<'_>> for Statements
         _out: &mut Out,
     ) -> bool {
         fields!(place, owned; alike stmt_id, param_index, data with data_ref)
-            && place.to_packet() == *owned
+            && place.to_owned() == *owned
     }
 }
 

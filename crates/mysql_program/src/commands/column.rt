@@ -27,7 +27,7 @@ fn show(alloc: Global, column: &ColumnRef<'_>, rest: usize) -> Result<Answer, Al
     ensures value { IfOk result (λ answer. answer ≡ done (column_lines column.now rest)) }
 {
     let mut written = Vec::new(alloc);
-    column.to_column(alloc)?.serialize(&mut written)?;
+    column.to_owned(alloc)?.serialize(&mut written)?;
     let mut text = text_of(alloc, &column_names(column))?;
     append_lines(alloc, &mut text, &column_numbers(column))?;
     append_end(alloc, &mut text, rest, written.as_slice())?;

@@ -32,7 +32,7 @@ fn show(alloc: Global, packet: &ErrPacketRef<'_>, rest: usize) -> Result<Answer,
     ensures value { IfOk result (λ answer. answer ≡ done (err_lines packet.now rest)) }
 {
     let mut text = part_text(alloc, packet)?;
-    let packet = packet.to_packet();
+    let packet = packet.to_owned();
     let shown = format!(in alloc; "{packet}")?;
     append_lines(alloc, &mut text, &[Field::word("text", shown.as_str())])?;
     let mut written = Vec::new(alloc);

@@ -28,7 +28,7 @@ pub fn answer(alloc: Global, bytes: &[u8]) -> Result<Answer, AllocError>
 fn show(alloc: Global, packet: &HandshakePacketRef<'_>, rest: usize) -> Result<Answer, AllocError>
     ensures value { IfOk result (spec.ShowsHandshake packet.now rest) }
 {
-    let whole = packet.to_packet();
+    let whole = packet.to_owned();
     let mut text = text_with(
         alloc,
         packet,

@@ -27,7 +27,7 @@ fn show(alloc: Global, packet: &LocalInfilePacketRef<'_>, rest: usize) -> Result
     ensures value { IfOk result (λ answer. answer ≡ done (infile_lines packet.now rest)) }
 {
     let mut written = Vec::new(alloc);
-    packet.to_packet().serialize(&mut written)?;
+    packet.to_owned().serialize(&mut written)?;
     let mut text = text_of(alloc, &infile_fields(packet))?;
     append_end(alloc, &mut text, rest, written.as_slice())?;
     Ok(Answer::done(text))

@@ -108,7 +108,7 @@ fn show(
     ensures value { IfOk result (λ answer. answer ≡ spec.with_session_state layout (spec.field_lines packet.now) rest (state_string.reads (state_bytes packet.now))) }
 {
     let text = fields_text(alloc, packet)?;
-    match packet.to_ok_packet().session_state_info(alloc) {
+    match packet.to_owned().session_state_info(alloc) {
         Ok(infos) => with_changes(alloc, text, layout, infos.as_slice(), rest),
         Err(fault) => Answer::refused(alloc, text, fault),
     }
@@ -118,7 +118,7 @@ fn fields_text(alloc: Global, packet: &OkPacketRef<'_>) -> Result<String, AllocE
     ensures value { IfOk result (λ text. string_bytes text ≡ spec.field_lines packet.now) }
 {
     let mut text = text_of(alloc, &ok_fields(packet))?;
-    let state = Field::optional_bytes("session_state_info", packet.session_state_info());
+    let state = Field::optional_bytes("session_state_info", packet.session_state_info_ref());
     append_lines(alloc, &mut text, &[state])?;
     Ok(text)
 }

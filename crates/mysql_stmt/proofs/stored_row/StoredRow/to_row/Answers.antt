@@ -15,8 +15,8 @@ loop-place-preserved c =
     sym (subst (λ (v : Option ValueRef). option_map ref_content v ≡ slice_get c.args.self.now.values c.loop-place.place) c.unwrap-value.ensures c.value.ensures.value) in
     record {
       held =
-          ap held c.push_reserved.ensures.items ∙ map_push (option_map content_of) c.loop-place.cells.items (Some c.in_ok-to_value.field-0)
-          ∙ ap (λ (x : Content). held c.loop-place.cells.items ++ Some x ∷ []) c.in_ok-to_value.ensures.value
+          ap held c.push_reserved.ensures.items ∙ map_push (option_map content_of) c.loop-place.cells.items (Some c.in_ok-to_owned.field-0)
+          ∙ ap (λ (x : Content). held c.loop-place.cells.items ++ Some x ∷ []) c.in_ok-to_owned.ensures.value
           ∙ ap (λ (cells : List (Option Content)). cells ++ Some (ref_content c.unwrap-value.result) ∷ []) k.held
           ∙ sym (cells-more c.args.self.now.values c.loop-place.place (ref_content c.unwrap-value.result) found);
       len = c.push_reserved.ensures.len ∙ ap (λ n. n + 1) k.len;
