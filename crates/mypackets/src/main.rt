@@ -1,21 +1,13 @@
 //! Reads a MySQL packet given as hexadecimal digits, and writes what it holds.
 #![tactic(auto)]
 
-use std::io::ErrorKind;
+use mysql_show::arguments;
+use std::io::{self, ErrorKind};
 use std::process::ExitCode;
-use std::{env, io};
-
-fn words(rt: &HostRuntime) -> io::Result<Vec<String>> {
-    let mut words = Vec::new(rt.alloc());
-    for word in env::args(rt)?.skip(1) {
-        words.push(word)?;
-    }
-    Ok(words)
-}
 
 fn main(rt: HostRuntime) -> ExitCode {
     let mut writer = io::writer(&rt);
-    let status = match words(&rt) {
+    let status = match arguments(&rt) {
         Ok(words) => mysql_program::run(rt.alloc(), &words, &mut rt.reader(), &mut writer),
         Err(error) if error.kind() == ErrorKind::OutOfMemory => {
             mysql_program::refuse_memory(&mut writer)

@@ -7,7 +7,7 @@ use Rattle.mysql_wire.specs.Flags.{StmtBulkExecuteFlags, has}
 use Rattle.mysql_wire.specs.Codec.{Codec, Fields}
 use Rattle.mysql_wire.specs.Codecs.{◌>>=◌, give, field, packet, const_u8, u32, flags}
 use Rattle.mysql_values.specs.declared.param_type.ParamType.{ParamType}
-use Rattle.mysql_bulk.specs.declared.head.InvalidComStmtBulkExecuteHeader.{InvalidComStmtBulkExecuteHeader}
+use Rattle.mysql_wire.specs.declared.bulk_header.InvalidComStmtBulkExecuteHeader.{InvalidComStmtBulkExecuteHeader}
 use Rattle.mysql_bulk.specs.HeadTypes.{TypesFor, types_block, types_bytes, types-again}
 use Rattle.mysql_bulk.specs.ParamValues.{BulkColumn}
 

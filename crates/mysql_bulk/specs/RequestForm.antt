@@ -6,7 +6,7 @@ use Rattle.mysql_wire.specs.Codecs.{const_u8, u32, flags}
 use Rattle.mysql_wire.specs.declared.constant_value.Const.{Const}
 use Rattle.mysql_wire.specs.declared.little_endian.LeU16.{LeU16}
 use Rattle.mysql_wire.specs.Flags.{StmtBulkExecuteFlags}
-use Rattle.mysql_bulk.specs.declared.head.InvalidComStmtBulkExecuteHeader.{InvalidComStmtBulkExecuteHeader}
+use Rattle.mysql_wire.specs.declared.bulk_header.InvalidComStmtBulkExecuteHeader.{InvalidComStmtBulkExecuteHeader}
 use Rattle.mysql_wire.specs.Form.{Form, ◌>>=◌, give}
 use Rattle.mysql_bulk.specs.ParamValue.{ParamValue}
 use Rattle.mysql_bulk.specs.ParamValues.{BulkColumn, values_of_columns}

@@ -9,27 +9,13 @@ ghost use Rattle.mysql_bulk.specs.HeadTypes.{types_block};
 ghost use Rattle.mysql_bulk.specs.RequestForm.{head_start, keeps_lists};
 
 use mysql_values::ParamType;
-use mysql_wire::command_code::COM_STMT_BULK_EXECUTE;
 use mysql_wire::{
-    ColumnFlags, ColumnType, Const, ConstFault, ConstU8, FaultOf, Flags, LeU16, LeU32, ParseBuf,
-    RawInt, Seq, StmtBulkExecuteFlags, StmtExecuteParamFlags, Unknown,
+    ColumnFlags, ColumnType, ComStmtBulkExecuteHeader, Const, FaultOf, Flags, LeU16, LeU32,
+    ParseBuf, RawInt, Seq, StmtBulkExecuteFlags, StmtExecuteParamFlags, Unknown,
 };
 use std::alloc::{AllocError, Global};
 use std::borrow::CowSlice;
 use std::marker::Model;
-use thiserror::Error;
-
-/// The header of a bulk request is not `fa`.
-#[derive(Clone, Copy, Debug, Default, PartialEq, Eq, Hash, Error)]
-#[error("Invalid header for COM_STMT_BULK_EXECUTE")]
-pub struct InvalidComStmtBulkExecuteHeader;
-
-impl ConstFault for InvalidComStmtBulkExecuteHeader {
-    const MESSAGE: &'static str = "Invalid header for COM_STMT_BULK_EXECUTE";
-}
-
-/// The first byte of a bulk request.
-pub type ComStmtBulkExecuteHeader = ConstU8<InvalidComStmtBulkExecuteHeader, COM_STMT_BULK_EXECUTE>;
 
 /// The statement's number, the flags, and the types if they are sent.
 #[derive(Drop)]

@@ -29,8 +29,8 @@ pub use column_types::{can_encode, is_declarable};
 pub use error::{
     BulkColumnTypeError, BulkExecuteRequestBuilderError, BulkExecuteRequestError, BulkRowError,
 };
-pub use head::{ComStmtBulkExecuteHeader, InvalidComStmtBulkExecuteHeader};
 pub use mysql_values::ParamType as StmtBulkExecuteParamType;
+pub use mysql_wire::{ComStmtBulkExecuteHeader, InvalidComStmtBulkExecuteHeader};
 pub use param_value::StmtBulkExecuteParamValue;
 pub use param_values::StmtBulkExecuteParamValues;
 pub use params_run::BulkParamsRequests;

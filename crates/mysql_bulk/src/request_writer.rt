@@ -14,12 +14,12 @@ ghost use Rattle.mysql_bulk.specs.ValueRows.{HoldsCells, IsRequestOf, LetsGo};
 use crate::builder::{flags_of, size_with};
 use crate::column_types::{first_refused, spell_row};
 use crate::error::{BulkColumnTypeError, BulkRowError};
-use crate::head::ComStmtBulkExecuteHeader;
 use crate::size::request_len;
 use mysql_cuts::BulkRule;
 use mysql_values::{ParamType, ValueRef};
 use mysql_wire::{
-    Const, LeU16, LeU32, MySerialize, RawInt, Seq, StmtBulkExecuteFlags, Unknown, parts,
+    ComStmtBulkExecuteHeader, Const, LeU16, LeU32, MySerialize, RawInt, Seq, StmtBulkExecuteFlags,
+    Unknown, parts,
 };
 use std::marker::Model;
 use std::mem;

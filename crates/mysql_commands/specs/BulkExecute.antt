@@ -6,7 +6,7 @@ use Rattle.mysql_wire.specs.ConstantValue.{const_of}
 use Rattle.mysql_wire.specs.Flags.{StmtBulkExecuteFlags}
 use Rattle.mysql_wire.specs.declared.little_endian.LeU16.{LeU16}
 use Rattle.mysql_commands.specs.declared.bulk_execute.ComStmtBulkExecuteRef.{ComStmtBulkExecuteRef}
-use Rattle.mysql_bulk.specs.declared.head.InvalidComStmtBulkExecuteHeader.{InvalidComStmtBulkExecuteHeader}
+use Rattle.mysql_wire.specs.declared.bulk_header.InvalidComStmtBulkExecuteHeader.{InvalidComStmtBulkExecuteHeader}
 
 abbrev pub stmt_id : ComStmtBulkExecuteRef → ℕ
 stmt_id p = p.stmt_id

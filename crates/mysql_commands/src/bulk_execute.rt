@@ -4,10 +4,9 @@
 ghost use Rattle.std.specs.Prelude.{◌≡◌, refl};
 ghost use Rattle.mysql_commands.specs.BulkExecute as spec;
 
-use mysql_bulk::ComStmtBulkExecuteHeader;
 use mysql_wire::{
-    AnyWidth, BytesRef, Const, ConstU8, FaultOf, LeU16, LeU32, MyDeserialize, ParseBuf, Parts,
-    RawInt, Sink, StmtBulkExecuteFlags, parts,
+    AnyWidth, BytesRef, ComStmtBulkExecuteHeader, Const, ConstU8, FaultOf, LeU16, LeU32,
+    MyDeserialize, ParseBuf, Parts, RawInt, Sink, StmtBulkExecuteFlags, parts,
 };
 
 /// MariaDB's `COM_STMT_BULK_EXECUTE`. The layout of its rows depends on the statement.
@@ -20,7 +19,7 @@ use mysql_wire::{
 /// | to the end | the types, if they are sent, and the rows |
 ///
 /// Missing bytes are `UnexpectedEof`, another first byte is `InvalidData`. Once the columns are known,
-/// [`ComStmtBulkExecuteRequest`](mysql_bulk::ComStmtBulkExecuteRequest) reads the same bytes with their rows.
+/// `ComStmtBulkExecuteRequest` of `mysql_bulk` reads the same bytes with their rows.
 #[derive(Clone, Debug, PartialEq, Eq, Drop)]
 pub struct ComStmtBulkExecuteRef<'a> {
     stmt_id: u32,

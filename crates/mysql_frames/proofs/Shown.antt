@@ -1,8 +1,10 @@
 -- What the held headers show.
-use Rattle.std.proofs.Common.{◌≡◌, ◌≢◌, ℕ, ◌+◌, ◌*◌, ◌/◌, ◌<◌, ◌≤◌, ◌⊎◌, inl, inr, zero, suc, List, ◌++◌, length, take, drop, refl, sym, ap, subst, ◌∙◌, arith, length-append, length-drop}
+use Rattle.std.proofs.Common.{◌≡◌, ◌≢◌, ℕ, ◌+◌, ◌*◌, ◌/◌, ◌<◌, ◌≤◌, ◌⊎◌, inl, inr, zero, suc, List, ◌++◌, length, take, drop, refl, sym, ap, subst, ◌∙◌, append_assoc, arith, length-append, length-drop}
 use Rattle.std.proofs.lemmas.List.{length-take-le}
 use Rattle.mysql_frames.specs.Frames.{header, most, next, FullFrames}
-use Rattle.mysql_frames.specs.FrameReader.{ReaderState, ShowsNoFault, ShowsOutOfOrder, ShowsTooLong, LacksPart}
+use Rattle.mysql_frames.specs.FrameReader.{AllLonger, Keeps, NoneWhole, ReaderState, Refuses, ShowsFault, ShowsNoFault, ShowsOutOfOrder, ShowsTooLong, LacksPart}
+use Rattle.mysql_frames.specs.declared.error.FrameError.{FrameError}
+use Rattle.mysql_frames.specs.declared.error.FrameError.TheVariants.{Memory, OutOfOrder, TooLong}
 use Rattle.mysql_frames.specs.Unfinished.{raw, number_of}
 use Rattle.mysql_frames.proofs.Raw.{number_first, number_more, next_below}
 use Rattle.mysql_frames.proofs.Peel.{header_same, same_front}
@@ -165,3 +167,24 @@ one_fault (suc i) (suc j) start number a b la lb limit other bytes others rest w
 pub faults_differ : (reader : ReaderState) → ShowsOutOfOrder reader → ShowsTooLong reader → ⊥
 faults_differ reader x y =
     one_fault x.0 y.0 0 reader.number x.1 y.1 x.2 y.2 reader.limit x.3 reader.held x.4 y.3 (omega (arith, x.5.within)) (omega (arith, y.5)) x.6 x.5.before y.4.before
+
+-- a wrong header is refused whatever follows
+pub fault_refuses : (reader : ReaderState) (rest : List ℕ) (fault : FrameError) → ShowsFault reader fault → Refuses reader rest fault
+fault_refuses reader rest OutOfOrder shown = shown
+fault_refuses reader rest TooLong shown = shown
+fault_refuses reader rest Memory shown = absurd shown
+
+-- no byte is lost, so what follows the bytes held follows the bytes before the call
+kept_bytes : (old new : ReaderState) (input rest more : List ℕ) → Keeps old input new rest → new.held ++ (rest ++ more) ≡ old.held ++ input ++ more
+kept_bytes old new input rest more k = sym (append_assoc new.held rest more) ∙ ap (λ bytes. bytes ++ more) k.bytes
+
+pub none_before : (old new : ReaderState) (input rest : List ℕ) → Keeps old input new rest → ((more : List ℕ) → NoneWhole new.number (new.held ++ more))
+    → (more : List ℕ) → NoneWhole old.number (old.held ++ input ++ more)
+none_before old new input rest k none more =
+    subst (λ n. NoneWhole n (old.held ++ input ++ more)) k.number (subst (NoneWhole new.number) (kept_bytes old new input rest more k) (none (rest ++ more)))
+
+pub longer_before : (old new : ReaderState) (input rest : List ℕ) → Keeps old input new rest → ((more : List ℕ) → AllLonger new.limit new.number (new.held ++ more))
+    → (more : List ℕ) → AllLonger old.limit old.number (old.held ++ input ++ more)
+longer_before old new input rest k longer more =
+    subst (λ l. AllLonger l old.number (old.held ++ input ++ more)) k.limit
+    (subst (λ n. AllLonger new.limit n (old.held ++ input ++ more)) k.number (subst (AllLonger new.limit new.number) (kept_bytes old new input rest more k) (longer (rest ++ more))))

@@ -1,6 +1,8 @@
 -- The state of a frame reader, and what it returns.
 use Rattle.std.specs.Prelude.{◌≡◌, ◌≢◌, ℕ, ◌+◌, ◌*◌, ◌<◌, ◌≤◌, List, [], ◌++◌, length}
 use Rattle.mysql_frames.specs.Frames.{Framed, FullFrames, header, most}
+use Rattle.mysql_frames.specs.declared.error.FrameError.{FrameError}
+use Rattle.mysql_frames.specs.declared.error.FrameError.TheVariants.{Memory, OutOfOrder, TooLong}
 
 -- the bytes held of an incomplete payload, the sequence number of its first frame, and the limit of a payload's length
 pub record ReaderState : Type 0 where
@@ -41,6 +43,18 @@ ShowsNoFault reader = (ShowsOutOfOrder reader → ⊥) × (ShowsTooLong reader �
 -- the last header that is held is in order and within the limit, and its frame is incomplete
 abbrev pub LacksPart : ReaderState → Type 0
 LacksPart reader = (full after len : ℕ) × (others : List ℕ) × HoldsHeader reader full after len after others × (full * most + len ≤ reader.limit) × (length others < len)
+
+-- The first wrong header that is held, and what it means whatever bytes follow. It never asks for memory.
+abbrev pub ShowsFault : ReaderState → FrameError → Type 0
+ShowsFault reader OutOfOrder = ShowsOutOfOrder reader × ((more : List ℕ) → NoneWhole reader.number (reader.held ++ more))
+ShowsFault reader TooLong = ShowsTooLong reader × ((more : List ℕ) → AllLonger reader.limit reader.number (reader.held ++ more))
+ShowsFault reader Memory = ⊥
+
+-- why a reader, as it is left, refuses the rest of the input
+abbrev pub Refuses : ReaderState → (rest : List ℕ) → FrameError → Type 0
+Refuses reader rest OutOfOrder = ShowsFault reader OutOfOrder
+Refuses reader rest TooLong = ShowsFault reader TooLong
+Refuses reader rest Memory = LacksPart reader × BeginsInOrder reader (reader.held ++ rest)
 
 -- The bytes held and the input begin with the payload's frames; the rest of the input follows them.
 pub record HandsOut (old : ReaderState) (input payload : List ℕ) (new : ReaderState) (rest : List ℕ) : Type 0 where

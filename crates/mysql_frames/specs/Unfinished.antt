@@ -53,3 +53,7 @@ pub record HasFrame (r : Unfinished) (len : ℕ) : Type 0 where
 pub record LacksCapacity (capacity : ℕ) (r : Unfinished) (len : ℕ) (input : List ℕ) : Type 0 where
   pub frame : capacity < r.full * most + len
   pub comes : capacity < length r.payload.items + max 65536 (length input)
+
+-- the next frame's header is held, and this capacity is too small for its frame
+abbrev pub Lacks : ℕ → Unfinished → List ℕ → Type 0
+Lacks capacity r input = (len : ℕ) × IsHeader r len × LacksCapacity capacity r len input

@@ -1,6 +1,6 @@
 //! A payload that is not complete yet.
 
-ghost use Rattle.std.specs.Prelude.{◌≡◌, ◌≢◌, ◌↔◌, ◌+◌, ◌*◌, ◌<◌, ◌≤◌, ◌⊎◌, [], ◌++◌, length, slice_index, IfOk, OnErr, IfSome, IfNone, IsTrue, IsErrOf, IsOk, List, ℕ, true, false, vec_len, vec_capacity, max, min, ◌/◌};
+ghost use Rattle.std.specs.Prelude.{◌≡◌, ◌≢◌, ◌↔◌, ◌+◌, ◌*◌, ◌<◌, ◌≤◌, ◌⊎◌, [], ◌++◌, length, slice_index, IfOk, OnErr, IfSome, IfNone, IsTrue, IfErr, IsErrOf, IsOk, List, ℕ, true, false, vec_len, vec_capacity, max, min, ◌/◌};
 ghost use Rattle.std.specs.Cow.{cow_slice_items};
 ghost use Rattle.mysql_frames.specs.Frames as spec;
 
@@ -100,8 +100,8 @@ pub struct Unfinished {
 }
 
 impl Unfinished {
-    ghost use Rattle.mysql_frames.specs.FrameReader.{AllLonger, BeginsInOrder, HandsOut, HoldsAll, Keeps, LacksPart, NoneWhole, ShowsNoFault, ShowsOutOfOrder, ShowsTooLong};
-    ghost use Rattle.mysql_frames.specs.Unfinished.{HasFrame, IsHeader, IsReading, IsReady, LacksCapacity, held, number_of, state_of};
+    ghost use Rattle.mysql_frames.specs.FrameReader.{HandsOut, HoldsAll, Keeps, NoneWhole, Refuses, ShowsFault, ShowsNoFault};
+    ghost use Rattle.mysql_frames.specs.Unfinished.{HasFrame, IsHeader, IsReading, IsReady, Lacks, LacksCapacity, held, number_of, state_of};
 
     /// Creates the state in which no byte has arrived. The first frame has the number 0.
     pub(crate) fn new(alloc: Global, limit: usize) -> Self
@@ -195,11 +195,7 @@ impl Unfinished {
         requires reading { IsReading self.now }
         requires whole { length self.now.head.items ≡ 4 }
         ensures ok { IfOk result (λ len. IsHeader self.now len) }
-        ensures order { IsErrOf result FrameError.OutOfOrder → (more : List ℕ) → NoneWhole self.now.first (held self.now ++ more) }
-        ensures limit { IsErrOf result FrameError.TooLong → (more : List ℕ) → AllLonger self.now.limit self.now.first (held self.now ++ more) }
-        ensures memory { IsErrOf result FrameError.Memory → ⊥ }
-        ensures shown_order { IsErrOf result FrameError.OutOfOrder → ShowsOutOfOrder (state_of self.now) }
-        ensures shown_long { IsErrOf result FrameError.TooLong → ShowsTooLong (state_of self.now) }
+        ensures refused { IfErr result (ShowsFault (state_of self.now)) }
     {
         let head = self.head.as_slice();
         let len = length_in(head);
@@ -242,16 +238,11 @@ impl Unfinished {
         ensures used { length input.new.now + length self.new.head.items ≤ length input.old.now + length self.old.head.items }
         ensures whole { IfOk result (λ found. IfSome found (HasFrame self.new)) }
         ensures part { IfOk result (λ found. IfNone found ((input.new.now ≡ []) × NoneWhole self.new.first (held self.new))) }
-        ensures order { IsErrOf result FrameError.OutOfOrder → (more : List ℕ) → NoneWhole self.new.first (held self.new ++ more) }
-        ensures limit { IsErrOf result FrameError.TooLong → (more : List ℕ) → AllLonger self.new.limit self.new.first (held self.new ++ more) }
+        ensures refused { IfErr result (Refuses (state_of self.new) input.new.now) }
         ensures less { length input.new.now ≤ length input.old.now }
         ensures some { IsErrOf result FrameError.Memory → 0 < length input.old.now }
-        ensures early { IsErrOf result FrameError.Memory → BeginsInOrder (state_of self.new) (held self.new ++ input.new.now) }
         ensures no_fault { IfOk result (λ found. IfNone found (ShowsNoFault (state_of self.new))) }
-        ensures shown_order { IsErrOf result FrameError.OutOfOrder → ShowsOutOfOrder (state_of self.new) }
-        ensures shown_long { IsErrOf result FrameError.TooLong → ShowsTooLong (state_of self.new) }
-        ensures lacks_part { IsErrOf result FrameError.Memory → LacksPart (state_of self.new) }
-        ensures lacks_capacity { IsErrOf result FrameError.Memory → (len : ℕ) × IsHeader self.new len × LacksCapacity (vec_capacity self.old.payload) self.new len input.new.now }
+        ensures lacks { IsErrOf result FrameError.Memory → Lacks (vec_capacity self.old.payload) self.new input.new.now }
         ensures capacity { vec_capacity self.old.payload ≤ vec_capacity self.new.payload }
     {
         if !self.fill_head(input) {
@@ -303,15 +294,10 @@ impl Unfinished {
         ensures payload { IfOk result (λ found. IfSome found (λ payload. HandsOut (state_of self.old) input.old.now payload.items (state_of self.new) input.new.now)) }
         ensures more { IfOk result (λ found. IfNone found (HoldsAll (state_of self.old) input.old.now (state_of self.new) input.new.now)) }
         ensures err { OnErr result (Keeps (state_of self.old) input.old.now (state_of self.new) input.new.now) }
-        ensures order { IsErrOf result FrameError.OutOfOrder → (more : List ℕ) → NoneWhole self.old.first (held self.old ++ input.old.now ++ more) }
-        ensures limit { IsErrOf result FrameError.TooLong → (more : List ℕ) → AllLonger self.old.limit self.old.first (held self.old ++ input.old.now ++ more) }
+        ensures refused { IfErr result (Refuses (state_of self.new) input.new.now) }
         ensures some { IsErrOf result FrameError.Memory → 0 < length input.old.now }
-        ensures early { IsErrOf result FrameError.Memory → BeginsInOrder (state_of self.old) (held self.old ++ input.old.now) }
         ensures no_fault { IfOk result (λ found. IfNone found (ShowsNoFault (state_of self.new))) }
-        ensures shown_order { IsErrOf result FrameError.OutOfOrder → ShowsOutOfOrder (state_of self.new) }
-        ensures shown_long { IsErrOf result FrameError.TooLong → ShowsTooLong (state_of self.new) }
-        ensures lacks_part { IsErrOf result FrameError.Memory → LacksPart (state_of self.new) }
-        ensures lacks_capacity { IsErrOf result FrameError.Memory → (len : ℕ) × IsHeader self.new len × LacksCapacity (vec_capacity self.old.payload) self.new len input.new.now }
+        ensures lacks { IsErrOf result FrameError.Memory → Lacks (vec_capacity self.old.payload) self.new input.new.now }
     {
         'frames: loop {
             match self.frame(input)? {
@@ -337,15 +323,10 @@ impl Unfinished {
         ensures payload { IfOk result (λ found. IfSome found (λ payload. HandsOut (state_of self.old) input.old.now (cow_slice_items payload) (state_of self.new) input.new.now)) }
         ensures more { IfOk result (λ found. IfNone found (HoldsAll (state_of self.old) input.old.now (state_of self.new) input.new.now)) }
         ensures err { OnErr result (Keeps (state_of self.old) input.old.now (state_of self.new) input.new.now) }
-        ensures order { IsErrOf result FrameError.OutOfOrder → (more : List ℕ) → NoneWhole self.old.first (held self.old ++ input.old.now ++ more) }
-        ensures long { IsErrOf result FrameError.TooLong → (more : List ℕ) → AllLonger self.old.limit self.old.first (held self.old ++ input.old.now ++ more) }
+        ensures refused { IfErr result (Refuses (state_of self.new) input.new.now) }
         ensures some { IsErrOf result FrameError.Memory → 0 < length input.old.now }
-        ensures early { IsErrOf result FrameError.Memory → BeginsInOrder (state_of self.old) (held self.old ++ input.old.now) }
         ensures no_fault { IfOk result (λ found. IfNone found (ShowsNoFault (state_of self.new))) }
-        ensures shown_order { IsErrOf result FrameError.OutOfOrder → ShowsOutOfOrder (state_of self.new) }
-        ensures shown_long { IsErrOf result FrameError.TooLong → ShowsTooLong (state_of self.new) }
-        ensures lacks_part { IsErrOf result FrameError.Memory → LacksPart (state_of self.new) }
-        ensures lacks_capacity { IsErrOf result FrameError.Memory → (len : ℕ) × IsHeader self.new len × LacksCapacity (vec_capacity self.old.payload) self.new len input.new.now }
+        ensures lacks { IsErrOf result FrameError.Memory → Lacks (vec_capacity self.old.payload) self.new input.new.now }
     {
         let mut left = *input;
         let found = self.read_on(&mut left);
@@ -377,15 +358,10 @@ impl Unfinished {
         ensures err { OnErr result (Keeps (state_of self.old) input.old.now (state_of self.new) input.new.now) }
         ensures no_memory { held self.old ≡ [] → (payload rest : List ℕ) → spec.FramedIn 0xffffff 0 self.old.first payload (spec.next self.old.first) input.old.now rest
             → length payload ≤ self.old.limit → IsOk result }
-        ensures order { IsErrOf result FrameError.OutOfOrder → (more : List ℕ) → NoneWhole self.old.first (held self.old ++ input.old.now ++ more) }
-        ensures long { IsErrOf result FrameError.TooLong → (more : List ℕ) → AllLonger self.old.limit self.old.first (held self.old ++ input.old.now ++ more) }
+        ensures refused { IfErr result (Refuses (state_of self.new) input.new.now) }
         ensures some { IsErrOf result FrameError.Memory → 0 < length input.old.now }
-        ensures early { IsErrOf result FrameError.Memory → BeginsInOrder (state_of self.old) (held self.old ++ input.old.now) }
         ensures no_fault { IfOk result (λ found. IfNone found (ShowsNoFault (state_of self.new))) }
-        ensures shown_order { IsErrOf result FrameError.OutOfOrder → ShowsOutOfOrder (state_of self.new) }
-        ensures shown_long { IsErrOf result FrameError.TooLong → ShowsTooLong (state_of self.new) }
-        ensures lacks_part { IsErrOf result FrameError.Memory → LacksPart (state_of self.new) }
-        ensures lacks_capacity { IsErrOf result FrameError.Memory → (len : ℕ) × IsHeader self.new len × LacksCapacity (vec_capacity self.old.payload) self.new len input.new.now }
+        ensures lacks { IsErrOf result FrameError.Memory → Lacks (vec_capacity self.old.payload) self.new input.new.now }
         ensures bounded { length (held self.new) ≤ self.new.limit + 4 * (self.new.limit / 0xffffff + 1) }
     {
         if let Some((payload, rest)) = whole_at(self.in_place, self.first, input) {

@@ -2,5 +2,6 @@
 
 pub use mysql_values::{Binary, Text};
 pub use mysql_wire::{
-    AnyWidth, Buffer, Fixed, MyDeserialize, MySerialize, Width, append_items, items_len, read_all,
+    AnyWidth, Buffer, Fixed, MyDeserialize, MySerialize, SliceWriter, Width, append_items,
+    items_len, read_all,
 };

@@ -1,6 +1,7 @@
 //! Shows packets: the fields of each record, written as lines and as JSON objects.
 #![tactic(auto)]
 
+mod call;
 mod columns;
 mod field;
 mod float;
@@ -12,6 +13,7 @@ mod replicas;
 mod replies;
 mod text;
 
+pub use call::arguments;
 pub use columns::{column_names, column_numbers};
 pub use field::{Field, add_fields};
 pub use json::append_object;

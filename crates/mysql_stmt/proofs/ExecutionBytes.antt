@@ -64,35 +64,25 @@ module _ {V A : Type 0} (param : V → Param) (named_type : V → NamedType) (at
   listed-is : execution.listed it ≡ attributes
   listed-is = listed-same (sent_param attribute attribute_type) (request.attributes r)
 
-  names-are : execution.has_names it ≡ request.has_names r
-  names-are = names-same (sent_params attribute attribute_type) (request.attributes r)
+  pub names_are : execution.has_names it ≡ is_some (request.attributes r)
+  names_are = names-same (sent_params attribute attribute_type) (request.attributes r)
 
-  some-is : has_some (execution.all_params it) ≡ request.has_values r
-  some-is =
+  pub some_is : has_some (execution.all_params it) ≡ (has_some (request.params r) || has_some (request.listed r))
+  some_is =
       some-either it.params (execution.listed it) ∙ ap (λ (l : List TypedParam). has_some it.params || has_some l) listed-is
       ∙ ap (λ (b : Bool). b || has_some attributes) (some-mapped (sent_param param named_type) (request.params r))
       ∙ ap (λ (b : Bool). has_some (request.params r) || b) (some-mapped (sent_param attribute attribute_type) (request.listed r))
 
-  follow-is : execution.types_follow it ≡ request.types_follow r
-  follow-is =
+  pub follow_is : execution.types_follow it ≡ (r.sends_types || has_some (request.listed r))
+  follow_is =
       ap (λ (l : List TypedParam). r.sends_types || has_some l) listed-is
       ∙ ap (λ (b : Bool). r.sends_types || b) (some-mapped (sent_param attribute attribute_type) (request.listed r))
 
-  has-count-is : execution.has_count it ≡ request.has_count r
-  has-count-is =
-      ap (λ (b : Bool). b && (has_some (execution.all_params it) || has_parameter_count r.head)) names-are
-      ∙ ap (λ (b : Bool). request.has_names r && (b || has_parameter_count r.head)) some-is
-
-  length-is : length it.params + length (execution.listed it) ≡ length (request.params r) + length (request.listed r)
-  length-is =
+  pub length_is : length it.params + length (execution.listed it) ≡ length (request.params r) + length (request.listed r)
+  length_is =
       ap (λ (l : List TypedParam). length it.params + length l) listed-is
       ∙ ap (λ (n : ℕ). n + length attributes) (length-sent param named_type (request.params r))
       ∙ ap (λ (n : ℕ). length (request.params r) + n) (length-sent attribute attribute_type (request.listed r))
-
-  count-is : execution.count_bytes it ≡ request.count_bytes r
-  count-is =
-      ap (λ (b : Bool). if b then lenenc_bytes (saturated (length it.params + length (execution.listed it))) else []) has-count-is
-      ∙ ap (λ (n : ℕ). if request.has_count r then lenenc_bytes (saturated n) else []) length-is
 
   held-are : map (λ p. value_of p.param) (execution.all_params it) ≡ contents_with param attribute (request.params r) (request.listed r)
   held-are =
@@ -107,30 +97,24 @@ module _ {V A : Type 0} (param : V → Param) (named_type : V → NamedType) (at
   abbrev pub head_with : List ℕ → List ℕ
   head_with count = execute_head.bytes r.head ++ (count ++ [])
 
-  pub bytes-of-none : (count : List ℕ) → request.has_values r ≡ false → count ≡ request.count_bytes r → request.request_bytes param named_type attribute attribute_type r ≡ head_with count
+  pub bytes-of-none : (count : List ℕ) → has_some (execution.all_params it) ≡ false → count ≡ execution.count_bytes it → request.request_bytes param named_type attribute attribute_type r ≡ head_with count
   bytes-of-none count none is =
-      ap (λ (l : List ℕ). execute_head.bytes r.head ++ (l ++ where_some (execution.all_params it) (execution.params_bytes it))) (count-is ∙ sym is)
-      ∙ ap (λ (l : List ℕ). execute_head.bytes r.head ++ (count ++ l)) (where-none (execution.all_params it) (execution.params_bytes it) (some-is ∙ none))
-
-  abbrev bound : (nulls : List ℕ) (follow has_names : Bool) → List TypedParam → List ℕ
-  bound nulls follow has_names added = bound_bytes nulls follow has_names r.as_long_data it.params added
+      ap (λ (l : List ℕ). execute_head.bytes r.head ++ (l ++ where_some (execution.all_params it) (execution.params_bytes it))) (sym is)
+      ∙ ap (λ (l : List ℕ). execute_head.bytes r.head ++ (count ++ l)) (where-none (execution.all_params it) (execution.params_bytes it) none)
 
   pub bytes-of-some : (count : List ℕ) (follow has_names : Bool) (first : List A)
-      → request.has_values r ≡ true → count ≡ request.count_bytes r → follow ≡ request.types_follow r → has_names ≡ request.has_names r → first ≡ request.listed r
+      → has_some (execution.all_params it) ≡ true → count ≡ execution.count_bytes it → follow ≡ execution.types_follow it → has_names ≡ execution.has_names it → first ≡ request.listed r
       → request.request_bytes param named_type attribute attribute_type r
       ≡ head_with count ++ (bound_bytes (bitmap_with param attribute (request.params r) first) follow has_names r.as_long_data (sent_params param named_type (request.params r)) (sent_params attribute attribute_type first) ++ [])
   bytes-of-some count follow has_names first some is_count is_follow is_names is_first =
       let nulls = bitmap_with param attribute (request.params r) (request.listed r) in
       rw (is_count, is_follow, is_names, is_first) (
-      ap (λ (l : List ℕ). execute_head.bytes r.head ++ (l ++ where_some (execution.all_params it) (execution.params_bytes it))) count-is
-      ∙ ap (λ (l : List ℕ). execute_head.bytes r.head ++ (request.count_bytes r ++ l)) (
-      where-full (execution.all_params it) (execution.params_bytes it) (some-is ∙ some)
-      ∙ ap (λ (bits : List ℕ). bound bits (execution.types_follow it) (execution.has_names it) (execution.listed it)) nulls-are
-      ∙ ap (λ (b : Bool). bound nulls b (execution.has_names it) (execution.listed it)) follow-is
-      ∙ ap (λ (b : Bool). bound nulls (request.types_follow r) b (execution.listed it)) names-are
-      ∙ ap (λ (l : List TypedParam). bound nulls (request.types_follow r) (request.has_names r) l) listed-is
+      ap (λ (l : List ℕ). execute_head.bytes r.head ++ (execution.count_bytes it ++ l)) (
+      where-full (execution.all_params it) (execution.params_bytes it) some
+      ∙ ap (λ (bits : List ℕ). bound_bytes bits (execution.types_follow it) (execution.has_names it) r.as_long_data it.params (execution.listed it)) nulls-are
+      ∙ ap (λ (l : List TypedParam). bound_bytes nulls (execution.types_follow it) (execution.has_names it) r.as_long_data it.params l) listed-is
       )
-      ∙ regroup (execute_head.bytes r.head) (request.count_bytes r) (bound nulls (request.types_follow r) (request.has_names r) attributes)
+      ∙ regroup (execute_head.bytes r.head) (execution.count_bytes it) (bound_bytes nulls (execution.types_follow it) (execution.has_names it) r.as_long_data it.params attributes)
       )
 
 -- ---- whether byte strings are long data

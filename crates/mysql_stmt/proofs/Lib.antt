@@ -16,6 +16,7 @@ pub mod CellsEq
 pub mod EqualRows
 pub mod StmtAgain
 pub mod PutCells
+pub mod OneByOne
 pub mod RowViews
 pub mod StoredRows
 pub mod FilledBlocks

@@ -12,33 +12,17 @@ use Rattle.mysql_stmt.specs.BindFront.{BindFront}
 use Rattle.mysql_stmt.specs.Bitmap.{cell}
 use Rattle.mysql_stmt.specs.ExecuteBytes.{Suffice}
 use Rattle.mysql_stmt.specs.ExecuteParam.{Param}
-use Rattle.mysql_stmt.specs.ExecuteRead.{BoundType, Gives, ParamsBytes, ParamsLeft, RefusesParam, Several, TakesInForce, TypedParam, bytes_after, execution, execution_front, execution_of, in_force, left_of, param_form, params_in, params_left, params_of, params_to, then_params, typed_param}
+use Rattle.mysql_stmt.specs.ExecuteRead.{BoundType, Gives, ParamsBytes, ParamsLeft, RefusesParam, TakesInForce, TypedParam, bytes_after, execution, execution_front, execution_of, in_force, left_of, param_form, params_left, params_of, params_to, typed_param}
 use Rattle.mysql_stmt.specs.SentTypes.{NamedType}
 use Rattle.mysql_stmt.specs.declared.execute_view.BoundParam.{BoundParam}
+use Rattle.mysql_stmt.specs.OneByOne.{Several, several_in, then_several}
+use Rattle.mysql_stmt.proofs.OneByOne.{none-before, one-more, same-end, same-tails}
 use Rattle.mysql_stmt.proofs.NullBits.{is-one}
-
-module _ (nulls : List ℕ) (place : ℕ) (p : BoundType) (ps : List BoundType) (bytes : List ℕ) where
-  -- one parameter, and those after it
-  one-param : (x : TypedParam) (after : List ℕ) → (typed_param nulls place p).reads bytes ≡ Ok (x, after) → (params_in nulls place (p ∷ ps) bytes).params ≡ x ∷ (params_in nulls (place + 1) ps after).params
-  unfolding params_in
-  one-param x after h = rw h refl
-
-  same-end : (x : TypedParam) (after : List ℕ) → (typed_param nulls place p).reads bytes ≡ Ok (x, after) → (params_in nulls (place + 1) ps after).end ≡ (params_in nulls place (p ∷ ps) bytes).end
-  unfolding params_in
-  same-end x after h = rw h refl
-
-  same-tails : (x : TypedParam) (after : List ℕ) → (typed_param nulls place p).reads bytes ≡ Ok (x, after) → (params_in nulls place (p ∷ ps) bytes).tails ≡ after ∷ (params_in nulls (place + 1) ps after).tails
-  unfolding params_in
-  same-tails x after h = rw h refl
-
-  none-before : (e : _) → (typed_param nulls place p).reads bytes ≡ Err e → ((params_in nulls place (p ∷ ps) bytes).params ≡ []) × ((params_in nulls place (p ∷ ps) bytes).end ≡ Err e)
-  unfolding params_in
-  none-before e h = (rw h refl, rw h refl)
 
 -- no parameter is left
 pub no-param : (s : Bool) (nulls : List ℕ) (place : ℕ) (ps : List BoundParam) (ts : List NamedType) (bytes : List ℕ) → length ps ≡ 0
-    → ((params_in nulls place (in_force s ps ts) bytes).params ≡ []) × ((params_in nulls place (in_force s ps ts) bytes).end ≡ Ok bytes)
-unfolding params_in
+    → ((several_in (typed_param nulls) place (in_force s ps ts) bytes).read ≡ []) × ((several_in (typed_param nulls) place (in_force s ps ts) bytes).end ≡ Ok bytes)
+unfolding several_in
 no-param s nulls place [] ts bytes e = (refl, refl)
 no-param s nulls place (p ∷ ps) ts bytes e = absurd (omega (arith, e))
 
@@ -48,17 +32,17 @@ pushed : (v : TypedParam) (params : List TypedParam) (end : Result (List ℕ) Fa
 pushed v params (Ok rest) = refl
 pushed v params (Err e) = refl
 
-step : (read : Reading TypedParam) (next : List ℕ → Several) (tail : List ℕ → Reading (List TypedParam)) → ((bytes : List ℕ) → tail bytes ≡ params_to (next bytes).params (next bytes).end)
-    → then_read read (λ x mid. then_read (tail mid) (λ xs rest. Ok (x ∷ xs, rest))) ≡ params_to (then_params read next).params (then_params read next).end
-step (Ok x) next tail h = rw (h x.1) (pushed x.0 (next x.1).params (next x.1).end)
+step : (read : Reading TypedParam) (next : List ℕ → Several TypedParam) (tail : List ℕ → Reading (List TypedParam)) → ((bytes : List ℕ) → tail bytes ≡ params_to (next bytes).read (next bytes).end)
+    → then_read read (λ x mid. then_read (tail mid) (λ xs rest. Ok (x ∷ xs, rest))) ≡ params_to (then_several read next).read (then_several read next).end
+step (Ok x) next tail h = rw (h x.1) (pushed x.0 (next x.1).read (next x.1).end)
 step (Err e) next tail h = refl
 
 -- reading one by one is reading all
 pub all-params : (nulls : List ℕ) (place : ℕ) (ps : List BoundType) (bytes : List ℕ)
-    → (each (typed_param nulls) place ps).reads bytes ≡ params_to (params_in nulls place ps bytes).params (params_in nulls place ps bytes).end
-unfolding each params_in
+    → (each (typed_param nulls) place ps).reads bytes ≡ params_to (several_in (typed_param nulls) place ps bytes).read (several_in (typed_param nulls) place ps bytes).end
+unfolding each several_in
 all-params nulls place [] bytes = refl
-all-params nulls place (p ∷ ps) bytes = step ((typed_param nulls place p).reads bytes) (params_in nulls (place + 1) ps) (λ mid. (each (typed_param nulls) (place + 1) ps).reads mid) (λ mid. all-params nulls (place + 1) ps mid)
+all-params nulls place (p ∷ ps) bytes = step ((typed_param nulls place p).reads bytes) (several_in (typed_param nulls) (place + 1) ps) (λ mid. (each (typed_param nulls) (place + 1) ps).reads mid) (λ mid. all-params nulls (place + 1) ps mid)
 
 -- ---- the types that are in force
 
@@ -97,18 +81,18 @@ module _ (nulls : List ℕ) (place : ℕ) (s : Bool) (p : BoundParam) (ps : List
       let rest = drop-next s p.param_type (length ps) left ts more t enough takes in
       record {
         left = len;
-        params = ap (λ (l : List BoundType). (params_in nulls place l buf).params) force ∙ one-param nulls place q bound buf x after read;
-        end = same-end nulls place q bound buf x after read ∙ sym (ap (λ (l : List BoundType). (params_in nulls place l buf).end) force);
+        params = ap (λ (l : List BoundType). (several_in (typed_param nulls) place l buf).read) force ∙ one-more (typed_param nulls) place q bound buf x after read;
+        end = same-end (typed_param nulls) place q bound buf x after read ∙ sym (ap (λ (l : List BoundType). (several_in (typed_param nulls) place l buf).end) force);
         sends_types = refl;
-        tails = ap (λ (l : List BoundType). (params_in nulls place l buf).tails) force ∙ same-tails nulls place q bound buf x after read;
+        tails = ap (λ (l : List BoundType). (several_in (typed_param nulls) place l buf).tails) force ∙ same-tails (typed_param nulls) place q bound buf x after read;
         attributes = rw (here, rest) refl;
       }
 
   fails-so : (e : FaultKind) → (typed_param nulls place q).reads buf ≡ Err e → (before_all.params ≡ []) × (params_of before_all ≡ Err e)
   fails-so e read =
-      let n = none-before nulls place q bound buf e read in
-      let params = ap (λ (l : List BoundType). (params_in nulls place l buf).params) force ∙ n.0 in
-      let end = ap (λ (l : List BoundType). (params_in nulls place l buf).end) force ∙ n.1 in
+      let n = none-before (typed_param nulls) place q bound buf e read in
+      let params = ap (λ (l : List BoundType). (several_in (typed_param nulls) place l buf).read) force ∙ n.0 in
+      let end = ap (λ (l : List BoundType). (several_in (typed_param nulls) place l buf).end) force ∙ n.1 in
       (params, ap (λ (r : Result (List ℕ) FaultKind). params_to before_all.params r) end)
 
   module _ (is_null : Bool) (bit : IsTrue is_null ↔ (cell nulls place ≡ 1)) (at : List ℕ) (at_is : at ≡ buf) where
@@ -171,15 +155,15 @@ read-counted c flags params bytes count len f after =
 -- ---- as it was sent
 
 first-of : (nulls : List ℕ) (place : ℕ) (p : BoundType) (ps : List BoundType) (bytes : List ℕ) (read : Reading TypedParam) (after : List ℕ) (tails : List (List ℕ)) → (typed_param nulls place p).reads bytes ≡ read
-    → (then_params read (params_in nulls (place + 1) ps)).tails ≡ after ∷ tails → IsTail after bytes
+    → (then_several read (several_in (typed_param nulls) (place + 1) ps)).tails ≡ after ∷ tails → IsTail after bytes
 first-of nulls place p ps bytes (Ok x) after tails e h =
     let here : x.1 ≡ after = cc in
     subst (λ (l : List ℕ). IsTail l bytes) here ((typed_param nulls place p).front x.0 bytes x.1 e)
 first-of nulls place p ps bytes (Err k) after tails e h = absurd cc
 
 -- the bytes after the first parameter are a tail of all
-tail-first : (nulls : List ℕ) (place : ℕ) (ps : List BoundType) (bytes after : List ℕ) (tails : List (List ℕ)) → (params_in nulls place ps bytes).tails ≡ after ∷ tails → IsTail after bytes
-unfolding params_in
+tail-first : (nulls : List ℕ) (place : ℕ) (ps : List BoundType) (bytes after : List ℕ) (tails : List (List ℕ)) → (several_in (typed_param nulls) place ps bytes).tails ≡ after ∷ tails → IsTail after bytes
+unfolding several_in
 tail-first nulls place [] bytes after tails h = absurd cc
 tail-first nulls place (p ∷ ps) bytes after tails h = first-of nulls place p ps bytes ((typed_param nulls place p).reads bytes) after tails refl h
 

@@ -18,7 +18,9 @@ use Rattle.mysql_replies.specs.declared.column.Column.{Column}
 use Rattle.mysql_replies.specs.Column.{column_type, flags}
 use Rattle.mysql_stmt.specs.RowForm.{there, bin_row, text_row}
 use Rattle.mysql_stmt.specs.Bitmap.{cell}
-use Rattle.mysql_stmt.specs.RowView.{RowLeft, Values, values_in, then_values, row_left, text_row_left, read_to, read_of, Gives, RefusesNext, bin_row_of, ref_cell, ref_unless, text_row_of}
+use Rattle.mysql_stmt.specs.RowView.{RowLeft, row_left, text_row_left, read_to, read_of, Gives, RefusesNext, bin_row_of, ref_cell, ref_unless, text_row_of}
+use Rattle.mysql_stmt.specs.OneByOne.{Several, several_in, then_several}
+use Rattle.mysql_stmt.proofs.OneByOne.{none-before, one-more, same-end, same-tails}
 use Rattle.mysql_stmt.proofs.NullBits.{is-one}
 
 -- no value precedes this kind of fault
@@ -26,25 +28,8 @@ abbrev RowFails : FaultKind → RowLeft → Type 0
 RowFails e row = (row.values ≡ []) × (read_of row ≡ Err e)
 
 module _ {C : Type 0} (f : ℕ → C → Form Content) (place : ℕ) (c : C) (cs : List C) (bytes : List ℕ) where
-  -- one value, and those after it
-  pub one-value : (x : Content) (after : List ℕ) → (f place c).reads bytes ≡ Ok (x, after) → (values_in f place (c ∷ cs) bytes).values ≡ x ∷ (values_in f (place + 1) cs after).values
-  unfolding values_in
-  one-value x after h = rw h refl
-
-  pub same-end : (x : Content) (after : List ℕ) → (f place c).reads bytes ≡ Ok (x, after) → (values_in f (place + 1) cs after).end ≡ (values_in f place (c ∷ cs) bytes).end
-  unfolding values_in
-  same-end x after h = rw h refl
-
-  pub same-tails : (x : Content) (after : List ℕ) → (f place c).reads bytes ≡ Ok (x, after) → (values_in f place (c ∷ cs) bytes).tails ≡ after ∷ (values_in f (place + 1) cs after).tails
-  unfolding values_in
-  same-tails x after h = rw h refl
-
-  none-before : (e : _) → (f place c).reads bytes ≡ Err e → ((values_in f place (c ∷ cs) bytes).values ≡ []) × ((values_in f place (c ∷ cs) bytes).end ≡ Err e)
-  unfolding values_in
-  none-before e h = (rw h refl, rw h refl)
-
   read-fails : (e : _) → (f place c).reads bytes ≡ Err e → RowFails e (row_left f place (c ∷ cs) bytes)
-  read-fails e h = let n = none-before e h in (n.0, rw n.1 refl)
+  read-fails e h = let n = none-before f place c cs bytes e h in (n.0, rw n.1 refl)
 
   -- the fault of a value is that of the row
   pub one-fault : (e : FaultOf) → Faults false e ((f place c).reads bytes) → RefusesNext e (row_left f place (c ∷ cs) bytes)
@@ -54,13 +39,8 @@ module _ {C : Type 0} (f : ℕ → C → Form Content) (place : ℕ) (c : C) (cs
   one-fault (fault.InvalidInput text) h = read-fails _ h
 
 -- no value is left
-pub no-value : {C : Type 0} (f : ℕ → C → Form Content) (place : ℕ) (cs : List C) (bytes : List ℕ) → length cs ≡ 0 → ((values_in f place cs bytes).values ≡ []) × ((values_in f place cs bytes).end ≡ Ok bytes)
-unfolding values_in
-no-value f place [] bytes e = (refl, refl)
-no-value f place (c ∷ cs) bytes e = absurd (omega (arith, e))
-
-pub no-text : (f : ℕ → Unit {0} → Form Content) (left : ℕ) (bytes : List ℕ) → left ≡ 0 → ((values_in f 0 (replicate left tt) bytes).values ≡ []) × ((values_in f 0 (replicate left tt) bytes).end ≡ Ok bytes)
-unfolding values_in
+pub no-text : (f : ℕ → Unit {0} → Form Content) (left : ℕ) (bytes : List ℕ) → left ≡ 0 → ((several_in f 0 (replicate left tt) bytes).read ≡ []) × ((several_in f 0 (replicate left tt) bytes).end ≡ Ok bytes)
+unfolding several_in
 no-text f left bytes e = (rw e refl, rw e refl)
 
 -- ---- one value of a binary row, NULL by the bitmap or read from the row's buffer: the first of the rest
@@ -84,7 +64,7 @@ module _ {C : Type 0} (type_of : C → ColumnType) (unsigned : C → Bool) (null
       let f = ref_cell type_of unsigned nulls offset in
       let here = subst (λ (buf : List ℕ). value_read (cell nulls (place + offset) == 1) buf ≡ Ok (x, after)) at_is (subst (λ (b : Bool). value_read b at ≡ Ok (x, after)) is_the_bit h) in
       subst (λ (l : List C). Gives (row_before l) x (row_after after)) (sym cut)
-      (refl, one-value f place c cs bytes x after here, same-end f place c cs bytes x after here, same-tails f place c cs bytes x after here)
+      (refl, one-more f place c cs bytes x after here, same-end f place c cs bytes x after here, same-tails f place c cs bytes x after here)
 
   -- its fault is that of the row
   pub first-fault : (e : FaultOf) → Faults false e (value_read is_null at) → RefusesNext e (row_before left)
@@ -99,17 +79,17 @@ pushed : (v : Content) (values : List Content) (end : Result (List ℕ) FaultKin
 pushed v values (Ok rest) = refl
 pushed v values (Err e) = refl
 
-step : (read : Reading Content) (next : List ℕ → Values) (tail : List ℕ → Reading (List (Option Content))) → ((bytes : List ℕ) → tail bytes ≡ read_to (next bytes).values (next bytes).end)
-    → then_read (then_read read (λ v rest. Ok (Some v, rest))) (λ x mid. then_read (tail mid) (λ xs rest. Ok (x ∷ xs, rest))) ≡ read_to (then_values read next).values (then_values read next).end
-step (Ok x) next tail h = rw (h x.1) (pushed x.0 (next x.1).values (next x.1).end)
+step : (read : Reading Content) (next : List ℕ → Several Content) (tail : List ℕ → Reading (List (Option Content))) → ((bytes : List ℕ) → tail bytes ≡ read_to (next bytes).read (next bytes).end)
+    → then_read (then_read read (λ v rest. Ok (Some v, rest))) (λ x mid. then_read (tail mid) (λ xs rest. Ok (x ∷ xs, rest))) ≡ read_to (then_several read next).read (then_several read next).end
+step (Ok x) next tail h = rw (h x.1) (pushed x.0 (next x.1).read (next x.1).end)
 step (Err e) next tail h = refl
 
 -- reading value by value is reading all
 pub all-values : {C : Type 0} (f : ℕ → C → Form Content) (place : ℕ) (cs : List C) (bytes : List ℕ)
-    → (each (λ place c. there (f place c)) place cs).reads bytes ≡ read_to (values_in f place cs bytes).values (values_in f place cs bytes).end
-unfolding each values_in
+    → (each (λ place c. there (f place c)) place cs).reads bytes ≡ read_to (several_in f place cs bytes).read (several_in f place cs bytes).end
+unfolding each several_in
 all-values f place [] bytes = refl
-all-values f place (c ∷ cs) bytes = step ((f place c).reads bytes) (values_in f (place + 1) cs) (λ mid. (each (λ place c. there (f place c)) (place + 1) cs).reads mid) (λ mid. all-values f (place + 1) cs mid)
+all-values f place (c ∷ cs) bytes = step ((f place c).reads bytes) (several_in f (place + 1) cs) (λ mid. (each (λ place c. there (f place c)) (place + 1) cs).reads mid) (λ mid. all-values f (place + 1) cs mid)
 
 then-alike : {A B : Type 0} (r : Reading A) (n m : A → List ℕ → Reading B) → ((x : A) (mid : List ℕ) → n x mid ≡ m x mid) → then_read r n ≡ then_read r m
 then-alike (Ok x) n m h = h x.0 x.1
@@ -140,14 +120,14 @@ pub ruleset row_views = (bin-same, text-same)
 
 -- ---- text rows, which have no bitmap
 
-then_values-alike : (read : Reading Content) (n m : List ℕ → Values) → ((mid : List ℕ) → n mid ≡ m mid) → then_values read n ≡ then_values read m
-then_values-alike (Ok x) n m h = ap (λ (v : Values). then_values (Ok x) (λ mid. v)) (h x.1)
-then_values-alike (Err e) n m h = refl
+then_several-alike : (read : Reading Content) (n m : List ℕ → Several Content) → ((mid : List ℕ) → n mid ≡ m mid) → then_several read n ≡ then_several read m
+then_several-alike (Ok x) n m h = ap (λ (v : Several Content). then_several (Ok x) (λ mid. v)) (h x.1)
+then_several-alike (Err e) n m h = refl
 
-place-free : (p q left : ℕ) (bytes : List ℕ) → values_in (λ place (column : Unit {0}). text_value) p (replicate left tt) bytes ≡ values_in (λ place (column : Unit {0}). text_value) q (replicate left tt) bytes
-unfolding values_in
+place-free : (p q left : ℕ) (bytes : List ℕ) → several_in (λ place (column : Unit {0}). text_value) p (replicate left tt) bytes ≡ several_in (λ place (column : Unit {0}). text_value) q (replicate left tt) bytes
+unfolding several_in
 place-free p q zero bytes = refl
-place-free p q (suc left) bytes = then_values-alike (text_value.reads bytes) _ _ (λ mid. place-free (p + 1) (q + 1) left mid)
+place-free p q (suc left) bytes = then_several-alike (text_value.reads bytes) _ _ (λ mid. place-free (p + 1) (q + 1) left mid)
 
 pub one-text : (left : ℕ) (bytes : List ℕ) (x : Content) (after : List ℕ) → text_value.reads bytes ≡ Ok (x, after)
     → Gives (text_row_left (suc left) bytes) x (text_row_left left after)
@@ -156,9 +136,9 @@ one-text left bytes x after h =
     let same = place-free 1 0 left after in
     let columns = replicate left tt in (
       refl,
-      one-value f 0 tt columns bytes x after h ∙ ap (λ (v : Values). x ∷ v.values) same,
-      sym (ap (λ (v : Values). v.end) same) ∙ same-end f 0 tt columns bytes x after h,
-      same-tails f 0 tt columns bytes x after h ∙ ap (λ (v : Values). after ∷ v.tails) same,
+      one-more f 0 tt columns bytes x after h ∙ ap (λ (v : Several Content). x ∷ v.read) same,
+      sym (ap (λ (v : Several Content). v.end) same) ∙ same-end f 0 tt columns bytes x after h,
+      same-tails f 0 tt columns bytes x after h ∙ ap (λ (v : Several Content). after ∷ v.tails) same,
     )
 
 pub text-fault : (left : ℕ) (bytes : List ℕ) (e : FaultOf) → Faults false e (text_value.reads bytes) → RefusesNext e (text_row_left (suc left) bytes)

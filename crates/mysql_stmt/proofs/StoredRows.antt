@@ -133,39 +133,31 @@ number-is : (width : ℕ) (bytes after : List ℕ) (n : ℕ) → (number width).
 unfolding number bytes
 number-is width bytes after n h = cut-number (nat_lt (length bytes) width) (take width bytes) (drop width bytes) n after h
 
--- the entry at a place, as it is read
-pub record IsEntry (i : ℕ) (block bytes after : List ℕ) (entry : ℕ) : Type 0 where
-  pub bytes_are : bytes ≡ drop (8 * i) block
-  pub entry_is : (number 8).reads bytes ≡ Ok (entry, after)
-
-first-is : (i : ℕ) (block bytes after : List ℕ) (entry : ℕ) → IsEntry i block bytes after entry → entry ≡ first_entry (drop (8 * i) block)
-first-is i block bytes after entry h = (number-is 8 bytes after entry h.entry_is).0 ∙ ap first_entry h.bytes_are
-
-pub place-there : (n i : ℕ) (block bytes after : List ℕ) (entry : ℕ) → i < n → AreStored n block block → IsEntry i block bytes after entry → entry % 2 ^ 32 ≤ length block
-place-there n i block bytes after entry lt h e =
-    subst (λ (m : ℕ). m % 2 ^ 32 ≤ length block) (sym (first-is i block bytes after entry e)) (stored-at n i block block lt h).place
-
--- the value is read at its place
-reading-is : (i : ℕ) (block bytes after : List ℕ) (entry : ℕ) → IsEntry i block bytes after entry
-    → (form_of_code (entry / 2 ^ 32)).reads (drop (entry % 2 ^ 32) block) ≡ entry_reading (drop (8 * i) block) block
-reading-is i block bytes after entry e = ap (λ (m : ℕ). (form_of_code (m / 2 ^ 32)).reads (drop (m % 2 ^ 32) block)) (first-is i block bytes after entry e)
-
-pub value-is : (n i : ℕ) (block bytes after : List ℕ) (entry : ℕ) (x : Content) (rest : List ℕ) → i < n → IsEntry i block bytes after entry
-    → (form_of_code (entry / 2 ^ 32)).reads (drop (entry % 2 ^ 32) block) ≡ Ok (x, rest) → slice_get (stored_values n block block) i ≡ Some x
-value-is n i block bytes after entry x rest lt e reads =
-    value-at n i block block lt ∙ ap (λ (r : Reading Content). Some (value_read r)) (sym (reading-is i block bytes after entry e) ∙ reads)
-
 no-fault : (e : FaultOf) (r : Reading Content) (x : Content) (rest : List ℕ) → r ≡ Ok (x, rest) → Faults false e r → ⊥
 no-fault fault.Memory r x rest is h = cc
 no-fault fault.UnexpectedEof r x rest is h = cc
 no-fault (fault.InvalidData text) r x rest is h = cc
 no-fault (fault.InvalidInput text) r x rest is h = cc
 
-pub value-good : (n i : ℕ) (block bytes after : List ℕ) (entry : ℕ) (e : FaultOf) → i < n → AreStored n block block → IsEntry i block bytes after entry
-    → Faults false e ((form_of_code (entry / 2 ^ 32)).reads (drop (entry % 2 ^ 32) block)) → ⊥
-value-good n i block bytes after entry e lt h is refused =
-    let good = (stored-at n i block block lt h).good in
-    no-fault e ((form_of_code (entry / 2 ^ 32)).reads (drop (entry % 2 ^ 32) block)) good.0 good.1 (reading-is i block bytes after entry is ∙ good.2) refused
+-- bytes that begin with an entry, as it is read
+pub entry-is : (i : ℕ) (block bytes after : List ℕ) (entry : ℕ) → bytes ≡ drop (8 * i) block → (number 8).reads bytes ≡ Ok (entry, after) → entry ≡ first_entry (drop (8 * i) block)
+entry-is i block bytes after entry is read = (number-is 8 bytes after entry read).0 ∙ ap first_entry is
+
+module _ (n i : ℕ) (block : List ℕ) (entry : ℕ) (lt : i < n) (is : entry ≡ first_entry (drop (8 * i) block)) where
+  pub place-there : AreStored n block block → entry % 2 ^ 32 ≤ length block
+  place-there h = subst (λ (m : ℕ). m % 2 ^ 32 ≤ length block) (sym is) (stored-at n i block block lt h).place
+
+  -- the value is read at its place
+  reading-is : (form_of_code (entry / 2 ^ 32)).reads (drop (entry % 2 ^ 32) block) ≡ entry_reading (drop (8 * i) block) block
+  reading-is = ap (λ (m : ℕ). (form_of_code (m / 2 ^ 32)).reads (drop (m % 2 ^ 32) block)) is
+
+  pub value-is : (x : Content) (rest : List ℕ) → (form_of_code (entry / 2 ^ 32)).reads (drop (entry % 2 ^ 32) block) ≡ Ok (x, rest) → slice_get (stored_values n block block) i ≡ Some x
+  value-is x rest reads = value-at n i block block lt ∙ ap (λ (r : Reading Content). Some (value_read r)) (sym reading-is ∙ reads)
+
+  pub value-good : (e : FaultOf) → AreStored n block block → Faults false e ((form_of_code (entry / 2 ^ 32)).reads (drop (entry % 2 ^ 32) block)) → ⊥
+  value-good e h refused =
+      let good = (stored-at n i block block lt h).good in
+      no-fault e ((form_of_code (entry / 2 ^ 32)).reads (drop (entry % 2 ^ 32) block)) good.0 good.1 (reading-is ∙ good.2) refused
 
 pub none-at : (values : List Content) (i : ℕ) → length values ≤ i → slice_get values i ≡ None
 none-at [] i h = refl

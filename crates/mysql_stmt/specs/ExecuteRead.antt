@@ -13,6 +13,7 @@ use Rattle.mysql_values.specs.declared.param_type.ParamType.{ParamType}
 use Rattle.mysql_stmt.specs.Attributes.{Attribute, AttributesLeft, IsPast, attributes_left, more, value_of, values}
 use Rattle.mysql_stmt.specs.BindFront.{BindFront, HasFront, bind_front}
 use Rattle.mysql_stmt.specs.Bitmap.{cell}
+use Rattle.mysql_stmt.specs.OneByOne.{several_in}
 use Rattle.mysql_stmt.specs.ExecuteParam.{Param, Sent, SentAhead, AsSent, param_of}
 use Rattle.mysql_stmt.specs.SentTypes.{NamedType, under_types, unnamed}
 use Rattle.mysql_stmt.specs.declared.execute_param.ExecuteParam.{ExecuteParam}
@@ -82,21 +83,6 @@ execution capabilities flags params = do
 
 -- ---- parameter by parameter
 
--- the parameters that are read up to the first fault, and the bytes after each; and the bytes after the last, or the fault
-pub record Several : Type 0 where
-  pub params : List TypedParam
-  pub tails : List (List ℕ)
-  pub end : Result (List ℕ) FaultKind
-
--- a parameter, followed by those that are read after it
-abbrev pub then_params : Reading TypedParam → (List ℕ → Several) → Several
-then_params (Ok x) next = record { params = x.0 ∷ (next x.1).params; tails = x.1 ∷ (next x.1).tails; end = (next x.1).end }
-then_params (Err e) next = record { params = []; tails = []; end = Err e }
-
-unfoldable pub params_in : (nulls : List ℕ) → ℕ → List BoundType → List ℕ → Several
-params_in nulls place [] bytes = record { params = []; tails = []; end = Ok bytes }
-params_in nulls place (p ∷ ps) bytes = then_params ((typed_param nulls place p).reads bytes) (params_in nulls (place + 1) ps)
-
 -- the attributes after the parameters: the NULL bitmap, the first one's place in it, and their types
 pub record AttributesAhead : Type 0 where
   pub nulls : List ℕ
@@ -120,10 +106,10 @@ abbrev pub params_left : (sends_types : Bool) (left : ℕ) → (nulls : List ℕ
 params_left sends_types left nulls place params types bytes = record {
   sends_types = sends_types;
   left = left;
-  params = (params_in nulls place (in_force sends_types params types) bytes).params;
-  end = (params_in nulls place (in_force sends_types params types) bytes).end;
+  params = (several_in (typed_param nulls) place (in_force sends_types params types) bytes).read;
+  end = (several_in (typed_param nulls) place (in_force sends_types params types) bytes).end;
   rest = bytes;
-  tails = (params_in nulls place (in_force sends_types params types) bytes).tails;
+  tails = (several_in (typed_param nulls) place (in_force sends_types params types) bytes).tails;
   attributes = record { nulls = nulls; place = place + length params; types = drop (length params) types };
 }
 

@@ -111,21 +111,6 @@ module _ {V A : Type 0} where
   abbrev pub as_long_data : ComStmtExecuteWithOptions V A → Bool
   as_long_data r = r.as_long_data
 
-  abbrev pub has_values : ComStmtExecuteWithOptions V A → Bool
-  has_values r = has_some (params r) || has_some (listed r)
-
-  abbrev pub types_follow : ComStmtExecuteWithOptions V A → Bool
-  types_follow r = r.sends_types || has_some (listed r)
-
-  abbrev pub has_names : ComStmtExecuteWithOptions V A → Bool
-  has_names r = is_some (attributes r)
-
-  abbrev pub has_count : ComStmtExecuteWithOptions V A → Bool
-  has_count r = has_names r && (has_values r || head.has_parameter_count r.head)
-
-  abbrev pub count_bytes : ComStmtExecuteWithOptions V A → List ℕ
-  count_bytes r = if has_count r then lenenc_bytes (saturated (length (params r) + length (listed r))) else []
-
   module _ (param : V → Param) (named_type : V → NamedType) (attribute : A → Param) (attribute_type : A → NamedType) where
     abbrev pub execution_of : ComStmtExecuteWithOptions V A → Execution
     execution_of r = record {

@@ -1,6 +1,7 @@
 pub mod Stmt
 pub mod Bitmap
 pub mod NullMarks
+pub mod OneByOne
 pub mod SentNulls
 pub mod NullBitmap
 pub mod Close

@@ -15,6 +15,7 @@ use Rattle.mysql_values.specs.declared.value_ref.ValueRef.{ValueRef}
 use Rattle.mysql_values.specs.ValueRef.{ref_content}
 use Rattle.mysql_stmt.specs.Bitmap.{Bitmap, cell}
 use Rattle.mysql_stmt.specs.NullBitmap.{null_bitmap}
+use Rattle.mysql_stmt.specs.OneByOne.{several_in}
 use Rattle.mysql_stmt.specs.RowForm.{there}
 
 -- ---- grammars
@@ -44,22 +45,6 @@ text_row_of columns = counted columns (there text_value)
 
 -- ---- value by value
 
--- the values that are read up to the first fault, and the bytes after each; and the bytes after the last, or the fault
-pub record Values : Type 0 where
-  pub values : List Content
-  pub tails : List (List ℕ)
-  pub end : Result (List ℕ) FaultKind
-
--- a value, followed by those that are read after it
-abbrev pub then_values : Reading Content → (List ℕ → Values) → Values
-then_values (Ok x) next = record { values = x.0 ∷ (next x.1).values; tails = x.1 ∷ (next x.1).tails; end = (next x.1).end }
-then_values (Err e) next = record { values = []; tails = []; end = Err e }
-
--- a value of each form
-unfoldable pub values_in : {C : Type 0} → (ℕ → C → Form Content) → ℕ → List C → List ℕ → Values
-values_in form place [] bytes = record { values = []; tails = []; end = Ok bytes }
-values_in form place (c ∷ cs) bytes = then_values ((form place c).reads bytes) (values_in form (place + 1) cs)
-
 -- The rest of a row: the number of values, those without a fault, and the bytes after the last value, or the fault that follows those.
 pub record RowLeft : Type 0 where
   pub left : ℕ
@@ -72,19 +57,19 @@ pub record RowLeft : Type 0 where
 abbrev pub row_left : {C : Type 0} → (ℕ → C → Form Content) → ℕ → List C → List ℕ → RowLeft
 row_left form place columns bytes = record {
   left = length columns;
-  values = (values_in form place columns bytes).values;
-  end = (values_in form place columns bytes).end;
+  values = (several_in form place columns bytes).read;
+  end = (several_in form place columns bytes).end;
   rest = bytes;
-  tails = (values_in form place columns bytes).tails;
+  tails = (several_in form place columns bytes).tails;
 }
 
 abbrev pub text_row_left : ℕ → List ℕ → RowLeft
 text_row_left left bytes = record {
   left = left;
-  values = (values_in (λ place (column : Unit {0}). text_value) 0 (replicate left tt) bytes).values;
-  end = (values_in (λ place (column : Unit {0}). text_value) 0 (replicate left tt) bytes).end;
+  values = (several_in (λ place (column : Unit {0}). text_value) 0 (replicate left tt) bytes).read;
+  end = (several_in (λ place (column : Unit {0}). text_value) 0 (replicate left tt) bytes).end;
   rest = bytes;
-  tails = (values_in (λ place (column : Unit {0}). text_value) 0 (replicate left tt) bytes).tails;
+  tails = (several_in (λ place (column : Unit {0}). text_value) 0 (replicate left tt) bytes).tails;
 }
 
 -- the row follows the byte and the bitmap

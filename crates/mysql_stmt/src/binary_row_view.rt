@@ -360,11 +360,6 @@ impl<'a, 'c, S: SerializationSide, C: TypedColumn> RowView<'a> for BinaryRowView
         self.rest()
     }
 
-    #[inline(always)]
-    fn next_value<'s>(&mut self) -> Result<Option<ValueRef<'a>>, FaultOf<'s>> {
-        self.next_value()
-    }
-
     fn check<'s>(&self) -> Result<(), FaultOf<'s>> {
         let row: BinaryRowView<'_, 'c, S, C> = BinaryRowView {
             buf: self.buf.rest(),

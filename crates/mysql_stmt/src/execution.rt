@@ -2,6 +2,7 @@
 
 ghost use Rattle.std.specs.Prelude.{◌≡◌};
 ghost use Rattle.std.specs.Option.{option_copied};
+ghost use Rattle.mysql_stmt.specs.Execution as execution;
 ghost use Rattle.mysql_stmt.specs.ExecuteWithOptions as request;
 
 use crate::execute_head::ComStmtExecuteHead;
@@ -94,7 +95,7 @@ impl<'a, V, A> ComStmtExecuteWithOptions<'a, V, A> {
     }
 }
 
-impl<'a, V, A> ComStmtExecuteWithOptions<'a, V, A> {
+impl<'a, V: AsExecuteParam, A: AsExecuteParam> ComStmtExecuteWithOptions<'a, V, A> {
     /// The attributes; none if the session has no attributes.
     #[inline(always)]
     fn listed(&self) -> &'a [A]
@@ -108,43 +109,38 @@ impl<'a, V, A> ComStmtExecuteWithOptions<'a, V, A> {
 
     /// Whether there are parameters or attributes.
     #[inline(always)]
+    #[tactic(auto, using(crate::proofs::ExecutionBytes::some_is))]
     fn has_values(&self) -> bool
-        ensures value { result ≡ request.has_values self.now }
+        ensures value { result ≡ execution.has_some (execution.all_params (request.execution_of V.param V.named_type A.param A.named_type self.now)) }
     {
         !self.params.is_empty() || !self.listed().is_empty()
     }
 
     /// Whether types follow.
     #[inline(always)]
+    #[tactic(auto, using(crate::proofs::ExecutionBytes::follow_is))]
     fn types_follow(&self) -> bool
-        ensures value { result ≡ request.types_follow self.now }
+        ensures value { result ≡ execution.types_follow (request.execution_of V.param V.named_type A.param A.named_type self.now) }
     {
         self.sends_types || !self.listed().is_empty()
     }
 
     /// Whether each type has a name.
     #[inline(always)]
+    #[tactic(auto, using(crate::proofs::ExecutionBytes::names_are))]
     fn has_names(&self) -> bool
-        ensures value { result ≡ request.has_names self.now }
+        ensures value { result ≡ execution.has_names (request.execution_of V.param V.named_type A.param A.named_type self.now) }
     {
         self.attributes.is_some()
     }
 
-    /// Whether the number of parameters and attributes is sent.
-    #[inline(always)]
-    fn has_count(&self) -> bool
-        ensures value { result ≡ request.has_count self.now }
-    {
-        self.has_names() && (self.has_values() || self.head.has_parameter_count())
-    }
-
     /// The number of parameters and attributes, if it is sent.
     #[inline(always)]
-    #[tactic(auto, unfolding(mysql_wire::specs::Writing::saturated))]
+    #[tactic(auto, using(crate::proofs::ExecutionBytes::length_is), unfolding(mysql_wire::specs::Writing::saturated))]
     fn count(&self) -> Option<RawInt<LenEnc>>
-        ensures value { ⟦<Option<RawInt<LenEnc>> as MySerialize>⟧.bytes result ≡ request.count_bytes self.now }
+        ensures value { ⟦<Option<RawInt<LenEnc>> as MySerialize>⟧.bytes result ≡ execution.count_bytes (request.execution_of V.param V.named_type A.param A.named_type self.now) }
     {
-        if self.has_count() {
+        if self.has_names() && (self.has_values() || self.head.has_parameter_count()) {
             let count = self.params.len().saturating_add(self.listed().len());
             Some(RawInt::new(count as u64))
         } else {

@@ -1,11 +1,10 @@
 //! Rows that are read value by value, in either protocol.
 
 ghost use Rattle.std.specs.Prelude.{◌≡◌, Ok};
-ghost use Rattle.mysql_stmt.specs.RowView.{GivesOne, IsDone};
+ghost use Rattle.mysql_stmt.specs.RowView.{IsDone};
 ghost use Rattle.mysql_stmt.specs.StoredRow.{ChecksRow, PassesOne};
 
 use crate::stored_form::StoredForm;
-use mysql_values::ValueRef;
 use mysql_wire::{FaultOf, ParseBuf};
 
 /// A row that is read value by value: a [`TextRowView`](crate::TextRowView) or a
@@ -25,10 +24,6 @@ pub trait RowView<'a>: Sized + Drop {
     fn rest(&self) -> ParseBuf<'a>
         ensures value { (remains self.now).left ≡ 0 → (remains self.now).end ≡ Ok result }
         ensures read { result ≡ (remains self.now).rest };
-
-    /// Reads the next value, or returns `None` after the last. After an error the row is unchanged.
-    fn next_value<'s>(&mut self) -> Result<Option<ValueRef<'a>>, FaultOf<'s>>
-        ensures value { GivesOne (remains self.old) result (remains self.new) };
 
     /// Checks that all remaining values can be read, or returns the first fault. It changes nothing.
     fn check<'s>(&self) -> Result<(), FaultOf<'s>>

@@ -1,12 +1,12 @@
 //! Rows that outlive their packets, in one block of memory.
 
-ghost use Rattle.std.specs.Prelude.{true, false, ◌≡◌, ◌≤◌, ◌<◌, ◌^◌, [], IfOk, IfErr, IfNone, IfSome, OnOk, OnErr, IsOk, IsTrue, Some, map, ◌↔◌, length, nat_lt, option_map, slice_get, vec_capacity};
+ghost use Rattle.std.specs.Prelude.{true, false, ◌≡◌, ◌+◌, ◌*◌, ◌≤◌, ◌<◌, ◌^◌, [], IfOk, IfErr, IfNone, IfSome, OnOk, OnErr, IsOk, IsTrue, Some, drop, map, ◌↔◌, length, nat_lt, option_map, slice_get, vec_capacity};
 ghost use Rattle.mysql_wire.specs.Reading.{Faults};
 ghost use Rattle.std.specs.Rc.{rc_slice_items};
 ghost use Rattle.mysql_values.specs.Cells.{held};
 ghost use Rattle.mysql_values.specs.ValueRef.{ref_content};
 ghost use Rattle.mysql_stmt.specs.RowView.{read_of};
-ghost use Rattle.mysql_stmt.specs.StoredRow.{FindsValue, HoldsRow, StoresRow, entry_number, is_storable, reads_to_store, stored_size};
+ghost use Rattle.mysql_stmt.specs.StoredRow.{FindsValue, HoldsRow, StoresRow, entry_number, first_entry, is_storable, reads_to_store, stored_size};
 
 use crate::column_index::ColumnIndex;
 use crate::row::{Row, new_row_raw};
@@ -76,6 +76,16 @@ fn filled<'a, 's, V: RowView<'a>>(view: V, block: Vec<u8>) -> Result<Vec<u8>, Fa
     view.rest();
     block.push_bytes(source.eat_all());
     Ok(block)
+}
+
+/// Returns the entry of a value, of which the block has one.
+#[inline(always)]
+fn entry_at(alloc: Global, block: &[u8], index: usize) -> u64
+    requires { 8 * index + 8 ≤ length block.now }
+    ensures value { result ≡ first_entry (drop (8 * index) block.now) }
+{
+    let mut entries = ParseBuf::new(alloc, &block[ENTRY * index..]);
+    LeU64::take(&mut entries)
 }
 
 /// A row that outlives its packet, in one block of memory: an entry of eight bytes for each value, and the bytes of the values.
@@ -180,10 +190,10 @@ impl StoredRow {
         if index >= self.count {
             return None;
         }
+        let block = self.block.as_slice();
         let alloc = *self.block.allocator();
-        let mut entries = ParseBuf::new(alloc, &self.block[ENTRY * index..]);
-        let entry = LeU64::take(&mut entries);
-        let mut bytes = ParseBuf::new(alloc, &self.block[(entry % PLACES) as usize..]);
+        let entry = entry_at(alloc, block, index);
+        let mut bytes = ParseBuf::new(alloc, &block[(entry % PLACES) as usize..]);
         match read_coded(entry / PLACES, &mut bytes) {
             Ok(value) => Some(value),
             Err(_) => None,

@@ -1,6 +1,6 @@
 //! Text rows that are read value by value, without memory.
 
-ghost use Rattle.std.specs.Prelude.{◌≡◌, ◌≤◌, ℕ, List, Ok, length, IfErr, OnOk};
+ghost use Rattle.std.specs.Prelude.{◌≡◌, ◌≤◌, ℕ, List, Ok, length, IfOk, IfSome, IfErr, OnOk};
 ghost use Rattle.mysql_values.specs.ValueDeserializer.{text_value};
 ghost use Rattle.mysql_values.specs.ValueRef.{ref_content};
 ghost use Rattle.mysql_stmt.specs.RowView.{Fills, GivesOne, IsDone, RefusesNext, read_of, text_row_left, text_row_of};
@@ -73,6 +73,7 @@ impl<'a> TextRowView<'a> {
     #[inline(always)]
     pub fn next_value<'s>(&mut self) -> Result<Option<ValueRef<'a>>, FaultOf<'s>>
         ensures value { GivesOne self.old result self.new }
+        ensures read { IfOk result (λ found. IfSome found (λ value. text_value.reads self.old.rest ≡ Ok (ref_content value, self.new.rest))) }
     {
         let Some(left) = self.left.checked_sub(1) else {
             return Ok(None);
@@ -139,11 +140,6 @@ impl<'a> RowView<'a> for TextRowView<'a> {
         self.rest()
     }
 
-    #[inline(always)]
-    fn next_value<'s>(&mut self) -> Result<Option<ValueRef<'a>>, FaultOf<'s>> {
-        self.next_value()
-    }
-
     fn check<'s>(&self) -> Result<(), FaultOf<'s>> {
         read_through(TextRowView {
             buf: self.buf.rest(),
@@ -153,13 +149,9 @@ impl<'a> RowView<'a> for TextRowView<'a> {
 
     #[inline(always)]
     fn next_form<'s>(&mut self) -> Result<Option<StoredForm>, FaultOf<'s>> {
-        let Some(left) = self.left.checked_sub(1) else {
-            return Ok(None);
-        };
-        let mut rest = self.buf.rest();
-        let value = read_text_ref(&mut rest)?;
-        self.buf = rest;
-        self.left = left;
-        Ok(Some(text_form(value)))
+        match self.next_value()? {
+            Some(value) => Ok(Some(text_form(value))),
+            None => Ok(None),
+        }
     }
 }

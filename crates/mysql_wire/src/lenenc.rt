@@ -127,7 +127,7 @@ impl BytesRepr for LenEnc {
     #[inline(always)]
     #[tactic(auto, unfolding(crate::specs::Writing::saturated, crate::specs::LenEnc::lenenc_string_bytes, crate::specs::LenEnc::lenenc_bytes, crate::specs::Writing::le_bytes))]
     fn written_len(content: &[u8]) -> usize {
-        <LenEnc as IntRepr>::written_len(content.len() as u64).saturating_add(content.len())
+        <LenEnc as IntRepr>::written_len(content.len() as u64) + content.len()
     }
 
     #[inline(always)]

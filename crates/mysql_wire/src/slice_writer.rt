@@ -5,18 +5,22 @@ ghost use Rattle.std.specs.Prelude.{◌≡◌, ◌+◌, ◌++◌, ◌∷◌, [],
 use crate::buffer::Buffer;
 use std::mem;
 
-/// A slice that is filled from the front.
+/// A slice that is filled from its front, as a [`Buffer`]: its bytes are those written, and its capacity is the slice's length.
+///
+/// A single value is written by [`write_to_slice`](crate::MySerialize::write_to_slice); this is for writing to several slices in one pass.
 #[derive(Drop)]
-pub(crate) struct SliceWriter<'a> {
-    out: &'a mut [u8],
-    len: usize,
+pub struct SliceWriter<'a> {
+    /// The whole slice.
+    pub out: &'a mut [u8],
+    /// How many of its bytes are written.
+    pub len: usize,
     ghost fits: { len ≤ length out.now },
 }
 
 impl<'a> SliceWriter<'a> {
     /// Creates a writer over a slice; nothing is written yet.
     #[inline(always)]
-    pub(crate) fn new(out: &'a mut [u8]) -> Self
+    pub fn new(out: &'a mut [u8]) -> Self
         ensures same_reference { result.out.ghost_name ≡ out.entry.ghost_name }
         ensures out { result.out.now ≡ out.old }
         ensures len { result.len ≡ 0 }

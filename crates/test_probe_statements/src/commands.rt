@@ -128,7 +128,7 @@ impl Shows<ComChangeUserRef<'_>> for Statements {
 
 impl Shows<ComBinlogDumpRef<'_>> for Statements {
     fn show(it: &ComBinlogDumpRef<'_>, out: &mut Out) {
-        fields!(out, it; pos, flags, server_id, filename);
+        fields!(out, it; pos, flags, server_id, filename = filename_raw);
     }
 }
 
@@ -140,13 +140,13 @@ impl Shows<ComTableDump<'_>> for Statements {
 
 impl Shows<ComRegisterSlaveRef<'_>> for Statements {
     fn show(it: &ComRegisterSlaveRef<'_>, out: &mut Out) {
-        fields!(out, it; server_id, hostname, user, password, port, replication_rank, master_id);
+        fields!(out, it; server_id, hostname = hostname_raw, user = user_raw, password = password_raw, port, replication_rank, master_id);
     }
 }
 
 impl Shows<ComBinlogDumpGtidRef<'_>> for Statements {
     fn show(it: &ComBinlogDumpGtidRef<'_>, out: &mut Out) {
-        fields!(out, it; flags, server_id, filename, pos);
+        fields!(out, it; flags, server_id, filename = filename_raw, pos);
         out.show("sids", it.sids().left());
     }
 }

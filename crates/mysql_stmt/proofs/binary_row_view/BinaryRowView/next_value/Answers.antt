@@ -3,14 +3,15 @@ use Rattle.std.proofs.lemmas.Result.{err_from_is_err_and}
 use Rattle.mysql_values.specs.ValueRef.{ref_content}
 use Rattle.mysql_stmt.specs.RowView.{RowLeft, Gives, IsDone, RefusesNext, ref_cell, row_left}
 use Rattle.mysql_stmt.proofs.NullBits.{bits-after}
-use Rattle.mysql_stmt.proofs.RowViews.{no-value, first-value, first-fault}
+use Rattle.mysql_stmt.proofs.OneByOne.{none-left}
+use Rattle.mysql_stmt.proofs.RowViews.{first-value, first-fault}
 use Rattle.mysql_stmt.proofs.binary_row_view.BinaryRowView.next_value.Goals as goal
 
 pub returns-in_default : goal.returns-in_default
 returns-in_default g c =
     let f = ref_cell g.C.TypedColumn.type_of g.C.TypedColumn.unsigned c.self.inside.nulls.bytes g.S.SerializationSide.BIT_OFFSET in
     let none : length c.self.inside.columns.now ≡ 0 = search rules in
-    record { value = (subst IsDone c.self.view_is (none, (no-value f c.self.inside.place c.self.inside.columns.now c.self.inside.buf none).0), refl) }
+    record { value = (subst IsDone c.self.view_is (none, (none-left f c.self.inside.place c.self.inside.columns.now c.self.inside.buf none).0), refl) }
 
 pub returns-in_err-value : goal.returns-in_err-value
 returns-in_err-value g c =

@@ -4,14 +4,15 @@ use Rattle.mysql_wire.specs.Reading.{IsTail}
 use Rattle.mysql_stmt.specs.StoredRow.{ReadsAs}
 use Rattle.mysql_stmt.specs.RowView.{RowLeft, Gives, IsDone, RefusesNext, ref_cell, ref_unless, row_left}
 use Rattle.mysql_stmt.proofs.NullBits.{bits-after}
-use Rattle.mysql_stmt.proofs.RowViews.{no-value, first-value, first-fault}
+use Rattle.mysql_stmt.proofs.OneByOne.{none-left}
+use Rattle.mysql_stmt.proofs.RowViews.{first-value, first-fault}
 use Rattle.mysql_stmt.proofs.binary_row_view.BinaryRowViewRowView.next_form.Goals as goal
 
 pub returns-in_default : goal.returns-in_default
 returns-in_default g c =
     let f = ref_cell g.C.TypedColumn.type_of g.C.TypedColumn.unsigned c.self.inside.nulls.bytes g.S.SerializationSide.BIT_OFFSET in
     let none : length c.self.inside.columns.now ≡ 0 = search rules in
-    record { value = (subst IsDone c.self.view_is (none, (no-value f c.self.inside.place c.self.inside.columns.now c.self.inside.buf none).0), refl) }
+    record { value = (subst IsDone c.self.view_is (none, (none-left f c.self.inside.place c.self.inside.columns.now c.self.inside.buf none).0), refl) }
 
 pub returns-in_err-form : goal.returns-in_err-form
 returns-in_err-form g c =

@@ -1,42 +1,14 @@
-use Rattle.std.proofs.Common.{rules, ℕ, suc, ◌≡◌, List, Ok, false, subst, refl, sym}
-use Rattle.std.proofs.lemmas.Result.{err_from_is_err_and}
-use Rattle.mysql_wire.specs.Reading.{Faults, IsTail}
-use Rattle.mysql_values.specs.ValueRef.{ref_content}
+use Rattle.std.proofs.Common.{rules, ◌≡◌, Ok}
 use Rattle.mysql_values.specs.ValueDeserializer.{text_value}
-use Rattle.mysql_stmt.specs.RowView.{RowLeft, Gives, IsDone, RefusesNext, text_row_left}
-use Rattle.mysql_stmt.specs.StoredRow.{ReadsAs}
-use Rattle.mysql_stmt.proofs.RowViews.{no-text, one-text, text-fault}
+use Rattle.mysql_values.specs.ValueRef.{ref_content}
+use Rattle.mysql_stmt.specs.RowView.{Gives}
 use Rattle.mysql_stmt.proofs.text_row_view.TextRowViewRowView.next_form.Goals as goal
 
-pub returns-in_default : goal.returns-in_default
-returns-in_default c =
-    let none : c.self.inside.left ≡ 0 = search rules in
-    record { value = (subst IsDone c.self.view_is (none, (no-text (λ place column. text_value) c.self.inside.left c.self.inside.buf none).0), refl) }
-
-pub returns-in_err-value : goal.returns-in_err-value
-returns-in_err-value c =
-    let fault = c.in_err-value.field-0.0 in
-    let more : c.self.inside.left ≡ suc c.in-Some.left = search rules in
-    let here = subst (λ (bytes : List ℕ). Faults false fault (text_value.reads bytes)) c.rest-rest.ensures c.in_err-value.ensures.value in
-    let row = subst (λ (n : ℕ). RefusesNext fault (text_row_left n c.self.inside.buf)) (sym more) (text-fault c.in-Some.left c.self.inside.buf fault here) in
-    let p = err_from_is_err_and c.from_residual.result c.from_residual.ensures.1 in
-    record { value = rw (p.1, p.2) (subst (RefusesNext fault) c.self.view_is row, refl) }
-
-pub returns : goal.returns
-returns c =
-    let buf = c.self.inside.buf in
-    let after = c.read_text_ref.new.buf in
-    let x = ref_content c.in_ok-value.value in
-    let now = text_row_left c.in-Some.left after in
-    let more : c.self.inside.left ≡ suc c.in-Some.left = search rules in
-    let here = subst (λ (bytes : List ℕ). text_value.reads bytes ≡ Ok (x, after)) c.rest-rest.ensures c.in_ok-value.ensures.value in
-    let Was : RowLeft → Type 0 = λ (r : RowLeft). Gives r x now in
-    let row = subst (λ (n : ℕ). Was (text_row_left n buf)) (sym more) (one-text c.in-Some.left buf x after here) in
-    record {
-      value = (
-        x,
-        subst Was c.self.view_is row,
-        subst (λ (r : RowLeft). IsTail after r.rest) c.self.view_is (text_value.front x buf after here),
-        subst (λ (r : RowLeft). ReadsAs c.text_form.result r.rest x) c.self.view_is (c.text_form.ensures.value buf after here),
-      );
-    }
+pub returns-in-Some : goal.returns-in-Some
+returns-in-Some c =
+    let old = c.args.self.now in
+    let new = c.next_value.new.self in
+    let x = ref_content c.in-Some.value in
+    let given : Gives old x new = search rules in
+    let read : text_value.reads old.rest ≡ Ok (x, new.rest) = search rules in
+    record { value = (x, given, text_value.front x old.rest new.rest read, c.text_form.ensures.value old.rest new.rest read) }
