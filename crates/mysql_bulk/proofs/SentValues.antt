@@ -13,6 +13,17 @@ use Rattle.mysql_values.specs.Value.{Content, content_of, contents_of}
 use Rattle.mysql_bulk.specs.ParamValue.{ParamValue, indicator_of, with_indicator, contents, cell, param_value_bytes, values_bytes}
 use Rattle.mysql_bulk.specs.SentValues.{sent_values}
 
+-- nothing is sent only if there are no values, whatever was read
+pub none_sent : (indicators : List MariadbBulkIndicator) (values : List Value) → sent_values indicators (contents_of values) ≡ [] → values ≡ []
+none_sent indicators [] e = refl
+none_sent [] (v ∷ values) e = absurd cc
+none_sent (i ∷ indicators) (v ∷ values) e = absurd cc
+
+-- the same values with other indicators that mean the same
+pub sent_copies : (a b : List MariadbBulkIndicator) (held given copies : List Value) → contents_of copies ≡ contents_of held → given ≡ held
+    → sent_values a (contents_of given) ≡ sent_values b (contents_of given) → sent_values a (contents_of copies) ≡ sent_values b (contents_of held)
+sent_copies a b held given copies same is e = ap (λ v. sent_values a v) same ∙ subst (λ (l : List Value). sent_values a (contents_of l) ≡ sent_values b (contents_of l)) is e
+
 -- where none was read
 pub own_indicators : (values : List Content) → sent_values [] values ≡ map with_indicator values
 own_indicators [] = refl

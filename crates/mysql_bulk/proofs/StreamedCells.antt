@@ -9,7 +9,7 @@ use Rattle.mysql_bulk.specs.declared.error.BulkRowError.TheVariants as refused
 use Rattle.mysql_bulk.specs.BulkValue.{Cell}
 use Rattle.mysql_bulk.specs.RequestWriter.{WriterState}
 use Rattle.mysql_bulk.specs.ValueRows.{AddsAfter, AddsCells, AreCellRequests, CellsFit, HoldsCells, LetsGo, StreamsCells, packing, request_of_cells, so_far}
-use Rattle.mysql_bulk.specs.ValuesRun.{CellsRunGives, EndsBy, next_of, with_settings}
+use Rattle.mysql_bulk.specs.ValuesRun.{CellsRunGives, EndsBy, LacksRoom, next_of, with_settings}
 use Rattle.mysql_bulk.proofs.ValueRows.{holds_none}
 
 none_long : {X : Type 0} (xs : List X) → length xs ≡ 0 → xs ≡ []
@@ -235,11 +235,12 @@ too_large : (k : Packing (List Cell)) (cut : List (List (List Cell))) (waiting r
 too_large k cut [] rows later row p n e = packed_stuck k cut rows row later p n
 too_large k cut (r ∷ waiting) rows later row p n e = absurd cc
 
-refuses : (u v : WriterState) (waiting later : List (List Cell)) (row : List Cell) (e : BulkRowError) → AddsAfter u waiting row (Err e) v → EndsBy (Some e) u waiting (row ∷ later)
-refuses u v waiting later row refused.MixedArity a = (a.0, refl)
-refuses u v waiting later row refused.MixedTypes a = (a.0, a.1, refl)
-refuses u v waiting later row refused.TooLarge a = (a.0, a.1, a.2, refl)
-refuses u v waiting later row refused.Memory a = inr (a.0, a.1, refl)
+refuses : (u v : WriterState) (waiting later : List (List Cell)) (row : List Cell) (e : BulkRowError) → AddsAfter u waiting row (Err e) v → LacksRoom u row e
+    → EndsBy (Some e) u waiting (row ∷ later)
+refuses u v waiting later row refused.MixedArity a lacks = (a.0, refl)
+refuses u v waiting later row refused.MixedTypes a lacks = (a.0, a.1, refl)
+refuses u v waiting later row refused.TooLarge a lacks = (a.0, a.1, a.2, refl)
+refuses u v waiting later row refused.Memory a lacks = inr ((a.0, a.1, refl), lacks refl)
 
 refused_stays : (u v : WriterState) (waiting : List (List Cell)) (row : List Cell) (e : BulkRowError) → AddsAfter u waiting row (Err e) v → v ≡ u
 refused_stays u v waiting row refused.MixedArity a = a.1
@@ -248,27 +249,28 @@ refused_stays u v waiting row refused.TooLarge a = a.3
 refused_stays u v waiting row refused.Memory a = a.2
 
 -- a row is refused
-refused_at : (w u v : WriterState) (before rows later : List (List Cell)) (requests : List (List ℕ)) (row : List Cell) (e : BulkRowError) → Going w (before ++ rows) (row ∷ later) requests u → AddsCells u row (Err e) v
+refused_at : (w u v : WriterState) (before rows later : List (List Cell)) (requests : List (List ℕ)) (row : List Cell) (e : BulkRowError) → Going w (before ++ rows) (row ∷ later) requests u → AddsCells u row (Err e) v → LacksRoom u row e
     → CellsRunGives w before (rows ++ row ∷ later) requests (Some e) v
-refused_at w u v before rows later requests row e g adds =
+refused_at w u v before rows later requests row e g adds lacks =
     let k = packing w in
     let a = adds g.waiting g.holds in
     let A : BulkRowError → Type 0 = λ x. AddsAfter u g.waiting row (Err x) v in
     let N : Bool → Type 0 = λ t. PartFits k (types_after k t g.cut) (g.waiting ++ row ∷ []) → ⊥ in
     let R : WriterState → Type 0 = λ x. CellsRunGives w before (rows ++ row ∷ later) requests (Some e) x in
     subst R (sym (refused_stays u v g.waiting row e a))
-    (ends_at w u before rows (row ∷ later) requests e g (refuses u v g.waiting later row e a)
+    (ends_at w u before rows (row ∷ later) requests e g (refuses u v g.waiting later row e a lacks)
     (λ due is. let b : A refused.TooLarge = subst A is a in too_large k g.cut g.waiting (rows_in g.cut ++ g.waiting) later row (by_parts g due) (subst N due (λ f. b.1 (fits_there row g f))) b.2))
 
 pub cells_refused : (w u v : WriterState) (before rows later : List (List Cell)) (requests : List (List ℕ)) (row : List Cell) (e : BulkRowError) → HoldsCells w before → StreamsCells w rows requests u
-    → AddsCells u row (Err e) v → CellsRunGives w before (rows ++ row ∷ later) requests (Some e) v
-cells_refused w u v before rows later requests row e h s adds = refused_at w u v before rows later requests row e (streamed w u before rows (row ∷ later) requests h s) adds
+    → AddsCells u row (Err e) v → LacksRoom u row e → CellsRunGives w before (rows ++ row ∷ later) requests (Some e) v
+cells_refused w u v before rows later requests row e h s adds lacks = refused_at w u v before rows later requests row e (streamed w u before rows (row ∷ later) requests h s) adds lacks
 
 -- a row is refused after a request was released
 pub sent_refused : (w u v x : WriterState) (before rows later : List (List Cell)) (requests : List (List ℕ)) (row : List Cell) (e : BulkRowError) → HoldsCells w before → StreamsCells w rows requests u
-    → AddsCells u row (Ok false) u → LetsGo u v → AddsCells v row (Err e) x → CellsRunGives w before (rows ++ row ∷ later) (requests ++ u.bytes ∷ []) (Some e) x
-sent_refused w u v x before rows later requests row e h s full go adds =
-    refused_at w v x before rows later (requests ++ u.bytes ∷ []) row e (one_sent row later v (streamed w u before rows (row ∷ later) requests h s) full go) adds
+    → AddsCells u row (Ok false) u → LetsGo u v → AddsCells v row (Err e) x → LacksRoom v row e
+    → CellsRunGives w before (rows ++ row ∷ later) (requests ++ u.bytes ∷ []) (Some e) x
+sent_refused w u v x before rows later requests row e h s full go adds lacks =
+    refused_at w v x before rows later (requests ++ u.bytes ∷ []) row e (one_sent row later v (streamed w u before rows (row ∷ later) requests h s) full go) adds lacks
 
 -- a row that is offered if none is waiting is not kept back
 pub never_kept : (w u v : WriterState) (before rows : List (List Cell)) (requests : List (List ℕ)) (row : List Cell) → HoldsCells w before → StreamsCells w rows requests u

@@ -7,7 +7,7 @@ use Rattle.mysql_bulk.specs.declared.error.BulkRowError.TheVariants as refused
 use Rattle.mysql_bulk.specs.BulkValue.{Cell}
 use Rattle.mysql_bulk.specs.RequestWriter.{WriterState}
 use Rattle.mysql_bulk.specs.ValueRows.{AddsCells, HoldsCells, LetsGo, StreamsCells}
-use Rattle.mysql_bulk.specs.ValuesRun.{CellsRunGives, Offered, OfferRefused}
+use Rattle.mysql_bulk.specs.ValuesRun.{CellsRunGives, LacksRoom, Offered, OfferRefused}
 use Rattle.mysql_bulk.proofs.StreamedCells.{cells_due, cells_kept, cells_refused, cells_sent, never_kept, sent_refused}
 
 -- ---- one row
@@ -28,9 +28,9 @@ again_taken u m v x row b c q more a f e g sent adds is =
     inr (v, not_taken u m row b a f e, let_go_from u m v e g, subst A is adds, sent ∙ ap (λ (s : WriterState). q ++ s.bytes ∷ []) e)
 
 pub again_refused : (u m v x : WriterState) (row : List Cell) (b : Bool) (q more : List (List ℕ)) (e : BulkRowError) → AddsCells u row (Ok b) m → b ≡ false → m ≡ u → LetsGo m v → more ≡ q ++ m.bytes ∷ []
-    → AddsCells v row (Err e) x → OfferRefused u row q e x more
-again_refused u m v x row b q more e a f same g sent adds =
-    inr (inr (inl (v, not_taken u m row b a f same, let_go_from u m v same g, adds, sent ∙ ap (λ (s : WriterState). q ++ s.bytes ∷ []) same)))
+    → AddsCells v row (Err e) x → LacksRoom v row e → OfferRefused u row q e x more
+again_refused u m v x row b q more e a f same g sent adds lacks =
+    inr (inr (inl (v, not_taken u m row b a f same, let_go_from u m v same g, adds, sent ∙ ap (λ (s : WriterState). q ++ s.bytes ∷ []) same, lacks)))
 
 pub again_kept : (u m v x : WriterState) (row : List Cell) (b c : Bool) (q more : List (List ℕ)) (e : BulkRowError) → AddsCells u row (Ok b) m → b ≡ false → m ≡ u → LetsGo m v → AddsCells v row (Ok c) x → c ≡ false → x ≡ v
     → OfferRefused u row q e x more
@@ -78,13 +78,13 @@ run_refused w u m before all rows later row q more e h whole s o =
     subst (λ l. R l more e m) (sym whole)
     (
     elim o [
-      | inl at ↦ subst (λ p. R (rows ++ row ∷ later) p e m) (sym at.1) (cells_refused w u m before rows later q row e h s at.0)
+      | inl at ↦ subst (λ p. R (rows ++ row ∷ later) p e m) (sym at.1) (cells_refused w u m before rows later q row e h s at.0 at.2)
       | inr o1 ↦ elim o1 [
         | inl at ↦
             subst (λ p. R (rows ++ row ∷ later) p e m) (sym at.3)
             (subst (λ x. R (rows ++ row ∷ later) q x m) (sym at.0) (subst (λ y. R (rows ++ row ∷ later) q refused.Memory y) (sym at.2) (cells_due w u before rows later q row h s at.1)))
         | inr o2 ↦ elim o2 [
-          | inl at ↦ subst (λ p. R (rows ++ row ∷ later) p e m) (sym at.4) (sent_refused w u at.0 m before rows later q row e h s at.1 at.2 at.3)
+          | inl at ↦ subst (λ p. R (rows ++ row ∷ later) p e m) (sym at.4) (sent_refused w u at.0 m before rows later q row e h s at.1 at.2 at.3 at.5)
           | inr at ↦ absurd (never_kept w u at.0 before rows q row h s at.1 at.2 at.3)
         ]
       ]

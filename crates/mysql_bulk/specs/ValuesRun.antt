@@ -7,7 +7,7 @@ use Rattle.mysql_bulk.specs.declared.error.BulkRowError.{BulkRowError}
 use Rattle.mysql_bulk.specs.declared.error.BulkRowError.TheVariants as refused
 use Rattle.mysql_bulk.specs.BulkValue.{Cell, cell_of}
 use Rattle.mysql_bulk.specs.RequestWriter.{WriterState}
-use Rattle.mysql_bulk.specs.ValueRows.{AddsAfter, AddsCells, AreCellRequests, CellsFit, HoldsCells, LetsGo, Spells, packing}
+use Rattle.mysql_bulk.specs.ValueRows.{AddsAfter, AddsCells, AreCellRequests, CellsFit, HasRoomFor, HoldsCells, LetsGo, Spells, packing}
 
 abbrev pub cells_of_row : Vec BulkValue → List Cell
 cells_of_row row = map cell_of row.items
@@ -26,13 +26,17 @@ Offered u row requests m more =
     (AddsCells u row (Ok true) m × (more ≡ requests))
     ⊎ ((v : WriterState) × AddsCells u row (Ok false) u × LetsGo u v × AddsCells v row (Ok true) m × (more ≡ requests ++ u.bytes ∷ []))
 
+-- a row is refused for memory only if the buffer has no capacity for it
+abbrev pub LacksRoom : WriterState → List Cell → BulkRowError → Type 0
+LacksRoom u row e = e ≡ refused.Memory → HasRoomFor u row → ⊥
+
 -- the row was refused: at once; or for memory, because the request that is due was not released; or after that; or it didn't fit although
 -- no row waits, which never happens
 abbrev pub OfferRefused : WriterState → List Cell → List (List ℕ) → BulkRowError → WriterState → List (List ℕ) → Type 0
 OfferRefused u row requests e m more =
-    (AddsCells u row (Err e) m × (more ≡ requests))
+    (AddsCells u row (Err e) m × (more ≡ requests) × LacksRoom u row e)
     ⊎ (((e ≡ refused.Memory) × AddsCells u row (Ok false) u × (m ≡ u) × (more ≡ requests))
-    ⊎ (((v : WriterState) × AddsCells u row (Ok false) u × LetsGo u v × AddsCells v row (Err e) m × (more ≡ requests ++ u.bytes ∷ []))
+    ⊎ (((v : WriterState) × AddsCells u row (Ok false) u × LetsGo u v × AddsCells v row (Err e) m × (more ≡ requests ++ u.bytes ∷ []) × LacksRoom v row e)
     ⊎ ((v : WriterState) × AddsCells u row (Ok false) u × LetsGo u v × AddsCells v row (Ok false) v)))
 
 -- ---- the run
@@ -54,12 +58,17 @@ abbrev pub RefusesNext : WriterState → (waiting dropped : List (List Cell)) �
 RefusesNext u waiting [] e = ⊥
 RefusesNext u waiting (row ∷ later) e = AddsAfter u waiting row (Err e) u
 
+-- the next row fits, and the buffer has no capacity for it
+abbrev pub LacksRoomForNext : WriterState → (waiting dropped : List (List Cell)) → Type 0
+LacksRoomForNext u waiting [] = ⊥
+LacksRoomForNext u waiting (row ∷ later) = AddsAfter u waiting row (Err refused.Memory) u × (HasRoomFor u row → ⊥)
+
 -- why a run ended with this writer, before these rows
 abbrev pub EndsBy : Option BulkRowError → WriterState → (waiting dropped : List (List Cell)) → Type 0
 -- all rows were sent
 EndsBy None u waiting dropped = (waiting ≡ []) × (dropped ≡ [])
--- memory ran out for the request that is due, or for the next row, which fits
-EndsBy (Some refused.Memory) u waiting dropped = RequestIsDue u waiting dropped ⊎ RefusesNext u waiting dropped refused.Memory
+-- memory ran out for the request that is due, or for the next row
+EndsBy (Some refused.Memory) u waiting dropped = RequestIsDue u waiting dropped ⊎ LacksRoomForNext u waiting dropped
 EndsBy (Some e) u waiting dropped = RefusesNext u waiting dropped e
 
 -- the next row, if any

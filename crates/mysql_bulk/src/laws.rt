@@ -35,7 +35,7 @@ ghost use Rattle.mysql_values.specs.TypedValue.{is_unsigned_type};
 ghost use Rattle.mysql_bulk.specs.BulkValue.{Cell, cell_spelled, cells_bytes, spells_cells};
 ghost use Rattle.mysql_bulk.specs.ReadValues.{CellFits, cell_read, row_read};
 ghost use Rattle.mysql_bulk.specs.ValueRows.{AddsCells, HoldsCells, LetsGo, StreamsCells};
-ghost use Rattle.mysql_bulk.specs.ValuesRun.{CellsRunGives};
+ghost use Rattle.mysql_bulk.specs.ValuesRun.{CellsRunGives, LacksRoom};
 ghost use Rattle.mysql_bulk.specs.WholeRun.{IsNew, RunGives};
 
 use mysql_values::{Params, Value};
@@ -137,7 +137,7 @@ pub fn streamed_values_are_sent_in_the_fewest_requests()
     ensures all { (w u v : WriterState) (before rows : List (List Cell)) (requests : List (List ℕ)) → HoldsCells w before → StreamsCells w rows requests u → u.count ≢ 0 → LetsGo u v
         → CellsRunGives w before rows (requests ++ u.bytes ∷ []) None v }
     ensures refused { (w u v : WriterState) (before rows later : List (List Cell)) (requests : List (List ℕ)) (row : List Cell) (e : BulkRowError) → HoldsCells w before → StreamsCells w rows requests u
-        → AddsCells u row (Err e) v → CellsRunGives w before (rows ++ row ∷ later) requests (Some e) v }
+        → AddsCells u row (Err e) v → LacksRoom u row e → CellsRunGives w before (rows ++ row ∷ later) requests (Some e) v }
     ensures new { (w : WriterState) → w.count ≡ 0 → w.size ≡ 0 → w.bytes ≡ [] → HoldsCells w [] }
 {}
 

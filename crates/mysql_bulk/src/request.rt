@@ -14,15 +14,15 @@ ghost use Rattle.mysql_values.specs.Value.{contents_of};
 
 use crate::declared_types::join_row;
 use crate::error::BulkExecuteRequestError;
-use crate::head::{ComStmtBulkExecuteHeader, Head, read_head, sends_types};
+use crate::head::{Head, read_head, sends_types};
 use crate::param_values::read_values;
-use crate::row::{append_row, equally_long, find_capacity};
+use crate::row::{append_row, clone_list, equally_long, find_capacity};
 use crate::sent_values::{SentValues, part_from_indicators, same_values, sent_len};
 use mysql_values::{ParamType, Value};
 use mysql_wire::{
-    AnyWidth, Buffer, ColumnFlags, ColumnType, Const, FaultOf, LeU16, LeU32, MariadbBulkIndicator,
-    MyDeserialize, MySerialize, ParseBuf, RawInt, Seq, StmtBulkExecuteFlags, Unknown, items_len,
-    parts,
+    AnyWidth, Buffer, ColumnFlags, ColumnType, ComStmtBulkExecuteHeader, Const, FaultOf, LeU16,
+    LeU32, MariadbBulkIndicator, MyDeserialize, MySerialize, ParseBuf, RawInt, Seq,
+    StmtBulkExecuteFlags, Unknown, items_len, parts,
 };
 use std::alloc::{AllocError, Global};
 use std::marker::Model;
@@ -236,16 +236,33 @@ impl ComStmtBulkExecuteRequest {
     }
 }
 
+/// Clones the indicators of values. Without values there are none, which takes no memory.
+fn clone_indicators(
+    indicators: &Vec<MariadbBulkIndicator>,
+    values: &[Value],
+) -> Result<Vec<MariadbBulkIndicator>, AllocError>
+    ensures same { IfOk result (λ copy. sent_values copy.items (contents_of values.now) ≡ sent_values indicators.now.items (contents_of values.now)) }
+    ensures no_memory { values.now ≡ [] → IsOk result }
+{
+    if values.is_empty() {
+        return Ok(Vec::new(*indicators.allocator()));
+    }
+    clone_list(indicators)
+}
+
 impl Clone for ComStmtBulkExecuteRequest {
     ghost is_clone = { λ request copy. copy ≡ request };
 
+    ghost is_infallible = { λ request. (request.types ≡ []) × (request.values ≡ []) };
+
+    #[tactic(auto, using(crate::proofs::SentValues::none_sent))]
     fn clone(&self) -> Result<Self, AllocError> {
         Ok(ComStmtBulkExecuteRequest {
             stmt_id: self.stmt_id,
             bulk_flags: self.bulk_flags,
-            types: self.types.clone()?,
-            values: self.values.clone()?,
-            indicators: self.indicators.clone()?,
+            types: clone_list(&self.types)?,
+            values: clone_list(&self.values)?,
+            indicators: clone_indicators(&self.indicators, self.values.as_slice())?,
             size: self.size,
         })
     }

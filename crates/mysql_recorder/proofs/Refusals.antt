@@ -8,13 +8,11 @@ use Rattle.mysql_conversation.specs.declared.packet_kind.Side.{Side}
 use Rattle.mysql_conversation.specs.declared.packet_kind_tag.PacketKindTag.{PacketKindTag}
 use Rattle.mysql_conversation.specs.declared.pipeline.SessionError.{SessionError}
 use Rattle.mysql_conversation.specs.declared.pipeline.SessionError.TheVariants as refusal
-use Rattle.mysql_show.specs.Appended.{Stays}
 use Rattle.mysql_recorder.specs.declared.entry.Layout.{Layout}
 use Rattle.mysql_observer.specs.Observed.{Observed, last_exchange}
 use Rattle.mysql_recorder.specs.Reasons.{IsReason}
-use Rattle.mysql_recorder.specs.Refused.{ShowsRefused, refused_entry, refused_fields}
+use Rattle.mysql_recorder.specs.Refused.{ShowsRefused}
 use Rattle.mysql_recorder.specs.Refusals.{Refuses, IfRefused}
-use Rattle.mysql_recorder.specs.Entries.{entry_text}
 use Rattle.mysql_recorder.specs.declared.error.RecordingError.{RecordingError}
 use Rattle.mysql_recorder.specs.declared.error.RecordingError.TheVariants as error
 use Rattle.mysql_observer.specs.declared.observer.Observer.{Observer}
@@ -46,10 +44,3 @@ module _ (all : List PacketKindTag) (layout : Layout) (old new : Observer) (side
   refused_err (Err error.OutOfOrder) h = λ items f. tt
   refused_err (Err error.TooLong) h = λ items f. tt
   refused_err (Err error.Missing) h = λ items f. tt
-
--- its text is appended to the earlier text
-pub refused_stays : {E : Type 0} (r : Result Taken E) (all : List PacketKindTag) (layout : Layout) (f : Observer) (side : Side) (sequence : ℕ) (payload : List ℕ) (why : SessionError) (before after : List ℕ)
-    → IfOk r (λ taken. (taken ≢ taken_as.Shown) × Refuses all layout f side sequence payload why before after) → IfOk r (λ taken. Stays before after)
-refused_stays (Ok taken) all layout f side sequence payload why before after h =
-    (entry_text layout (refused_entry side sequence (last_exchange f) payload) (refused_fields payload why h.1.0), h.1.2)
-refused_stays (Err e) all layout f side sequence payload why before after h = tt

@@ -150,7 +150,7 @@ impl Packets {
     pub(crate) fn append_sums(&self, out: &mut String) -> Result<(), AllocError>
         ensures none { is_some self.now.sums ≡ false → (result ≡ Ok tt) × (string_bytes out.new ≡ string_bytes out.old) }
         ensures sums { is_some self.now.sums ≡ true → OnOk result (AppendsSomeSums self.now.layout (string_bytes out.old) (string_bytes out.new)) }
-        ensures stays { OnOk result (Stays (string_bytes out.old) (string_bytes out.new)) }
+        ensures stays { Stays (string_bytes out.old) (string_bytes out.new) }
     {
         match &self.sums {
             Some(sums) => sums.append(self.layout, out),
@@ -210,7 +210,7 @@ impl Packets {
     ) -> Result<(), AllocError>
         ensures text { OnOk result (have_float (field.entry ∷ []) ≡ false → string_bytes out.new
             ≡ string_bytes out.old ++ notice_text self.now.layout side (notice_exchange kind.now side (last_exchange self.now.observer)) kind.now (field.entry ∷ [])) }
-        ensures stays { OnOk result (Stays (string_bytes out.old) (string_bytes out.new)) }
+        ensures stays { Stays (string_bytes out.old) (string_bytes out.new) }
     {
         let notice = Notice {
             side,
@@ -246,7 +246,7 @@ impl Packets {
             → IfRefused e (λ why. ShowsRefused PacketKindTag.ALL self.old.layout side sequence payload.now items why (string_bytes out.old) (string_bytes out.new))) }
         // Also of a connection that is resumed:
         ensures reason { IfErr result (λ e. IfRefused e (λ why. IsReason self.old.observer side payload.now why)) }
-        ensures stays { IfOk result (λ taken. Stays (string_bytes out.old) (string_bytes out.new)) }
+        ensures stays { Stays (string_bytes out.old) (string_bytes out.new) }
         ensures layout { self.new.layout ≡ self.old.layout }
         ensures may_wait { limit self.new.observer ≡ limit self.old.observer }
         ensures deciphered { self.new.is_deciphered ≡ self.old.is_deciphered }
@@ -306,6 +306,7 @@ impl Packets {
     ) -> Result<Taken, RecordingError>
         ensures ok { IfOk result (λ taken. (taken ≢ taken_as.Shown) × Refuses PacketKindTag.ALL self.now.layout self.now.observer side sequence payload.now why (string_bytes out.old) (string_bytes out.new)) }
         ensures err { IfErr result (λ e. IfRefused e (λ shown. (shown ≡ why) × Refuses PacketKindTag.ALL self.now.layout self.now.observer side sequence payload.now why (string_bytes out.old) (string_bytes out.new))) }
+        ensures stays { Stays (string_bytes out.old) (string_bytes out.new) }
         ensures no_line { IfErr result (λ e. IfLine e ⊥) }
     {
         let packet = Packet {
@@ -331,6 +332,7 @@ impl Packets {
         out: &mut String,
     ) -> Result<(), AllocError>
         ensures ok { OnOk result (AppendsFields (λ fields. AreFields self.old.observer packet.now.side kind packet.now.payload.now fields) self.old.layout (entry_as packet.now) (string_bytes out.old) (string_bytes out.new)) }
+        ensures stays { Stays (string_bytes out.old) (string_bytes out.new) }
         ensures observer { self.new.observer ≡ self.old.observer }
         ensures deciphered { self.new.is_deciphered ≡ self.old.is_deciphered }
         ensures layout { self.new.layout ≡ self.old.layout }
@@ -353,6 +355,7 @@ impl Packets {
         out: &mut String,
     ) -> Result<(), AllocError>
         ensures ok { OnOk result (AppendsFields (λ fields. AreFields self.now.observer packet.now.side kind packet.now.payload.now fields) self.now.layout (entry_as packet.now) (string_bytes out.old) (string_bytes out.new)) }
+        ensures stays { Stays (string_bytes out.old) (string_bytes out.new) }
     {
         let mut fields = Vec::new(self.alloc);
         append_fields(
@@ -374,6 +377,7 @@ impl Packets {
         out: &mut String,
     ) -> Result<(), AllocError>
         ensures ok { OnOk result (AppendsRefused PacketKindTag.ALL self.now.layout self.now.observer (entry_as packet.now) why (string_bytes out.old) (string_bytes out.new)) }
+        ensures stays { Stays (string_bytes out.old) (string_bytes out.new) }
     {
         let payload = packet.payload;
         let mut fields = Vec::new(self.alloc);

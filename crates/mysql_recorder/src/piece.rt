@@ -45,7 +45,7 @@ pub(crate) fn read_packets(
         → IfRefused e (λ why. StopsIn PacketKindTag.ALL packets.old.layout side (stream.old.reader.held ++ piece.now) items why (string_bytes out.old) (string_bytes out.new))) }
     ensures loses { IfOk result (λ came. came ≢ came_as.Whole → (items : List Item) → spec.IsAt stream.old packets.old items
         → LosesIn PacketKindTag.ALL packets.old.layout stream.old.reader.limit side (stream.old.reader.held ++ piece.now) items (string_bytes out.old) (string_bytes out.new)) }
-    ensures stays { IfOk result (λ came. Stays (string_bytes out.old) (string_bytes out.new)) }
+    ensures stays { Stays (string_bytes out.old) (string_bytes out.new) }
     ensures none { IfOk result (λ came. came ≡ came_as.Whole → IsNumbered stream.old.reader → NoneComes stream.new.reader.held) }
     ensures passed { stream.new.passed ≡ stream.old.passed }
     ensures layout { packets.new.layout ≡ packets.old.layout }

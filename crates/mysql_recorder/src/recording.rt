@@ -119,7 +119,7 @@ impl Recording {
     pub fn append_sums(&self, out: &mut String) -> Result<(), AllocError>
         ensures none { spec.has_sums self.now ≡ false → (result ≡ Ok tt) × (string_bytes out.new ≡ string_bytes out.old) }
         ensures sums { spec.has_sums self.now ≡ true → OnOk result (AppendsSomeSums (spec.layout self.now) (string_bytes out.old) (string_bytes out.new)) }
-        ensures stays { OnOk result (Stays (string_bytes out.old) (string_bytes out.new)) }
+        ensures stays { Stays (string_bytes out.old) (string_bytes out.new) }
     {
         self.sides.append_sums(out)
     }
@@ -155,7 +155,7 @@ impl Recording {
         ensures sums { spec.has_sums self.new ≡ spec.has_sums self.old }
         ensures refused { IfErr result (λ e. Stops PacketKindTag.ALL input.now self.old self.new e (string_bytes out.old) (string_bytes out.new)) }
         ensures loses { Loses result PacketKindTag.ALL input.now self.old self.new (string_bytes out.old) (string_bytes out.new) }
-        ensures text { OnOk result (Stays (string_bytes out.old) (string_bytes out.new)) }
+        ensures text { Stays (string_bytes out.old) (string_bytes out.new) }
         // The error is `Line` only where a line of the input is none of a recording's, and then it is an error.
         ensures place { OnOk result (place_after (spec.place self.old) input.now ≡ Some (spec.place self.new)) }
         ensures line { IfErr result (λ e. IfLine e (place_after (spec.place self.old) input.now ≡ None)) }
@@ -173,7 +173,7 @@ impl Recording {
         ensures settings { spec.KeepsSettings self.old self.new }
         ensures refused { IfErr result (λ e. TextStops PacketKindTag.ALL self.old e (string_bytes out.old) (string_bytes out.new)) }
         ensures loses { TextLoses result PacketKindTag.ALL ⊥ self.old self.new (string_bytes out.old) (string_bytes out.new) }
-        ensures text { OnOk result (Stays (string_bytes out.old) (string_bytes out.new)) }
+        ensures text { Stays (string_bytes out.old) (string_bytes out.new) }
         ensures no_line { IfErr result (λ e. IfLine e ⊥) }
         ensures place { self.new.place ≡ self.old.place }
     {
@@ -191,7 +191,7 @@ impl Recording {
         ensures settings { spec.KeepsSettings self.old self.new }
         ensures refused { IfErr result (λ e. TextStops PacketKindTag.ALL self.old e (string_bytes out.old) (string_bytes out.new)) }
         ensures loses { TextLoses result PacketKindTag.ALL (byte ≡ 10) self.old self.new (string_bytes out.old) (string_bytes out.new) }
-        ensures text { OnOk result (Stays (string_bytes out.old) (string_bytes out.new)) }
+        ensures text { Stays (string_bytes out.old) (string_bytes out.new) }
         ensures place { OnOk result (next_place self.old.place byte ≡ Some self.new.place) }
         ensures line { IfErr result (λ e. IfLine e (next_place self.old.place byte ≡ None)) }
     {
@@ -217,7 +217,7 @@ impl Recording {
         ensures sums { spec.has_sums self.new ≡ spec.has_sums self.old }
         ensures refused { IfErr result (λ e. TextStops PacketKindTag.ALL self.old e (string_bytes out.old) (string_bytes out.new)) }
         ensures loses { TextLoses result PacketKindTag.ALL (Unit {0}) self.old self.new (string_bytes out.old) (string_bytes out.new) }
-        ensures text { OnOk result (Stays (string_bytes out.old) (string_bytes out.new)) }
+        ensures text { Stays (string_bytes out.old) (string_bytes out.new) }
         ensures no_line { IfErr result (λ e. IfLine e ⊥) }
     {
         self.end_line(out)?;
@@ -241,7 +241,7 @@ impl Recording {
         ensures line { OnOk result (self.new.line.bytes.items ≡ []) }
         ensures refused { IfErr result (λ e. LineStops PacketKindTag.ALL self.old e (string_bytes out.old) (string_bytes out.new)) }
         ensures loses { LineEndLoses result PacketKindTag.ALL self.old self.new (string_bytes out.old) (string_bytes out.new) }
-        ensures text { OnOk result (Stays (string_bytes out.old) (string_bytes out.new)) }
+        ensures text { Stays (string_bytes out.old) (string_bytes out.new) }
         ensures untaken { self.new.line.is_untaken ≡ true }
         ensures no_line { IfErr result (λ e. IfLine e ⊥) }
     {
@@ -259,7 +259,7 @@ impl Recording {
         ensures line { OnOk result (self.new.line.bytes.items ≡ []) }
         ensures refused { IfErr result (λ e. LineStops PacketKindTag.ALL self.old e (string_bytes out.old) (string_bytes out.new)) }
         ensures loses { LineEndLoses result PacketKindTag.ALL self.old self.new (string_bytes out.old) (string_bytes out.new) }
-        ensures text { OnOk result (Stays (string_bytes out.old) (string_bytes out.new)) }
+        ensures text { Stays (string_bytes out.old) (string_bytes out.new) }
         ensures no_line { IfErr result (λ e. IfLine e ⊥) }
     {
         let missing = missing_of(self.line.bytes.as_slice());
@@ -277,7 +277,7 @@ impl Recording {
         ensures line { OnOk result (self.new.line.bytes.items ≡ []) }
         ensures stays { spec.has_lost self.old ≡ true → spec.has_lost self.new ≡ true }
         ensures refused { IfErr result (λ e. IfRefused e (λ why. ⊥)) }
-        ensures text { OnOk result (Stays (string_bytes out.old) (string_bytes out.new)) }
+        ensures text { Stays (string_bytes out.old) (string_bytes out.new) }
         ensures no_line { IfErr result (λ e. IfLine e ⊥) }
     {
         self.sides.lose(self.line.side, Loss::Missing(count), out)?;
@@ -294,7 +294,7 @@ impl Recording {
         ensures line { OnOk result (self.new.line.bytes.items ≡ []) }
         ensures refused { IfErr result (λ e. LineStops PacketKindTag.ALL self.old e (string_bytes out.old) (string_bytes out.new)) }
         ensures loses { LineLoses result PacketKindTag.ALL self.old self.new (string_bytes out.old) (string_bytes out.new) }
-        ensures text { OnOk result (Stays (string_bytes out.old) (string_bytes out.new)) }
+        ensures text { Stays (string_bytes out.old) (string_bytes out.new) }
         ensures taken { self.new.line.is_untaken ≡ false }
         ensures no_line { IfErr result (λ e. IfLine e ⊥) }
     {

@@ -99,7 +99,7 @@ impl Sides {
     pub(crate) fn append_sums(&self, out: &mut String) -> Result<(), AllocError>
         ensures none { spec.has_sums self.now ≡ false → (result ≡ Ok tt) × (string_bytes out.new ≡ string_bytes out.old) }
         ensures sums { spec.has_sums self.now ≡ true → OnOk result (AppendsSomeSums (spec.layout self.now) (string_bytes out.old) (string_bytes out.new)) }
-        ensures stays { OnOk result (Stays (string_bytes out.old) (string_bytes out.new)) }
+        ensures stays { Stays (string_bytes out.old) (string_bytes out.new) }
     {
         self.packets.append_sums(out)
     }
@@ -148,7 +148,7 @@ impl Sides {
         ensures lost { spec.has_lost self.old ≡ true → spec.has_lost self.new ≡ true }
         ensures settings { spec.KeepsSettings self.old self.new }
         ensures loses { PieceLoses result PacketKindTag.ALL side piece.now self.old self.new (string_bytes out.old) (string_bytes out.new) }
-        ensures text { OnOk result (Stays (string_bytes out.old) (string_bytes out.new)) }
+        ensures text { Stays (string_bytes out.old) (string_bytes out.new) }
         ensures no_line { IfErr result (λ e. IfLine e ⊥) }
     {
         if is_beginning && self.passed(side).is_some() {
@@ -168,7 +168,7 @@ impl Sides {
         ensures goes { OnOk result (spec.GoesOn (spec.piece side piece.now ∷ []) self.old self.new (string_bytes out.old) (string_bytes out.new)) }
         ensures lost { spec.has_lost self.old ≡ true → spec.has_lost self.new ≡ true }
         ensures settings { spec.KeepsSettings self.old self.new }
-        ensures text { OnOk result (Stays (string_bytes out.old) (string_bytes out.new)) }
+        ensures text { Stays (string_bytes out.old) (string_bytes out.new) }
         ensures no_line { IfErr result (λ e. IfLine e ⊥) }
     {
         self.take_up(side, piece, out)?;
@@ -182,7 +182,7 @@ impl Sides {
         ensures goes { OnOk result (spec.GoesOn [] self.old self.new (string_bytes out.old) (string_bytes out.new)) }
         ensures lost { spec.has_lost self.old ≡ true → spec.has_lost self.new ≡ true }
         ensures settings { spec.KeepsSettings self.old self.new }
-        ensures text { OnOk result (Stays (string_bytes out.old) (string_bytes out.new)) }
+        ensures text { Stays (string_bytes out.old) (string_bytes out.new) }
         ensures no_line { IfErr result (λ e. IfLine e ⊥) }
     {
         let Some(passed) = self.passed(side) else {
@@ -235,7 +235,7 @@ impl Sides {
     pub(crate) fn say_unheard(&self, out: &mut String) -> Result<(), AllocError>
         ensures left { OnOk result (steps.SaysLeft self.now (string_bytes out.old) (string_bytes out.new)) }
         ensures none { OnOk result (spec.SaysNothing self.now (string_bytes out.old) (string_bytes out.new)) }
-        ensures stays { OnOk result (Stays (string_bytes out.old) (string_bytes out.new)) }
+        ensures stays { Stays (string_bytes out.old) (string_bytes out.new) }
     {
         self.say_left(Side::Client, out)?;
         self.say_left(Side::Server, out)
@@ -245,7 +245,7 @@ impl Sides {
     fn say_left(&self, side: Side, out: &mut String) -> Result<(), AllocError>
         ensures text { OnOk result (string_bytes out.new ≡ string_bytes out.old ++ steps.left_text side self.now) }
         ensures none { OnOk result (spec.passed_of side self.now ≡ None → string_bytes out.new ≡ string_bytes out.old) }
-        ensures stays { OnOk result (Stays (string_bytes out.old) (string_bytes out.new)) }
+        ensures stays { Stays (string_bytes out.old) (string_bytes out.new) }
     {
         match self.passed(side) {
             Some(passed) if self.has_lost || passed > 0 => {
@@ -264,7 +264,7 @@ impl Sides {
         out: &mut String,
     ) -> Result<(), AllocError>
         ensures text { OnOk result (string_bytes out.new ≡ string_bytes out.old ++ steps.passed_text self.now kind.now side passed) }
-        ensures stays { OnOk result (Stays (string_bytes out.old) (string_bytes out.new)) }
+        ensures stays { Stays (string_bytes out.old) (string_bytes out.new) }
     {
         let field = Field::number("skipped_bytes", passed);
         self.packets.append_notice(kind, side, field, out)
@@ -282,7 +282,7 @@ impl Sides {
         ensures stays { spec.has_lost self.old ≡ true → spec.has_lost self.new ≡ true }
         ensures refused { IfErr result (λ e. IfRefused e (λ why. ⊥)) }
         ensures settings { spec.KeepsSettings self.old self.new }
-        ensures text { OnOk result (Stays (string_bytes out.old) (string_bytes out.new)) }
+        ensures text { Stays (string_bytes out.old) (string_bytes out.new) }
         ensures no_line { IfErr result (λ e. IfLine e ⊥) }
     {
         let Some(agreed) = self.packets.agreed() else {
@@ -336,7 +336,7 @@ impl Sides {
         ensures lost { spec.has_lost self.old ≡ true → spec.has_lost self.new ≡ true }
         ensures settings { spec.KeepsSettings self.old self.new }
         ensures loses { PieceLoses result PacketKindTag.ALL side piece.now self.old self.new (string_bytes out.old) (string_bytes out.new) }
-        ensures text { OnOk result (Stays (string_bytes out.old) (string_bytes out.new)) }
+        ensures text { Stays (string_bytes out.old) (string_bytes out.new) }
         ensures no_line { IfErr result (λ e. IfLine e ⊥) }
     {
         if self.passed(side).is_some() {
@@ -363,7 +363,7 @@ impl Sides {
         ensures stays { spec.has_lost self.old ≡ true → spec.has_lost self.new ≡ true }
         ensures settings { spec.KeepsSettings self.old self.new }
         ensures refused { IfErr result (λ e. IfRefused e (λ why. ⊥)) }
-        ensures text { OnOk result (Stays (string_bytes out.old) (string_bytes out.new)) }
+        ensures text { Stays (string_bytes out.old) (string_bytes out.new) }
         ensures no_line { IfErr result (λ e. IfLine e ⊥) }
     {
         self.await_answer(side, first);
@@ -395,7 +395,7 @@ impl Sides {
         ensures lost { spec.has_lost self.new ≡ spec.has_lost self.old }
         ensures settings { spec.KeepsSettings self.old self.new }
         ensures loses { IfOk result (λ came. came ≢ came_as.Whole → PieceLosesIn PacketKindTag.ALL side piece.now self.old (string_bytes out.old) (string_bytes out.new)) }
-        ensures stays { IfOk result (λ came. Stays (string_bytes out.old) (string_bytes out.new)) }
+        ensures stays { Stays (string_bytes out.old) (string_bytes out.new) }
         ensures no_line { IfErr result (λ e. IfLine e ⊥) }
     {
         match side {

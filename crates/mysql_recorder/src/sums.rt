@@ -1,13 +1,15 @@
 //! The sums over a recording.
 
-ghost use Rattle.std.specs.Prelude.{◌≡◌, ◌++◌, List, ℕ, OnOk, codes, string_bytes};
+ghost use Rattle.std.specs.Prelude.{◌≡◌, IfOk, OnOk, string_bytes};
+ghost use Rattle.serde_json.specs.View.{view};
 ghost use Rattle.mysql_show.specs.Appended.{Stays};
 ghost use Rattle.mysql_recorder.specs.Entries.{Begins};
-ghost use Rattle.mysql_recorder.specs.Sums.{AppendsSums, count_line};
+ghost use Rattle.mysql_recorder.specs.Sums.{AppendsSums, OtherSums, count_line, sum_data};
+ghost use Rattle.mysql_recorder.specs.declared.entry.Layout.TheVariants as layout_as;
 
 use crate::entry::{Layout, Packet, name_of_side};
 use crate::sum_lines::{
-    append_error, append_exchange, append_large, append_rows, append_statement, append_tally,
+    error_line, exchange_line, large_line, rows_line, statement_line, tally_line,
 };
 use mysql_conversation::{PacketKind, Side};
 use mysql_show::command_name;
@@ -167,7 +169,8 @@ impl Sums {
 
     /// Appends the sums.
     pub(crate) fn append(&self, layout: Layout, out: &mut String) -> Result<(), AllocError>
-        ensures { OnOk result (AppendsSums layout self.now.packets (string_bytes out.old) (string_bytes out.new)) }
+        ensures sums { OnOk result (AppendsSums layout self.now.packets (string_bytes out.old) (string_bytes out.new)) }
+        ensures stays { Stays (string_bytes out.old) (string_bytes out.new) }
     {
         match layout {
             Layout::Lines => self.append_lines(out),
@@ -176,87 +179,102 @@ impl Sums {
     }
 
     fn append_object(&self, out: &mut String) -> Result<(), AllocError>
-        ensures { OnOk result ((object : List ℕ) × (string_bytes out.new ≡ string_bytes out.old ++ (object ++ codes "\n"))) }
+        ensures object { OnOk result (AppendsSums layout_as.Json self.now.packets (string_bytes out.old) (string_bytes out.new)) }
+        ensures stays { Stays (string_bytes out.old) (string_bytes out.new) }
     {
-        let text = self.object()?.to_string(self.alloc)?;
-        write!(out, "{text}\n")
+        let object = self.object()?;
+        let text = object.to_string(self.alloc)?;
+        out.push_str(text.as_str())?;
+        out.push_str("\n")
     }
 
     fn append_lines(&self, out: &mut String) -> Result<(), AllocError>
-        ensures { OnOk result (Begins (count_line self.now.packets) (string_bytes out.old) (string_bytes out.new)) }
+        ensures begins { OnOk result (Begins (count_line self.now.packets) (string_bytes out.old) (string_bytes out.new)) }
+        ensures stays { Stays (string_bytes out.old) (string_bytes out.new) }
     {
         let packets = self.packets;
-        write!(out, "sum: {packets} packets\n")?;
+        let line = format!(in self.alloc; "sum: {packets} packets\n")?;
+        out.push_str(line.as_str())?;
         self.append_counts(out)
     }
 
     /// Appends the counts of packets, exchanges and errors.
     fn append_counts(&self, out: &mut String) -> Result<(), AllocError>
-        ensures { OnOk result (Stays (string_bytes out.old) (string_bytes out.new)) }
+        ensures { Stays (string_bytes out.old) (string_bytes out.new) }
     {
         self.append_exchanges(out)?;
         self.append_tallies(out)?;
-        append_rows(out, self.rows)?;
+        self.append_rows(out)?;
         self.append_errors(out)?;
         self.append_largest(out)?;
         self.append_open(out)
     }
 
+    fn append_rows(&self, out: &mut String) -> Result<(), AllocError>
+        ensures { Stays (string_bytes out.old) (string_bytes out.new) }
+    {
+        let line = rows_line(self.alloc, self.rows)?;
+        out.push_str(line.as_str())
+    }
+
     fn append_exchanges(&self, out: &mut String) -> Result<(), AllocError>
-        ensures { OnOk result (Stays (string_bytes out.old) (string_bytes out.new)) }
+        ensures { Stays (string_bytes out.old) (string_bytes out.new) }
     {
         for (code, count) in self.exchanges.iter() {
-            append_exchange(out, *code, *count)?;
+            let line = exchange_line(self.alloc, *code, *count)?;
+            out.push_str(line.as_str())?;
         }
         Ok(())
     }
 
     fn append_tallies(&self, out: &mut String) -> Result<(), AllocError>
-        ensures { OnOk result (Stays (string_bytes out.old) (string_bytes out.new)) }
+        ensures { Stays (string_bytes out.old) (string_bytes out.new) }
     {
         for tally in self.tallies.iter() {
-            append_tally(out, tally)?;
+            let line = tally_line(self.alloc, tally)?;
+            out.push_str(line.as_str())?;
         }
         Ok(())
     }
 
     fn append_errors(&self, out: &mut String) -> Result<(), AllocError>
-        ensures { OnOk result (Stays (string_bytes out.old) (string_bytes out.new)) }
+        ensures { Stays (string_bytes out.old) (string_bytes out.new) }
     {
         for (code, count) in self.errors.iter() {
-            append_error(out, *code, *count)?;
+            let line = error_line(self.alloc, *code, *count)?;
+            out.push_str(line.as_str())?;
         }
         Ok(())
     }
 
     fn append_largest(&self, out: &mut String) -> Result<(), AllocError>
-        ensures { OnOk result (Stays (string_bytes out.old) (string_bytes out.new)) }
+        ensures { Stays (string_bytes out.old) (string_bytes out.new) }
     {
         for large in self.largest.iter() {
-            append_large(out, large)?;
+            let line = large_line(self.alloc, large)?;
+            out.push_str(line.as_str())?;
         }
         Ok(())
     }
 
     fn append_open(&self, out: &mut String) -> Result<(), AllocError>
-        ensures { OnOk result (Stays (string_bytes out.old) (string_bytes out.new)) }
+        ensures { Stays (string_bytes out.old) (string_bytes out.new) }
     {
         for (id, number) in self.open.iter() {
-            append_statement(out, *id, *number)?;
+            let line = statement_line(self.alloc, *id, *number)?;
+            out.push_str(line.as_str())?;
         }
         Ok(())
     }
 
     /// Returns the sums as an object.
-    fn object(&self) -> Result<Value, AllocError> {
+    fn object(&self) -> Result<Value, AllocError>
+        ensures { IfOk result (λ sum. (others : OtherSums) × (view sum ≡ sum_data self.now.packets others)) }
+    {
         let alloc = self.alloc;
         let mut object = Map::new(alloc);
-        put(
-            &mut object,
-            alloc,
-            "kind",
-            Value::String(String::from_str(alloc, "sum")?),
-        )?;
+        let kind = String::from_str(alloc, "sum")?;
+        put(&mut object, alloc, "kind", Value::String(kind))?;
         put(&mut object, alloc, "packets", Value::from(self.packets))?;
         put(&mut object, alloc, "rows", Value::from(self.rows))?;
         put(&mut object, alloc, "exchanges", self.exchanges_value()?)?;

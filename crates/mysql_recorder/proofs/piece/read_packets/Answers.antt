@@ -39,7 +39,7 @@ packets-preserved c = record {
   may_wait = c.take-taken.ensures.may_wait ∙ c.packets.invariant.may_wait;
   deciphered = c.take-taken.ensures.deciphered ∙ c.packets.invariant.deciphered;
   sums = c.take-taken.ensures.sums ∙ c.packets.invariant.sums;
-  stays = stays_then (string_bytes c.args.out.now) (string_bytes c.packets.out) (string_bytes c.take-taken.new.out) c.packets.invariant.stays (rw c.in-Ok-Shown.is at c.take-taken.ensures.stays);
+  stays = stays_then (string_bytes c.args.out.now) (string_bytes c.packets.out) (string_bytes c.take-taken.new.out) c.packets.invariant.stays c.take-taken.ensures.stays;
   numbered = λ n. subst (λ s. IsNumbered s.reader) (sym c.recycle.ensures)
       (handed_numbered c.packets.stream.reader c.next.new.self.reader c.packets.input.now (cow_slice_items c.in-Ok-Some.sent.payload) c.next.new.input.now (rw c.in-Ok-Some.field-0-is at c.in-Ok-Some.ensures.payload));
   reads = λ items h.

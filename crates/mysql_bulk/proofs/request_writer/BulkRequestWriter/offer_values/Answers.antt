@@ -1,4 +1,4 @@
-use Rattle.std.proofs.Common.{map, refl, inl}
+use Rattle.std.proofs.Common.{map, refl, ap, inl, Err}
 use Rattle.mysql_bulk.specs.declared.error.BulkRowError.TheVariants.{TooLarge}
 use Rattle.mysql_bulk.specs.BulkValue.{cell_of}
 use Rattle.mysql_bulk.specs.ValuesRun.{Offered, OfferRefused, bytes_of}
@@ -6,7 +6,7 @@ use Rattle.mysql_bulk.proofs.ValuesRun.{again_kept, again_refused, again_taken, 
 use Rattle.mysql_bulk.proofs.request_writer.BulkRequestWriter.offer_values.Goals as goal
 
 pub returns-in-Err-clause-refused : goal.returns-in-Err-clause-refused
-returns-in-Err-clause-refused c = inl (c.in-Err.ensures.adds, refl)
+returns-in-Err-clause-refused c = inl (c.in-Err.ensures.adds, refl, λ e has. c.in-Err.ensures.no_memory has (ap Err e))
 
 pub returns-in-Ok-add_row_values-clause-ok : goal.returns-in-Ok-add_row_values-clause-ok
 returns-in-Ok-add_row_values-clause-ok c =
@@ -34,3 +34,4 @@ returns-in-Err-add_row_values-clause-refused c =
     let row = map cell_of c.args.row.now in
     again_refused u c.add_row_values.new.self c.send_request.new.self c.add_row_values-2.new.self row c.in-Ok.is_taken (bytes_of c.args.requests.now.items) (bytes_of c.send_request.new.requests.items) c.in-Err-add_row_values.refusal
     c.in-Ok.ensures.adds c.if-is_taken.false (c.in-Ok.ensures.waits c.if-is_taken.false) c.in-Ok-send_request.ensures.lets_go c.in-Ok-send_request.ensures.sent c.in-Err-add_row_values.ensures.adds
+    (λ e has. c.in-Err-add_row_values.ensures.no_memory has (ap Err e))

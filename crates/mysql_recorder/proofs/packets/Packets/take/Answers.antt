@@ -10,9 +10,8 @@ use Rattle.mysql_recorder.specs.Refusals.{IfRefused}
 use Rattle.mysql_recorder.specs.RecordFields.{AreFields}
 use Rattle.mysql_recorder.specs.Shown.{AppendsFields, AreFieldsOf, item}
 use Rattle.mysql_recorder.specs.declared.packets.Taken.TheVariants as taken_as
-use Rattle.mysql_recorder.proofs.Refusals.{refused_ok, refused_err, refused_stays}
+use Rattle.mysql_recorder.proofs.Refusals.{refused_ok, refused_err}
 use Rattle.mysql_recorder.proofs.Refused.{appends_as}
-use Rattle.mysql_recorder.proofs.Stays.{appended_stays}
 use Rattle.mysql_recorder.proofs.packets.Packets.take.Goals as goal
 
 pub returns-in_ok-show-in-Ok-clause-shown : goal.returns-in_ok-show-in-Ok-clause-shown
@@ -44,11 +43,3 @@ returns-in-Err-clause-refused c =
     → IfRefused e (λ reason. ShowsRefused ALL l c.args.side c.args.sequence c.args.payload.now items reason (string_bytes c.args.out.now) (string_bytes c.refuse.new.out)))) c.next.ensures.layout
     (refused_err ALL c.next.new.self.layout c.args.self.now.observer c.next.new.self.observer c.args.side c.args.sequence c.args.payload.now c.in-Err.why (string_bytes c.args.out.now) (string_bytes c.refuse.new.out)
     c.in-Err.ensures.err (λ items kind number. c.in-Err.ensures.refused items kind number) c.in-Err.ensures.reason c.refuse.result c.refuse.ensures.err)
-
-pub returns-in_ok-show-in-Ok-clause-stays : goal.returns-in_ok-show-in-Ok-clause-stays
-returns-in_ok-show-in-Ok-clause-stays c =
-    appended_stays (λ fields. AreFields c.next.new.self.observer c.args.side c.in-Ok.seen.kind c.args.payload.now fields) c.next.new.self.layout _ (string_bytes c.args.out.now) (string_bytes c.show.new.out) c.in_ok-show-in-Ok.ensures.ok
-
-pub returns-in-Err-clause-stays : goal.returns-in-Err-clause-stays
-returns-in-Err-clause-stays c =
-    refused_stays c.refuse.result ALL c.next.new.self.layout c.next.new.self.observer c.args.side c.args.sequence c.args.payload.now c.in-Err.why (string_bytes c.args.out.now) (string_bytes c.refuse.new.out) c.refuse.ensures.ok

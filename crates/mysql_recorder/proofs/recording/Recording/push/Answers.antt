@@ -9,7 +9,7 @@ use Rattle.mysql_recorder.specs.Lines.{next_place, place_after}
 use Rattle.mysql_recorder.specs.Refusals.{IfLine}
 use Rattle.mysql_recorder.proofs.Lines.{if_line, on_ok_of, place_more, place_stops}
 use Rattle.mysql_recorder.proofs.Losses.{byte_loses, loop_loses, loses_none, rest_loses}
-use Rattle.mysql_recorder.proofs.Stays.{on_ok_then, stays_same, stays_then}
+use Rattle.mysql_recorder.proofs.Stays.{stays_same, stays_then}
 use Rattle.mysql_recorder.proofs.Stopped.{stops_after, stops_on_err}
 use Rattle.mysql_recorder.proofs.recording.Recording.push.Goals as goal
 
@@ -62,11 +62,11 @@ returns-clause-loses c =
     rest_loses c.take_rest.result ALL c.args.input.now c.loop-byte.byte-index c.args.self.now c.loop-byte.self c.take_rest.new.self
     (string_bytes c.args.out.now) (string_bytes c.loop-byte.out) (string_bytes c.take_rest.new.out)
     (take_all c.loop-byte.byte-index c.args.input.now c.loop-byte-test.false)
-    c.loop-byte.invariant.goes c.loop-byte.invariant.loses c.loop-byte.invariant.layout c.loop-byte.invariant.longest c.take_rest.ensures.loses c.take_rest.ensures.text
+    c.loop-byte.invariant.goes c.loop-byte.invariant.loses c.loop-byte.invariant.layout c.loop-byte.invariant.longest c.take_rest.ensures.loses (on_ok_of c.take_rest.result _ c.take_rest.ensures.text)
 
 pub returns-clause-text : goal.returns-clause-text
 returns-clause-text c =
-    on_ok_then c.take_rest.result (string_bytes c.args.out.now) (string_bytes c.loop-byte.out) (string_bytes c.take_rest.new.out) c.loop-byte.invariant.text c.take_rest.ensures.text
+    stays_then (string_bytes c.args.out.now) (string_bytes c.loop-byte.out) (string_bytes c.take_rest.new.out) c.loop-byte.invariant.text c.take_rest.ensures.text
 
 pub returns-in_err-take_byte-clause-loses : goal.returns-in_err-take_byte-clause-loses
 returns-in_err-take_byte-clause-loses c =
