@@ -1,5 +1,6 @@
 -- The bytes written for the caller's values.
-use Rattle.std.proofs.Common.{if◌then◌else◌, ◌≡◌, ◌<◌, ◌≤◌, ◌-◌, ◌^◌, ◌++◌, ◌∷◌, ℕ, List, [], Bool, true, false, ◌&&◌, IsTrue, length, drop, refl, sym, subst, ap, ◌∙◌, arith}
+use Rattle.std.proofs.Common.{if◌then◌else◌, ◌≡◌, ◌<◌, ◌≤◌, ◌-◌, ◌^◌, ◌++◌, ◌∷◌, ℕ, List, [], Bool, true, false, ◌&&◌, IsTrue, length, drop, nat_lt, refl, sym, subst, ap, ◌∙◌, arith}
+use Rattle.std.proofs.lemmas.Bool.{ltb-false, ltb-true}
 use Rattle.std.specs.List.{flat_map, list_all}
 use Rattle.std.proofs.lemmas.List.Folds.{flat_map-map}
 use Rattle.mysql_stmt.specs.ExecuteParam.{Sent, contents, value_of}
@@ -8,7 +9,7 @@ use Rattle.mysql_wire.specs.Writing.{saturated}
 use Rattle.mysql_values.specs.ParamValue.{Plain, WithOffset}
 use Rattle.mysql_values.specs.Value.{Content, NULL}
 use Rattle.mysql_packets_c.specs.Execution.{param}
-use Rattle.mysql_packets_c.specs.Output.{PutsSuch, PutsSuchUnlessTooLong}
+use Rattle.mysql_packets_c.specs.Output.{PutsSuch, PutsSuchUnlessTooLong, PutsUnlessTooLong}
 use Rattle.mysql_packets_c.specs.Rows.{cell_of, cells_of}
 use Rattle.mysql_packets_c.specs.Value.{date_with_offset_of, is_offset_date, is_value, value_content, values_contents}
 use Rattle.mysql_packets_c.specs.declared.value.CValue.{CValue}
@@ -66,3 +67,41 @@ answered-unless Such count len code old new written is below put kept fits small
       let past : length old < len = omega (arith, top, below) in
       ((long top).0, kept past, (long top).1);
 }
+
+-- bytes whose number saturates at 2^64 - 1
+pub puts-counted : (bytes : List ℕ) (len code : ℕ) (old new : List ℕ) (written : ℕ)
+    → len ≡ saturated (length bytes)
+    → length old < 2 ^ 63
+    → (len ≤ length old → new ≡ bytes ++ drop len old)
+    → (length old < len → new ≡ old)
+    → (len < 2 ^ 64 - 1 → len ≤ length old → code ≡ 0)
+    → (len < 2 ^ 64 - 1 → length old < len → code ≡ 5)
+    → (len < 2 ^ 64 - 1 → written ≡ len)
+    → (len ≡ 2 ^ 64 - 1 → (code ≡ 4) × (written ≡ 0))
+    → PutsUnlessTooLong bytes code old new written
+unfolding saturated
+puts-counted bytes len code old new written is below put kept fits small counted long = pick (nat_lt len (2 ^ 64 - 1)) refl
+  where
+    no-four : len < 2 ^ 64 - 1 → code ≡ 4 → (b : Bool) → nat_lt (length old) len ≡ b → ⊥
+    no-four few four true e = let five = small few (ltb-true (length old) len e) in omega (arith, five, four)
+    no-four few four false e = let zero = fits few (ltb-false (length old) len e) in omega (arith, zero, four)
+
+    pick : (b : Bool) → nat_lt len (2 ^ 64 - 1) ≡ b → PutsUnlessTooLong bytes code old new written
+    pick true e =
+        let few : len < 2 ^ 64 - 1 = ltb-true len (2 ^ 64 - 1) e in
+        let whole : len ≡ length bytes = omega (arith, is, few) in
+        record {
+          puts = λ other. record {
+            fits = λ h. let n : len ≤ length old = omega (arith, whole, h) in (fits few n, put n ∙ ap (λ (k : ℕ). bytes ++ drop k old) whole);
+            small = λ h. let n : length old < len = omega (arith, whole, h) in (small few n, kept n);
+            count = counted few ∙ whole;
+          };
+          long = λ four. absurd (no-four few four (nat_lt (length old) len) refl);
+        }
+    pick false e =
+        let top : len ≡ 2 ^ 64 - 1 = omega (arith, is, ltb-false len (2 ^ 64 - 1) e) in
+        let past : length old < len = omega (arith, top, below) in
+        record {
+          puts = λ other. absurd (other (long top).0);
+          long = λ four. record { long = omega (arith, is, top); buffer = kept past; none = (long top).1 };
+        }

@@ -1,16 +1,16 @@
 //! Writes binary rows: each value is visited once to compute its length, and once to write it.
 #![tactic(auto, using(crate::proofs::BinaryRows::binary_rows))]
 
-ghost use Rattle.std.specs.Prelude.{◌≡◌, ◌≢◌, ◌+◌, ◌*◌, ◌++◌, ◌<◌, ◌≤◌, ◌^◌, ℕ, MatchOption, drop, false, length, replicate, true};
+ghost use Rattle.std.specs.Prelude.{◌≡◌, ◌≢◌, ◌+◌, ◌*◌, ◌++◌, ◌<◌, ◌≤◌, ◌^◌, ℕ, IsTrue, MatchOption, drop, false, length, replicate, true};
 ghost use Rattle.mysql_wire.specs.Writing.{saturated};
 ghost use Rattle.mysql_stmt.specs.BinaryRow.{IsRowBytes, bin_in, takes, values_bytes};
 ghost use Rattle.mysql_stmt.specs.BinaryRow as row;
 ghost use Rattle.mysql_stmt.specs.Bitmap.{bytes_for, cell};
 ghost use Rattle.mysql_stmt.specs.ExecuteParam.{contents, value_of};
 ghost use Rattle.mysql_stmt.specs.NullMarks.{MarksNulls, is_null};
-ghost use Rattle.mysql_values.specs.Value.{Bytes, Int};
+ghost use Rattle.mysql_values.specs.Value.{Bytes};
 ghost use Rattle.mysql_values.specs.ValueRef.{ref_content};
-ghost use Rattle.mysql_packets_c.specs.BinaryRow.{cell_in, takes_value};
+ghost use Rattle.mysql_packets_c.specs.BinaryRow.{cell_in, has_null, takes_value};
 ghost use Rattle.mysql_packets_c.specs.ColumnType.{type_of, unsigned_of};
 ghost use Rattle.mysql_packets_c.specs.Execution.{param};
 ghost use Rattle.mysql_packets_c.specs.Rows as spec;
@@ -20,7 +20,7 @@ use crate::rows::CColumnType;
 use crate::value::{CValue, to_ref};
 use mysql_stmt::{AsExecuteParam, NullBitmap, TypedColumn};
 use mysql_values::{ServerSide, ValueRef};
-use mysql_wire::{Buffer, BytesRepr, ColumnType, LenEnc, MySerialize};
+use mysql_wire::{Buffer, BytesRepr, ColumnType, LenEnc, MySerialize, SliceWriter};
 
 /// The length of a value in a column of the type, or `usize::MAX` if it is greater; `None` if it doesn't fit.
 #[inline(always)]
@@ -33,15 +33,32 @@ fn taken_len(column_type: ColumnType, is_unsigned: bool, value: ValueRef<'_>) ->
     Some(value.cell_len(column_type))
 }
 
-/// The length of an integer.
-#[inline(always)]
-fn integer_len(column_type: ColumnType, is_unsigned: bool, n: i64) -> Option<usize>
-    ensures { MatchOption result (takes column_type is_unsigned (Int n) ≡ false) (λ size. (takes column_type is_unsigned (Int n) ≡ true) × (size ≡ saturated (length (bin_in column_type (Int n))))) }
+/// The length of a value of any kind, which may be invalid.
+// (by a call, so that what counts numbers and strings stays small enough to be in line)
+#[inline(never)]
+fn any_len(column: &CColumnType, value: &CValue<'_>) -> Option<usize>
+    ensures { MatchOption result (takes_value column.now value.now ≡ false) (λ n. (takes_value column.now value.now ≡ true) × (n ≡ saturated (length (cell_in column.now value.now)))) }
 {
-    if let ColumnType::MYSQL_TYPE_LONGLONG = column_type {
-        return if is_unsigned { None } else { Some(8) };
+    taken_len(column.value_type(), column.is_unsigned(), to_ref(value)?)
+}
+
+/// The length of a number of eight bytes.
+const LONGLONG_LEN: usize = 8;
+
+/// Whether the value is a signed number in a column of such numbers.
+#[inline(always)]
+#[tactic(auto, unfolding(crate::specs::Value::value_content))]
+fn is_longlong(column: &CColumnType, value: &CValue<'_>) -> bool
+    ensures takes { IsTrue result → takes_value column.now value.now ≡ true }
+    ensures len { IsTrue result → 8 ≡ saturated (length (cell_in column.now value.now)) }
+{
+    if value.kind != 2 || column.is_unsigned() {
+        return false;
     }
-    taken_len(column_type, is_unsigned, ValueRef::Int(n))
+    match column.value_type() {
+        ColumnType::MYSQL_TYPE_LONGLONG => true,
+        _ => false,
+    }
 }
 
 /// The length of a byte string.
@@ -55,15 +72,6 @@ fn string_len(column_type: ColumnType, is_unsigned: bool, bytes: &[u8]) -> Optio
     Some(<LenEnc as BytesRepr>::written_len(bytes))
 }
 
-/// The length of a value of any kind, which may be invalid.
-// (by a call, so that what counts numbers and strings stays small enough to be in line)
-#[inline(never)]
-fn any_len(column: &CColumnType, value: &CValue<'_>) -> Option<usize>
-    ensures { MatchOption result (takes_value column.now value.now ≡ false) (λ n. (takes_value column.now value.now ≡ true) × (n ≡ saturated (length (cell_in column.now value.now)))) }
-{
-    taken_len(column.value_type(), column.is_unsigned(), to_ref(value)?)
-}
-
 /// The length of a value, by its kind.
 #[inline(always)]
 #[tactic(auto, unfolding(crate::specs::Value::value_content))]
@@ -71,45 +79,56 @@ fn cell_len(column: &CColumnType, value: &CValue<'_>) -> Option<usize>
     ensures { MatchOption result (takes_value column.now value.now ≡ false) (λ n. (takes_value column.now value.now ≡ true) × (n ≡ saturated (length (cell_in column.now value.now)))) }
 {
     match value.kind {
-        0 => taken_len(column.value_type(), column.is_unsigned(), ValueRef::NULL),
         1 => string_len(column.value_type(), column.is_unsigned(), value.bytes),
-        2 => integer_len(
-            column.value_type(),
-            column.is_unsigned(),
-            value.number.cast_signed(),
-        ),
-        3 => taken_len(
-            column.value_type(),
-            column.is_unsigned(),
-            ValueRef::UInt(value.number),
-        ),
         _ => any_len(column, value),
     }
 }
 
-/// The total length of the values of a row, one for each column.
-fn values_len(columns: &[CColumnType], values: &[CValue<'_>]) -> Option<usize>
-    requires { length columns.now ≡ length values.now }
-    ensures { MatchOption result (spec.row_fits columns.now values.now ≡ false) (λ n. (spec.row_fits columns.now values.now ≡ true) × (n ≡ saturated (length (values_bytes type_of unsigned_of columns.now (values_contents values.now))))) }
-{
-    let mut len: usize = 0;
-    for place in 0..values.len() {
-        len = len.saturating_add(cell_len(&columns[place], &values[place])?);
-    }
-    Some(len)
+/// The length of what is written, if all of it fits.
+#[derive(Drop)]
+pub(crate) struct Counted {
+    /// In bytes, or `usize::MAX` if it is greater.
+    pub(crate) len: usize,
+    /// Whether a value takes no bytes, such as NULL.
+    pub(crate) has_empty: bool,
 }
 
-/// The length of a row, or `usize::MAX` if it is greater; `None` if a value is invalid or doesn't fit its
-/// column, or there isn't one for each column.
-pub(crate) fn row_len(columns: &[CColumnType], values: &[CValue<'_>]) -> Option<usize>
+/// The total length of the values of a row, one for each column.
+#[tactic(auto, using(crate::proofs::BinaryRows::binary_rows, crate::proofs::BinaryRows::counted))]
+fn values_len(columns: &[CColumnType], values: &[CValue<'_>]) -> Option<Counted>
+    requires { length columns.now ≡ length values.now }
+    ensures { MatchOption result (spec.row_fits columns.now values.now ≡ false) (λ found. (spec.row_fits columns.now values.now ≡ true) × (found.len ≡ saturated (length (values_bytes type_of unsigned_of columns.now (values_contents values.now)))) × (found.has_empty ≡ false → has_null values.now ≡ false)) }
+{
+    let mut len: usize = 0;
+    let mut has_empty = false;
+    for place in 0..values.len() {
+        // (numbers first: what finds the length of any kind takes twice as long)
+        if is_longlong(&columns[place], &values[place]) {
+            len = len.saturating_add(LONGLONG_LEN);
+            continue;
+        }
+        let more = cell_len(&columns[place], &values[place])?;
+        len = len.saturating_add(more);
+        has_empty = has_empty || more == 0;
+    }
+    Some(Counted { len, has_empty })
+}
+
+/// The length of a row; `None` if a value is invalid or doesn't fit its column, or there isn't one for each
+/// column.
+pub(crate) fn row_len(columns: &[CColumnType], values: &[CValue<'_>]) -> Option<Counted>
     requires { length values.now < 2 ^ 63 }
-    ensures { MatchOption result (spec.row_fits columns.now values.now ≡ false) (λ n. (spec.row_fits columns.now values.now ≡ true) × (n ≡ saturated (row.row_len type_of unsigned_of columns.now (values_contents values.now)))) }
+    ensures { MatchOption result (spec.row_fits columns.now values.now ≡ false) (λ found. (spec.row_fits columns.now values.now ≡ true) × (found.len ≡ saturated (row.row_len type_of unsigned_of columns.now (values_contents values.now))) × (found.has_empty ≡ false → has_null values.now ≡ false)) }
 {
     if columns.len() != values.len() {
         return None;
     }
     let front = 1 + NullBitmap::<ServerSide>::bitmap_len(values.len());
-    Some(values_len(columns, values)?.saturating_add(front))
+    let counted = values_len(columns, values)?;
+    Some(Counted {
+        len: counted.len.saturating_add(front),
+        has_empty: counted.has_empty,
+    })
 }
 
 /// Sets one bit of a bitmap.
@@ -151,15 +170,31 @@ fn mark_nulls(values: &[CValue<'_>], nulls: &mut [u8])
     }
 }
 
+/// Sets the bits of the NULL values, if there may be any, in a bitmap in which none is set.
+#[inline(always)]
+fn mark_any(values: &[CValue<'_>], may_have_null: bool, nulls: &mut [u8])
+    requires count { length values.now < 2 ^ 63 }
+    requires none { may_have_null ≡ false → has_null values.now ≡ false }
+    requires len { length nulls.old ≡ bytes_for 2 (length values.now) }
+    requires clear { nulls.old ≡ replicate (bytes_for 2 (length values.now)) 0 }
+    ensures { MarksNulls 2 (values_contents values.now) nulls.new }
+{
+    if may_have_null {
+        mark_nulls(values, nulls);
+    }
+}
+
 /// Writes the NULL bitmap over a slice of its length.
-fn put_nulls(values: &[CValue<'_>], nulls: &mut [u8])
+#[inline(always)]
+fn put_nulls(values: &[CValue<'_>], may_have_null: bool, nulls: &mut [u8])
     requires sent { contents param values.now ≡ values_contents values.now }
     requires count { length values.now < 2 ^ 63 }
+    requires none { may_have_null ≡ false → has_null values.now ≡ false }
     requires len { length nulls.old ≡ bytes_for 2 (length values.now) }
     ensures { MarksNulls 2 (contents param values.now) nulls.new }
 {
     nulls.fill(0);
-    mark_nulls(values, nulls);
+    mark_any(values, may_have_null, nulls);
 }
 
 /// Writes a value of any kind in its column's width, for which there is capacity.
@@ -245,37 +280,6 @@ fn append_values<O: Buffer>(columns: &[CColumnType], values: &[CValue<'_>], out:
     *out = bytes;
 }
 
-/// The values of a row, one for each column, whose length was computed.
-#[derive(Drop)]
-struct CountedValues<'r, 'a> {
-    columns: &'r [CColumnType],
-    values: &'r [CValue<'a>],
-    len: usize,
-    ghost same: { length columns.now ≡ length values.now },
-    ghost exact: { len ≡ length (values_bytes type_of unsigned_of columns.now (contents param values.now)) },
-}
-
-impl MySerialize for CountedValues<'_, '_> {
-    ghost use Rattle.mysql_stmt.specs.BinaryRow.{values_bytes};
-    ghost use Rattle.mysql_stmt.specs.ExecuteParam.{contents};
-    ghost use Rattle.mysql_packets_c.specs.BinaryRow.{cell_in, takes_value};
-    ghost use Rattle.mysql_packets_c.specs.ColumnType.{type_of, unsigned_of};
-    ghost use Rattle.mysql_packets_c.specs.Execution.{param};
-
-    ghost bytes = { λ r. values_bytes type_of unsigned_of r.columns.now (contents param r.values.now) };
-
-    #[inline(always)]
-    #[tactic(auto, unfolding(mysql_wire::specs::Writing::saturated))]
-    fn defined_len(&self) -> usize {
-        self.len
-    }
-
-    #[inline(always)]
-    fn append<O: Buffer>(&self, out: &mut O) {
-        append_values(self.columns, self.values, out);
-    }
-}
-
 /// Writes the values of a row over a slice of their length.
 #[inline(always)]
 fn put_values(columns: &[CColumnType], values: &[CValue<'_>], out: &mut [u8])
@@ -283,25 +287,27 @@ fn put_values(columns: &[CColumnType], values: &[CValue<'_>], out: &mut [u8])
     requires len { length out.old ≡ length (values_bytes type_of unsigned_of columns.now (contents param values.now)) }
     ensures { out.new ≡ values_bytes type_of unsigned_of columns.now (contents param values.now) }
 {
-    let counted = CountedValues {
-        columns,
-        values,
-        len: out.len(),
-    };
-    let _len = counted.write_to_slice(out).unwrap();
+    let mut writer = SliceWriter::new(out);
+    append_values(columns, values, &mut writer);
 }
 
 /// Writes a row over a slice of its length.
-pub(crate) fn put_row(columns: &[CColumnType], values: &[CValue<'_>], out: &mut [u8])
+pub(crate) fn put_row(
+    columns: &[CColumnType],
+    values: &[CValue<'_>],
+    may_have_null: bool,
+    out: &mut [u8],
+)
     requires sent { contents param values.now ≡ values_contents values.now }
     requires same { length columns.now ≡ length values.now }
     requires count { length values.now < 2 ^ 63 }
+    requires none { may_have_null ≡ false → has_null values.now ≡ false }
     requires len { length out.old ≡ row.row_len type_of unsigned_of columns.now (contents param values.now) }
     ensures { IsRowBytes type_of unsigned_of columns.now (contents param values.now) out.new }
 {
     let (first, after) = out.split_at_mut(1);
     first.fill(0);
     let (nulls, rest) = after.split_at_mut(NullBitmap::<ServerSide>::bitmap_len(values.len()));
-    put_nulls(values, nulls);
+    put_nulls(values, may_have_null, nulls);
     put_values(columns, values, rest);
 }

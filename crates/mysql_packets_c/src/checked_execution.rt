@@ -7,6 +7,7 @@ ghost use Rattle.mysql_packets_c.specs.CheckedExecution.{front_bytes, plain_of, 
 
 use crate::checked_nulls::CheckedNulls;
 use crate::checked_params::CheckedParams;
+use crate::output::put_part;
 use crate::typed_values::put_typed;
 use mysql_stmt::ComStmtExecuteHead;
 use mysql_wire::{MySerialize, Parts, RawInt, Sink, parts};
@@ -69,15 +70,6 @@ impl CheckedExecution<'_, '_> {
             .saturating_add(self.types_len())
             .saturating_add(self.params.len)
     }
-}
-
-/// Writes a part of an execution over a slice of its length.
-#[inline(always)]
-fn put_part<P: MySerialize>(part: &P, out: &mut [u8])
-    requires { length out.old ≡ length (P.bytes part.now) }
-    ensures { out.new ≡ P.bytes part.now }
-{
-    let _len = part.write_to_slice(out).unwrap();
 }
 
 /// Writes an execution over a slice of its length.

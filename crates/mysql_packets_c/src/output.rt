@@ -1,10 +1,10 @@
 //! Writing to the caller's buffer.
 
-ghost use Rattle.std.specs.Prelude.{◌≡◌, ◌≢◌, ◌<◌, ◌≤◌, ◌-◌, ◌^◌};
+ghost use Rattle.std.specs.Prelude.{◌≡◌, ◌≢◌, ◌<◌, ◌≤◌, ◌-◌, ◌^◌, length};
 ghost use Rattle.mysql_packets_c.specs.Output.{Puts, PutsUnlessTooLong};
 
 use crate::code::{BUFFER_TOO_SMALL, OK, TOO_LARGE};
-use mysql_wire::MySerialize;
+use mysql_wire::{MySerialize, SliceWriter};
 
 /// Writes bytes to the front of a buffer. If it is too small, it is unchanged, and `written` is the length needed.
 pub(crate) fn put(bytes: &[u8], out: &mut [u8], written: &mut usize) -> u32
@@ -59,4 +59,14 @@ pub(crate) fn answer_count(count: usize, capacity: usize, written: &mut usize) -
     } else {
         BUFFER_TOO_SMALL
     }
+}
+
+/// Writes a part of a packet over a slice of its length.
+#[inline(always)]
+pub(crate) fn put_part<P: MySerialize>(part: &P, out: &mut [u8])
+    requires { length out.old ≡ length (P.bytes part.now) }
+    ensures { out.new ≡ P.bytes part.now }
+{
+    let mut writer = SliceWriter::new(out);
+    part.append(&mut writer);
 }

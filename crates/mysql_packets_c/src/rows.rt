@@ -12,11 +12,12 @@ ghost use Rattle.mysql_packets_c.specs.Rows.{Fills, FillsGood, RowInto, TakesRow
 
 use crate::binary_row::{put_row, row_len};
 use crate::code::{BUFFER_TOO_SMALL, INVALID_INPUT, OK, code_of};
-use crate::output::{answer_count, put_packet};
+use crate::output::answer_count;
+use crate::text_row::{cells_len, put_cells};
 use crate::value::{CValue, put_ref};
-use mysql_stmt::{BinaryRowView, ItemForm, Items, TextRowView, TypedColumn};
+use mysql_stmt::{BinaryRowView, TextRowView, TypedColumn};
 use mysql_values::ServerSide;
-use mysql_wire::{Buffer, BytesRepr, ColumnType, ConstValue, Fault, LenEnc, ParseBuf};
+use mysql_wire::{ColumnType, ConstValue, Fault, ParseBuf};
 use std::alloc::Global;
 
 /// `myp_column_type` of the C header: the properties of a column that a reader of binary rows needs.
@@ -164,46 +165,6 @@ pub extern "C" fn myp_read_text_row<'a>(
     }
 }
 
-/// The first byte of a NULL cell.
-const NULL_CELL: u8 = 0xfb;
-
-/// Values are written as the cells of a text row.
-#[derive(Drop)]
-struct AsTextCells;
-
-impl ItemForm<CValue<'_>> for AsTextCells {
-    ghost use Rattle.mysql_stmt.specs.TextRow.{text_cell_bytes};
-    ghost use Rattle.mysql_packets_c.specs.Rows.{cell_of};
-
-    ghost item_bytes = { λ _ value. text_cell_bytes (cell_of value) };
-
-    #[inline(always)]
-    #[tactic(auto, unfolding(mysql_wire::specs::Writing::saturated))]
-    fn item_len(&self, value: &CValue<'_>) -> usize {
-        if value.kind == 0 {
-            1
-        } else {
-            <LenEnc as BytesRepr>::written_len(value.bytes)
-        }
-    }
-
-    #[inline(always)]
-    fn append_item<O: Buffer>(&self, value: &CValue<'_>, out: &mut O) {
-        if value.kind == 0 {
-            out.push_byte(NULL_CELL);
-        } else {
-            <LenEnc as BytesRepr>::append(value.bytes, out);
-        }
-    }
-}
-
-/// Whether each value is NULL or bytes.
-fn are_cells(values: &[CValue<'_>]) -> bool
-    ensures value { result ≡ list_all spec.is_cell values.now }
-{
-    values.iter().all(|value| value.kind < 2)
-}
-
 /// Writes `ProtocolText::ResultsetRow`. Errors: 5 if the buffer is too small, with the length needed; 4 if the length
 /// overflows; 3 for a value that is neither bytes nor NULL.
 #[tactic(auto, using(crate::proofs::WrittenRows::text_rows))]
@@ -216,15 +177,15 @@ pub extern "C" fn myp_write_text_row(
     ensures refused { IsFalse (list_all spec.is_cell values.now) → (result ≡ 3) × (out.new ≡ out.old) × (written.new ≡ 0) }
     ensures value { IsTrue (list_all spec.is_cell values.now) → PutsUnlessTooLong (text_row_bytes (spec.cells_of values.now)) result out.old out.new written.new }
 {
-    if !are_cells(values) {
+    let Some(len) = cells_len(values) else {
         *written = 0;
         return INVALID_INPUT;
-    }
-    let row = Items {
-        items: values,
-        form: AsTextCells,
     };
-    put_packet(&row, out, written)
+    // (no slice has `usize::MAX` bytes)
+    if len <= out.len() {
+        put_cells(values, &mut out[..len]);
+    }
+    answer_count(len, out.len(), written)
 }
 
 /// Writes `ProtocolBinary::ResultsetRow`. Errors: 5 if the buffer is too small, with the length needed; 4 if the length
@@ -239,13 +200,14 @@ pub extern "C" fn myp_write_binary_row(
     ensures refused { IsFalse (spec.row_fits columns.now values.now) → (result ≡ 3) × (out.new ≡ out.old) × (written.new ≡ 0) }
     ensures value { IsTrue (spec.row_fits columns.now values.now) → spec.PutsRow columns.now values.now result out.old out.new written.new }
 {
-    let Some(len) = row_len(columns, values) else {
+    let Some(counted) = row_len(columns, values) else {
         *written = 0;
         return INVALID_INPUT;
     };
+    let len = counted.len;
     // (no slice has `usize::MAX` bytes)
     if len <= out.len() {
-        put_row(columns, values, &mut out[..len]);
+        put_row(columns, values, counted.has_empty, &mut out[..len]);
     }
     answer_count(len, out.len(), written)
 }

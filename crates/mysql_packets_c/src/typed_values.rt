@@ -6,10 +6,9 @@ ghost use Rattle.mysql_packets_c.specs.CheckedParams.{sent_bytes, type_sent};
 
 use crate::parameter::CParameter;
 use crate::sent_value::eight_bytes;
-use crate::slice_front::SliceFront;
 use mysql_stmt::AsExecuteParam;
 use mysql_values::{ParamType, ValueRef};
-use mysql_wire::{Buffer, BytesRepr, IntRepr, LeU64, LenEnc, MySerialize};
+use mysql_wire::{Buffer, BytesRepr, IntRepr, LeU64, LenEnc, MySerialize, SliceWriter};
 
 /// Writes the type and the value of any parameter, for which there is capacity.
 // (by a call, so that what writes numbers and strings stays small enough to be in line)
@@ -30,8 +29,29 @@ fn append_any<T: Buffer, V: Buffer>(parameter: &CParameter<'_>, types: &mut T, v
     parameter.append_sent(false, values);
 }
 
+/// Writes the type and the value of any parameter by a call, with the buffers in variables of its own, so that the
+/// caller's stay in registers.
+#[inline(always)]
+fn append_apart<T: Buffer, V: Buffer>(parameter: &CParameter<'_>, types: &mut T, values: &mut V)
+    requires type_fits { length (T.held types.old) + length (type_sent parameter.now) ≤ T.capacity types.old }
+    requires value_fits { length (V.held values.old) + length (sent_bytes parameter.now) ≤ V.capacity values.old }
+    ensures type_items { T.held types.new ≡ T.held types.old ++ type_sent parameter.now }
+    ensures type_after { T.after types.new ≡ drop (length (type_sent parameter.now)) (T.after types.old) }
+    ensures type_capacity { T.capacity types.old ≤ T.capacity types.new }
+    ensures type_kept { T.kept types.new ≡ T.kept types.old }
+    ensures value_items { V.held values.new ≡ V.held values.old ++ sent_bytes parameter.now }
+    ensures value_after { V.after values.new ≡ drop (length (sent_bytes parameter.now)) (V.after values.old) }
+    ensures value_capacity { V.capacity values.old ≤ V.capacity values.new }
+    ensures value_kept { V.kept values.new ≡ V.kept values.old }
+{
+    let mut types_taken = types.taken();
+    let mut values_taken = values.taken();
+    append_any(parameter, &mut types_taken, &mut values_taken);
+    *types = types_taken;
+    *values = values_taken;
+}
+
 /// Writes the type and the value of a parameter, for which there is capacity.
-// (what is called has buffers of its own, so that the caller's stay in registers)
 #[inline(always)]
 #[tactic(auto, using(mysql_stmt::proofs::SentBytes::plain), unfolding(crate::specs::Value::value_content))]
 fn append_one<T: Buffer, V: Buffer>(parameter: &CParameter<'_>, types: &mut T, values: &mut V)
@@ -61,11 +81,7 @@ fn append_one<T: Buffer, V: Buffer>(parameter: &CParameter<'_>, types: &mut T, v
             _ => {}
         }
     }
-    let mut types_taken = types.taken();
-    let mut values_taken = values.taken();
-    append_any(parameter, &mut types_taken, &mut values_taken);
-    *types = types_taken;
-    *values = values_taken;
+    append_apart(parameter, types, values);
 }
 
 /// Writes the types and the values of parameters, for which there is capacity.
@@ -101,7 +117,7 @@ pub(crate) fn put_typed(items: &[CParameter<'_>], types: &mut [u8], values: &mut
     ensures types { types.new ≡ flat_map type_sent items.now }
     ensures values { values.new ≡ flat_map sent_bytes items.now }
 {
-    let mut types_front = SliceFront::new(types);
-    let mut values_front = SliceFront::new(values);
-    append_all(items, &mut types_front, &mut values_front);
+    let mut types_writer = SliceWriter::new(types);
+    let mut values_writer = SliceWriter::new(values);
+    append_all(items, &mut types_writer, &mut values_writer);
 }

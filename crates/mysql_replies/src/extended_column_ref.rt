@@ -173,7 +173,7 @@ impl<'de> MyDeserialize<'de> for ExtendedColumnRef<'de> {
 
     ghost form = { spec.extended_column.form };
 
-    #[inline]
+    #[inline(always)]
     #[tactic(auto, using(mysql_wire::proofs::Tails::tails), unfolding(crate::specs::ExtendedColumn::extended_column, crate::specs::ColumnNames::column_meta))]
     fn deserialize<'s>(agreed: Self::Ctx, buf: &mut ParseBuf<'de>) -> Result<Self, FaultOf<'s>> {
         let mut rest = buf.rest();

@@ -23,14 +23,14 @@ put_row-requires-clause-len c =
     let values = c.args.values.now in
     let sent = values-sent values (are-values columns values c.in-Some.ensures.0) in
     let below : length c.args.out.now < 2 ^ 63 = omega arith in
-    let whole : c.in-Some.len ≡ row_len type_of unsigned_of columns (values_contents values) = omega (arith, c.in-Some.ensures.1, c.if-len-out.true, below) in
-    length-take-le c.in-Some.len c.args.out.now c.if-len-out.true ∙ whole ∙ ap (row_len type_of unsigned_of columns) (sym sent)
+    let whole : c.in-Some.counted.len ≡ row_len type_of unsigned_of columns (values_contents values) = omega (arith, c.in-Some.ensures.1, c.if-len-out.true, below) in
+    length-take-le c.in-Some.counted.len c.args.out.now c.if-len-out.true ∙ whole ∙ ap (row_len type_of unsigned_of columns) (sym sent)
 
 pub returns-clause-value : goal.returns-clause-value
 returns-clause-value c = λ h.
     let columns = c.args.columns.now in
     let values = c.args.values.now in
-    let len = c.in-Some.len in
+    let len = c.in-Some.counted.len in
     let old = c.args.out.now in
     let new = c.if-len-out.out in
     let code = c.answer_count.result in
