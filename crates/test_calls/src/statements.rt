@@ -116,6 +116,28 @@ fn read_attributes<'s, 'a>(
     Ok(left.rest().len())
 }
 
+/// The builder of an execution like the one with this head.
+fn builder_of<'a>(
+    head: &ComStmtExecuteHead,
+    sends_types: bool,
+    has_attributes: bool,
+    attributes: &'a [TypedExecuteParam<'a>],
+) -> ComStmtExecuteOptionsBuilder<'a, TypedExecuteParam<'a>> {
+    let plain = ComStmtExecuteOptionsBuilder::<'_, TypedExecuteParam<'_>>::from_head(head);
+    let attributes = if has_attributes {
+        Some(attributes)
+    } else {
+        None
+    };
+    ComStmtExecuteOptionsBuilder {
+        stmt_id: plain.stmt_id,
+        flags: plain.flags,
+        iteration_count: plain.iteration_count,
+        sends_types,
+        attributes,
+    }
+}
+
 /// Writes an execution of these parameters, and adds whether its bytes are these.
 fn show_written(
     out: &mut Out,
@@ -151,15 +173,7 @@ fn write_again<'s>(
     let has_attributes = agreed
         .mysql
         .contains(CapabilityFlags::CLIENT_QUERY_ATTRIBUTES);
-    let builder = ComStmtExecuteOptionsBuilder::<'_, TypedExecuteParam<'_>> {
-        sends_types,
-        attributes: if has_attributes {
-            Some(attributes.as_slice())
-        } else {
-            None
-        },
-        ..ComStmtExecuteOptionsBuilder::from_head(head)
-    };
+    let builder = builder_of(head, sends_types, has_attributes, &attributes);
     show_written(out, builder, &params, sent);
     Ok(())
 }
