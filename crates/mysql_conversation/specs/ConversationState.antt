@@ -1,7 +1,9 @@
 -- The state of a conversation, as plain numbers.
-use Rattle.std.specs.Prelude.{◌≡◌, ℕ, ◌==◌, List, Bool, true, false, Option, Some, None, if◌then◌else◌}
+use Rattle.std.specs.Prelude.{◌≡◌, ℕ, ◌==◌, ◌&&◌, List, Bool, true, false, Option, Some, None, if◌then◌else◌}
 use Rattle.std.specs.Option.{IsSome, option_map}
 use Rattle.mysql_conversation.specs.Agreements.{Agreed}
+use Rattle.mysql_conversation.specs.Conversation.{format_of}
+use Rattle.mysql_conversation.specs.Payloads.{begins_row}
 use Rattle.mysql_conversation.specs.Machine.{is_rest, is_shut, listens, take_step}
 use Rattle.mysql_conversation.specs.declared.conversation_state.ConversationState.{ConversationState}
 use Rattle.mysql_conversation.specs.declared.packet_kind.InitialPhase.{InitialPhase}
@@ -111,6 +113,14 @@ state_at s =
 -- the numbers are those of a state
 abbrev pub IsState : ConversationState → Type 0
 IsState s = IsSome (state_at s)
+
+abbrev pub says_row_of : Option Request → List ℕ → Bool
+says_row_of None payload = false
+says_row_of (Some r) payload = begins_row (format_of r) payload
+
+-- the state is among rows, and the first byte says that the packet is one of them
+abbrev pub says_row : ConversationState → List ℕ → Bool
+says_row s payload = s.place == 7 && says_row_of (request_at s.request) payload
 
 -- the machine takes a packet of the server as this kind, and its state, in which an exchange runs, stays as it is
 abbrev pub Stays : Agreed → ConversationState → List ℕ → PacketKind → Type 0

@@ -11,7 +11,7 @@ use Rattle.mysql_stmt.specs.StmtWithMetadata.{stmt_with_metadata, packet_of}
 use Rattle.mysql_stmt.specs.declared.stmt_with_metadata.StmtPacketWithMetadata.{StmtPacketWithMetadata}
 use Rattle.mysql_conversation.specs.Agreements.{Agreed, deprecates_eof}
 use Rattle.mysql_conversation.specs.Runs.{Runs}
-use Rattle.mysql_conversation.specs.Payloads.{has_more, opens_cursor, first_is, definitions_follow, ok_form, terminator_form, old_end_form, looks_like_end, is_report, asks_cursor}
+use Rattle.mysql_conversation.specs.Payloads.{has_more, opens_cursor, first_is, definitions_follow, ok_form, terminator_form, old_end_form, looks_like_end, is_report, asks_cursor, begins_row}
 use Rattle.mysql_conversation.specs.Conversation.{Packet, code_of, answering, authentication_kind, ending, format_of}
 use Rattle.mysql_conversation.specs.declared.state.After.{After}
 use Rattle.mysql_conversation.specs.declared.state.After.TheVariants as after
@@ -239,6 +239,11 @@ abbrev pub line_step : Bool → Request → Option Line → Option (PacketKind �
 line_step deprecates r None = None
 line_step deprecates r (Some line.Row) = Some (kind.Row (format_of r), state.Rows r)
 line_step deprecates r (Some (line.End more)) = Some (ending deprecates, ended r more)
+
+-- the state is among rows, and the first byte says that the packet is one of them
+abbrev pub says_row : State → List ℕ → Bool
+says_row (state.Rows r) p = begins_row (format_of r) p
+says_row s p = false
 
 -- a packet of this kind, after which the state is the same, or the end
 abbrev pub last_step : Bool → PacketKind → State → Option Line → Option (PacketKind × State)

@@ -82,6 +82,12 @@ IsCount a n follow p =
     (first_is 0 p ≡ false) × (first_is 0xfb p ≡ false) × (0 < n)
     × (c : ColumnCount) × (rest : List ℕ) × (column_count.form a).Spells c p rest × (count c ≡ n) × (metadata_follows c ≡ follow)
 
+-- the first byte says that a packet among rows of this form is a row
+abbrev pub begins_row : RowFormat → List ℕ → Bool
+begins_row form [] = false
+begins_row Text (first ∷ rest) = nat_lt first 0xfe
+begins_row Binary (first ∷ rest) = first == 0
+
 -- a text row doesn't begin as an end does, and a binary row begins with 00
 abbrev pub IsRow : Agreed → RowFormat → List ℕ → Type 0
 IsRow a Text p = looks_like_end (deprecates_eof a) p ≡ false

@@ -1,6 +1,6 @@
 //! The state of a conversation as plain numbers.
 
-ghost use Rattle.std.specs.Prelude.{◌≡◌, IfSome, Some};
+ghost use Rattle.std.specs.Prelude.{◌≡◌, is_some, IfSome, Some};
 ghost use Rattle.mysql_conversation.specs.ConversationState as spec;
 ghost use Rattle.mysql_conversation.specs.ConversationState.{after_at, request_at, state_at};
 
@@ -32,6 +32,7 @@ impl ConversationState {
     #[inline(always)]
     pub(crate) fn row(&self, agreed: SessionCapabilities, payload: &[u8]) -> Option<PacketKind>
         ensures stays { IfSome result (λ kind. spec.Stays agreed self.now payload.now kind) }
+        ensures when { is_some result ≡ spec.says_row self.now payload.now }
     {
         // The state in a row, as in `state_at`.
         if self.place != 7 {

@@ -49,7 +49,8 @@ pub(crate) fn first_is(byte: u8, payload: &[u8]) -> bool
 /// Whether the first byte says that a packet among rows is a row.
 #[inline(always)]
 pub(crate) fn is_row_by_first(format: RowFormat, payload: &[u8]) -> bool
-    ensures { IsTrue result → (payloads.first_is 0xff payload.now ≡ false) × (payloads.first_is 0xfe payload.now ≡ false) × (spec.row_of format payload.now ≡ Some Row) }
+    ensures value { result ≡ payloads.begins_row format payload.now }
+    ensures row { IsTrue result → (payloads.first_is 0xff payload.now ≡ false) × (payloads.first_is 0xfe payload.now ≡ false) × (spec.row_of format payload.now ≡ Some Row) }
 {
     match payload.first() {
         Some(first) => match format {

@@ -1,6 +1,7 @@
 //! The state of a pipeline as plain numbers, with at most eight waiting commands.
 
-ghost use Rattle.std.specs.Prelude.{◌≡◌, ◌≢◌, ◌↔◌, ◌⊎◌, ◌<◌, ◌+◌, ◌-◌, IfOk, IfErr, IfSome, OnErr, IsTrue, List, [], ◌∷◌, ◌++◌, ℕ, length, true, false, None, Some, Err};
+ghost use Rattle.std.specs.Prelude.{◌≡◌, ◌≢◌, ◌↔◌, ◌⊎◌, ◌<◌, ◌+◌, ◌-◌, IfOk, IfErr, IfSome, OnErr, IsTrue, List, [], ◌∷◌, ◌++◌, ◌&&◌, ℕ, is_some, length, true, false, None, Some, Err};
+ghost use Rattle.mysql_conversation.specs.ConversationState.{says_row};
 ghost use Rattle.mysql_conversation.specs.Machine.{is_due};
 ghost use Rattle.mysql_conversation.specs.PipelineState as spec;
 ghost use Rattle.mysql_conversation.specs.PipelineState.{IsQueue, IsState, TakenAt, queue, stands_in};
@@ -116,6 +117,7 @@ impl PipelineState {
     pub fn row(&self, agreed: SessionCapabilities, payload: &[u8]) -> Option<(PacketKind, u64)>
         ensures taken { IfSome result (λ x. (items : List Numbered) → TakenAt agreed self.now items → TakenAt agreed self.now (items ++ place side.Server payload.now x.0 x.1 ∷ [])) }
         ensures state { IfSome result (λ _. IsState self.now) }
+        ensures when { is_some result ≡ (says_row self.now.current payload.now && spec.is_queue self.now) }
     {
         let kind = self.current.row(agreed, payload)?;
         if self.has_queue() {

@@ -1,6 +1,6 @@
 //! The machine: the kind of a packet, and the state after it.
 
-ghost use Rattle.std.specs.Prelude.{false, ◌≡◌, IfSome, IfNone, IfOk, OnErr, Some, None};
+ghost use Rattle.std.specs.Prelude.{false, ◌≡◌, is_some, IfSome, IfNone, IfOk, OnErr, Some, None};
 ghost use Rattle.mysql_conversation.specs.Machine as spec;
 ghost use Rattle.mysql_conversation.specs.declared.state.State.TheVariants as spec_state;
 ghost use Rattle.mysql_conversation.specs.declared.packet_kind.Side.TheVariants.{Client, Server};
@@ -363,6 +363,7 @@ pub(crate) fn row_at(
 ) -> Option<PacketKind>
     ensures some { IfSome result (λ kind. spec.take_step agreed state.now Server payload.now ≡ Some (kind, state.now)) }
     ensures quiet { IfSome result (λ _. (spec.listens state.now ≡ false) × (spec.is_shut state.now ≡ false) × (spec.is_rest state.now ≡ false)) }
+    ensures when { is_some result ≡ spec.says_row state.now payload.now }
 {
     let State::Rows(request) = *state else {
         return None;

@@ -12,7 +12,7 @@ both_some : {A : Type 0} {P Q R : A → Type 0} (r : Option A) → ((x : A) → 
 both_some (Some x) f g h = f x g h
 both_some None f g h = tt
 
-pub returns : goal.returns
-returns c =
+pub returns-clause-stays : goal.returns-clause-stays
+returns-clause-stays c =
     let e = rows_at c.args.self.now c.in_ok-request.request c.if-self-ne7.false (sym c.request_at.ensures ∙ c.in_ok-request.was) in
-    record { stays = both_some c.row_at.result (λ k g h. (state.Rows c.in_ok-request.request, e, g, h.0, h.1, h.2)) c.row_at.ensures.some c.row_at.ensures.quiet }
+    both_some c.row_at.result (λ k g h. (state.Rows c.in_ok-request.request, e, g, h.0, h.1, h.2)) c.row_at.ensures.some c.row_at.ensures.quiet
