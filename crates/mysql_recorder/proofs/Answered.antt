@@ -105,10 +105,10 @@ lost_ends all layout limit x w t l =
     (l.0, l.1, l.2, l.3, l.4, l.5, l.6, is_lost_where all layout limit (IsAtFeed l.1) (IsLineEnd l.1) l.0 l.2 l.3 l.4 (λ f. inl f) l.7, stays_then l.4 w (w ++ t) l.8 (t, refl))
 
 -- something is lost in a piece; the entries up to there are followed by those of its rest
-lost_here : (r : Result (Unit {0}) RecordingError) (all : List PacketKindTag) (old new : Recording) (x p w t : List ℕ) (items : List Item)
-    → Recorded old x items → Writes (recorded.layout old) [] items [] w → Loses r all p old new [] t → recorded.has_lost new ≡ true
-    → (mid : List ℕ) × OnOk r (Stays mid t) × ((text : List ℕ) → Stays mid text → LostIn all (recorded.layout old) (recorded.longest old) IsAtFeed (x ++ p) (w ++ text))
-lost_here r all old new x p w t items h writes loses lost =
+lost_here : (all : List PacketKindTag) (old new : Recording) (x p w t : List ℕ) (items : List Item)
+    → Recorded old x items → Writes (recorded.layout old) [] items [] w → Loses all p old new [] t → recorded.has_lost new ≡ true
+    → (mid : List ℕ) × Stays mid t × ((text : List ℕ) → Stays mid text → LostIn all (recorded.layout old) (recorded.longest old) IsAtFeed (x ++ p) (w ++ text))
+lost_here all old new x p w t items h writes loses lost =
     let l = loses lost x items h in (
       l.4,
       l.8,
@@ -129,7 +129,7 @@ amid_here : (all : List PacketKindTag) (old new : Recording) (x p w t : List ℕ
     → IsAmid all (recorded.layout old) (recorded.longest old) old x w → IsAmid all (recorded.layout old) (recorded.longest old) new (x ++ p) (w ++ t)
 amid_here all old new x p w t takes (inl h) =
     elim (takes.goes x h.0 h.1) as (λ _. IsAmid all (recorded.layout old) (recorded.longest old) new (x ++ p) (w ++ t)) [
-      | inl e ↦ (let l = lost_here (Ok tt) all old new x p w t h.0 h.1 h.2 takes.loses e in inr (e, l.2 t l.1))
+      | inl e ↦ (let l = lost_here all old new x p w t h.0 h.1 h.2 takes.loses e in inr (e, l.2 t l.1))
       | inr f ↦ inl (h.0 ++ f.0, f.1, writes_more (recorded.layout old) h.0 f.0 w t h.2 f.2)
     ]
 amid_here all old new x p w t takes (inr h) = inr (takes.lost h.0, lost_more all (recorded.layout old) (recorded.longest old) x p w t h.1)
@@ -276,7 +276,7 @@ piece_stops : (all : List PacketKindTag) (sums : Bool) (at_end : Type 0) (old ne
 piece_stops all sums at_end old new x p w t line e answer takes (inl h) says ends =
     let amid : IsAmid all (recorded.layout old) (recorded.longest old) old x w = inl h in
     elim (takes.refused x h.0 h.1) as (λ _. IsAnswer all (recorded.layout old) (recorded.longest old) sums at_end (x ++ p) answer) [
-      | inl lost_now ↦ (let l = lost_here (Err e) all old new x p w t h.0 h.1 h.2 takes.loses lost_now in
+      | inl lost_now ↦ (let l = lost_here all old new x p w t h.0 h.1 h.2 takes.loses lost_now in
           after_lost all (recorded.layout old) (recorded.longest old) sums at_end old x p w t (w ++ l.0) line e answer amid (l.2 l.0 (stays_same l.0)) says ends)
       | inr s ↦ stopped all (recorded.layout old) (recorded.longest old) sums at_end old x p w t line e answer amid (piece_refused all (recorded.layout old) e x p w t h.0 h.2 s) says ends
     ]

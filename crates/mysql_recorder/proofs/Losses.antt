@@ -1,5 +1,5 @@
 -- Losses, step by step.
-use Rattle.std.proofs.Common.{◌≡◌, ◌≢◌, ◌⊎◌, inl, inr, ℕ, ◌+◌, ◌<◌, true, false, List, [], ◌∷◌, ◌++◌, Result, Ok, Err, IfOk, OnOk, Some, refl, sym, ap, subst, ◌∙◌, append_assoc, append-nil, length, get_or, take, drop, drop-cons, take-append-drop, suc, add-one}
+use Rattle.std.proofs.Common.{◌≡◌, ◌≢◌, ◌⊎◌, inl, inr, ℕ, ◌+◌, ◌<◌, true, false, List, [], ◌∷◌, ◌++◌, Result, Ok, Err, IfOk, Some, refl, sym, ap, subst, ◌∙◌, append_assoc, append-nil, length, get_or, take, drop, drop-cons, take-append-drop, suc, add-one}
 use Rattle.std.proofs.lemmas.List.{take_more}
 use Rattle.mysql_conversation.specs.declared.packet_kind.Side.{Side}
 use Rattle.mysql_conversation.specs.declared.packet_kind.Side.TheVariants as side
@@ -33,7 +33,7 @@ use Rattle.mysql_recorder.specs.declared.recording.Recording.{Recording}
 use Rattle.mysql_recorder.specs.declared.sides.Sides.{Sides}
 use Rattle.mysql_recorder.specs.declared.stream.Stream.{Stream}
 use Rattle.mysql_recorder.proofs.Frames.{numbered_sent, sent-held, sent-limit}
-use Rattle.mysql_recorder.proofs.Stays.{on_ok_then}
+use Rattle.mysql_recorder.proofs.Stays.{stays_then}
 use Rattle.mysql_recorder.proofs.Stopped.{stops_in}
 use Rattle.mysql_recorder.proofs.Texts.{shown_of}
 use Rattle.mysql_recorder.proofs.Wholes.{observed_session}
@@ -102,39 +102,39 @@ server_loses (Ok came) all s bytes before after h = λ w pieces items k.
 server_loses (Err e) all s bytes before after h = tt
 
 -- nothing more is lost
-pub piece_keeps : (r : Result (Unit {0}) RecordingError) (all : List PacketKindTag) (side : Side) (bytes : List ℕ) (old new : Sides) (before after : List ℕ)
-    → has_lost new ≡ has_lost old → PieceLoses r all side bytes old new before after
-piece_keeps r all side bytes old new before after e lost pieces items h = absurd (let no : true ≡ false = sym lost ∙ e ∙ h.nothing_lost in cc)
+pub piece_keeps : (all : List PacketKindTag) (side : Side) (bytes : List ℕ) (old new : Sides) (before after : List ℕ)
+    → has_lost new ≡ has_lost old → PieceLoses all side bytes old new before after
+piece_keeps all side bytes old new before after e lost pieces items h = absurd (let no : true ≡ false = sym lost ∙ e ∙ h.nothing_lost in cc)
 
 -- the result for a piece
-pub came_loses : (came : Came) (r : Result (Unit {0}) RecordingError) (all : List PacketKindTag) (side : Side) (bytes : List ℕ) (old mid new : Sides) (before m after : List ℕ)
-    → (came ≢ came_as.Whole → PieceLosesIn all side bytes old before m) → (came ≡ came_as.Whole → sides.IsSame mid new × (after ≡ m)) → has_lost mid ≡ has_lost old → OnOk r (Stays m after)
-    → PieceLoses r all side bytes old new before after
-came_loses came_as.Whole r all side bytes old mid new before m after loses same kept stays = piece_keeps r all side bytes old new before after ((same refl).0.has_lost ∙ kept)
-came_loses (came_as.Refused a n) r all side bytes old mid new before m after loses same kept stays = λ lost pieces items h. (m, loses (λ e. cc) pieces items h, stays)
-came_loses (came_as.NoFrames x n) r all side bytes old mid new before m after loses same kept stays = λ lost pieces items h. (m, loses (λ e. cc) pieces items h, stays)
+pub came_loses : (came : Came) (all : List PacketKindTag) (side : Side) (bytes : List ℕ) (old mid new : Sides) (before m after : List ℕ)
+    → (came ≢ came_as.Whole → PieceLosesIn all side bytes old before m) → (came ≡ came_as.Whole → sides.IsSame mid new × (after ≡ m)) → has_lost mid ≡ has_lost old → Stays m after
+    → PieceLoses all side bytes old new before after
+came_loses came_as.Whole all side bytes old mid new before m after loses same kept stays = piece_keeps all side bytes old new before after ((same refl).0.has_lost ∙ kept)
+came_loses (came_as.Refused a n) all side bytes old mid new before m after loses same kept stays = λ lost pieces items h. (m, loses (λ e. cc) pieces items h, stays)
+came_loses (came_as.NoFrames x n) all side bytes old mid new before m after loses same kept stays = λ lost pieces items h. (m, loses (λ e. cc) pieces items h, stays)
 
 -- ---- lines and texts
 
-pub line_loses : (r : Result (Unit {0}) RecordingError) (all : List PacketKindTag) (old new : Recording) (bytes before after : List ℕ) → bytes ≡ old.line.bytes.items
-    → PieceLoses r all old.line.side bytes old.sides new.sides before after → LineLoses r all old new before after
-line_loses r all old new bytes before after is h = subst (λ b. PieceLoses r all old.line.side b old.sides new.sides before after) is h
+pub line_loses : (all : List PacketKindTag) (old new : Recording) (bytes before after : List ℕ) → bytes ≡ old.line.bytes.items
+    → PieceLoses all old.line.side bytes old.sides new.sides before after → LineLoses all old new before after
+line_loses all old new bytes before after is h = subst (λ b. PieceLoses all old.line.side b old.sides new.sides before after) is h
 
-pub text_keeps : (r : Result (Unit {0}) RecordingError) (all : List PacketKindTag) (ends : Type 0) (old new : Recording) (before after : List ℕ)
-    → recorded.has_lost new ≡ recorded.has_lost old → TextLoses r all ends old new before after
-text_keeps r all ends old new before after e lost text items h = absurd (let no : true ≡ false = sym lost ∙ e ∙ h.stand.nothing_lost in cc)
+pub text_keeps : (all : List PacketKindTag) (ends : Type 0) (old new : Recording) (before after : List ℕ)
+    → recorded.has_lost new ≡ recorded.has_lost old → TextLoses all ends old new before after
+text_keeps all ends old new before after e lost text items h = absurd (let no : true ≡ false = sym lost ∙ e ∙ h.stand.nothing_lost in cc)
 
 -- an incomplete line is lost
-waits_loses : (r : Result (Unit {0}) RecordingError) (all : List PacketKindTag) (ends : Type 0) (old new : Recording) (before after : List ℕ)
-    → LineLoses r all old new before after → recorded.has_lost new ≡ true → (text : List ℕ) (items : List Item) → Recorded old text items
-    → (mid : List ℕ) × IsLost all (recorded.layout old) (recorded.longest old) ends text items before mid × OnOk r (Stays mid after)
-waits_loses r all ends old new before after loses lost text items h =
+waits_loses : (all : List PacketKindTag) (ends : Type 0) (old new : Recording) (before after : List ℕ)
+    → LineLoses all old new before after → recorded.has_lost new ≡ true → (text : List ℕ) (items : List Item) → Recorded old text items
+    → (mid : List ℕ) × IsLost all (recorded.layout old) (recorded.longest old) ends text items before mid × Stays mid after
+waits_loses all ends old new before after loses lost text items h =
     let l = loses lost h.pieces items h.stand in
     (l.0, inl (record { side = old.line.side; bytes = old.line.bytes.items; shown = shown_of old text items h; loses = l.1 }), l.2)
 
-pub text_loses : (r : Result (Unit {0}) RecordingError) (all : List PacketKindTag) (ends : Type 0) (old new : Recording) (before after : List ℕ)
-    → LineLoses r all old new before after → TextLoses r all ends old new before after
-text_loses r all ends old new before after loses = λ lost text items h. waits_loses r all ends old new before after loses lost text items h
+pub text_loses : (all : List PacketKindTag) (ends : Type 0) (old new : Recording) (before after : List ℕ)
+    → LineLoses all old new before after → TextLoses all ends old new before after
+text_loses all ends old new before after loses = λ lost text items h. waits_loses all ends old new before after loses lost text items h
 
 -- a line with a mark
 mark_ends : (old : Recording) (text : List ℕ) (items : List Item) → Recorded old text items → old.line.is_untaken ≡ true → IsMark old.line.bytes.items → EndsInMark text items
@@ -165,30 +165,30 @@ mark_ends old text items h untaken mark =
     }
 
 -- a line that ends
-pub end_loses : (r : Result (Unit {0}) RecordingError) (all : List PacketKindTag) (ends : Type 0) (old new : Recording) (before after : List ℕ)
-    → LineEndLoses r all old new before after → ends → TextLoses r all ends old new before after
-end_loses r all ends old new before after (inl loses) here = text_loses r all ends old new before after loses
-end_loses r all ends old new before after (inr mark) here = λ lost text items h. (before, inr (mark_ends old text items h mark.0 mark.1, here, refl), mark.2)
+pub end_loses : (all : List PacketKindTag) (ends : Type 0) (old new : Recording) (before after : List ℕ)
+    → LineEndLoses all old new before after → ends → TextLoses all ends old new before after
+end_loses all ends old new before after (inl loses) here = text_loses all ends old new before after loses
+end_loses all ends old new before after (inr mark) here = λ lost text items h. (before, inr (mark_ends old text items h mark.0 mark.1, here, refl), mark.2)
 
 -- the byte that ends a line
-pub feed_loses : (r : Result (Unit {0}) RecordingError) (all : List PacketKindTag) (old mid new : Recording) (c : ℕ) (before after : List ℕ)
+pub feed_loses : (all : List PacketKindTag) (old mid new : Recording) (c : ℕ) (before after : List ℕ)
     → ((line : List ℕ) (said : List Heard) → Stands old.place line said → Passes (Some says.End) c line said mid.place) → mid.line ≡ old.line → mid.sides ≡ old.sides
-    → LineEndLoses r all mid new before after → TextLoses r all (c ≡ 10) old new before after
-feed_loses r all old mid new c before after passes line same loses lost text items h =
+    → LineEndLoses all mid new before after → TextLoses all (c ≡ 10) old new before after
+feed_loses all old mid new c before after passes line same loses lost text items h =
     let feed : c ≡ 10 = (passes h.read.1 h.read.2 h.read.6).0 in
-    let back : LineEndLoses r all old new before after =
-    subst (λ l. PieceLoses r all l.side l.bytes.items old.sides new.sides before after ⊎ ((l.is_untaken ≡ true) × IsMark l.bytes.items × OnOk r (Stays before after))) line
-    (subst (λ s. PieceLoses r all mid.line.side mid.line.bytes.items s new.sides before after ⊎ ((mid.line.is_untaken ≡ true) × IsMark mid.line.bytes.items × OnOk r (Stays before after))) same loses) in
-    end_loses r all (c ≡ 10) old new before after back feed lost text items h
+    let back : LineEndLoses all old new before after =
+    subst (λ l. PieceLoses all l.side l.bytes.items old.sides new.sides before after ⊎ ((l.is_untaken ≡ true) × IsMark l.bytes.items × Stays before after)) line
+    (subst (λ s. PieceLoses all mid.line.side mid.line.bytes.items s new.sides before after ⊎ ((mid.line.is_untaken ≡ true) × IsMark mid.line.bytes.items × Stays before after)) same loses) in
+    end_loses all (c ≡ 10) old new before after back feed lost text items h
 
 -- ---- one step after another
 
 -- appending changes nothing else
-pub then_loses : (q r : Result (Unit {0}) RecordingError) (all : List PacketKindTag) (ends : Type 0) (old mid new : Recording) (x y z : List ℕ)
-    → TextLoses q all ends old mid x y → recorded.has_lost new ≡ recorded.has_lost mid → ((m : List ℕ) → OnOk q (Stays m y) → OnOk r (Stays m z)) → TextLoses r all ends old new x z
-then_loses q r all ends old mid new x y z loses same stays lost text items h =
+pub then_loses : (all : List PacketKindTag) (ends : Type 0) (old mid new : Recording) (x y z : List ℕ)
+    → TextLoses all ends old mid x y → recorded.has_lost new ≡ recorded.has_lost mid → Stays y z → TextLoses all ends old new x z
+then_loses all ends old mid new x y z loses same stays lost text items h =
     let l = loses (sym same ∙ lost) text items h in
-    (l.0, l.1, stays l.0 l.2)
+    (l.0, l.1, stays_then l.0 y z l.2 stays)
 
 pub is_lost_where : (all : List PacketKindTag) (layout : Layout) (limit : ℕ) (ends others : Type 0) (text : List ℕ) (items : List Item) (before after : List ℕ)
     → (ends → others) → IsLost all layout limit ends text items before after → IsLost all layout limit others text items before after
@@ -198,16 +198,16 @@ is_lost_where all layout limit ends others text items before after f (inr h) = i
 pub feed_more : (back more : List ℕ) → IsAtFeed back → IsAtFeed (back ++ more)
 feed_more back more h = (h.0 ++ more, ap (λ t. t ++ more) h.1)
 
-pub loses_none : (r : Result (Unit {0}) RecordingError) (all : List PacketKindTag) (input : List ℕ) (old new : Recording) (before after : List ℕ)
-    → recorded.has_lost new ≡ recorded.has_lost old → Loses r all input old new before after
-loses_none r all input old new before after e lost text items h = absurd (let no : true ≡ false = sym lost ∙ e ∙ h.stand.nothing_lost in cc)
+pub loses_none : (all : List PacketKindTag) (input : List ℕ) (old new : Recording) (before after : List ℕ)
+    → recorded.has_lost new ≡ recorded.has_lost old → Loses all input old new before after
+loses_none all input old new before after e lost text items h = absurd (let no : true ≡ false = sym lost ∙ e ∙ h.stand.nothing_lost in cc)
 
-pub loses_then : (r : Result (Unit {0}) RecordingError) (all : List PacketKindTag) (ends : Type 0) (a b : List ℕ) (old mid new : Recording) (x y z : List ℕ)
-    → recorded.GoesOn a old mid x y → Loses (Ok tt) all a old mid x y → recorded.layout mid ≡ recorded.layout old → recorded.longest mid ≡ recorded.longest old
-    → TextLoses r all ends mid new y z → (ends → IsAtFeed b) → OnOk r (Stays y z) → Loses r all (a ++ b) old new x z
-loses_then r all ends a b old mid new x y z first before same long loses feed stays lost text items h =
+pub loses_then : (all : List PacketKindTag) (ends : Type 0) (a b : List ℕ) (old mid new : Recording) (x y z : List ℕ)
+    → recorded.GoesOn a old mid x y → Loses all a old mid x y → recorded.layout mid ≡ recorded.layout old → recorded.longest mid ≡ recorded.longest old
+    → TextLoses all ends mid new y z → (ends → IsAtFeed b) → Stays y z → Loses all (a ++ b) old new x z
+loses_then all ends a b old mid new x y z first before same long loses feed stays lost text items h =
     elim (first text items h) as (λ _. (front : List ℕ) × (back : List ℕ) × (here : List Item) × (shown : List ℕ) × (m : List ℕ) × (a ++ b ≡ front ++ back)
-    × Writes (recorded.layout old) items here x shown × IsLost all (recorded.layout old) (recorded.longest old) (IsAtFeed back) (text ++ front) (items ++ here) shown m × OnOk r (Stays m z)) [
+    × Writes (recorded.layout old) items here x shown × IsLost all (recorded.layout old) (recorded.longest old) (IsAtFeed back) (text ++ front) (items ++ here) shown m × Stays m z) [
       | inl e ↦ (let l = before e text items h in (
         l.0,
         l.1 ++ b,
@@ -217,7 +217,7 @@ loses_then r all ends a b old mid new x y z first before same long loses feed st
         ap (λ t. t ++ b) l.5 ∙ append_assoc l.0 l.1 b,
         l.6,
         is_lost_where all (recorded.layout old) (recorded.longest old) (IsAtFeed l.1) (IsAtFeed (l.1 ++ b)) (text ++ l.0) (items ++ l.2) l.3 l.4 (feed_more l.1 b) l.7,
-        on_ok_then r l.4 y z l.8 stays,
+        stays_then l.4 y z l.8 stays,
       ))
       | inr f ↦ (let l = loses lost (text ++ a) (items ++ f.0) f.1 in (
         a,
@@ -237,23 +237,23 @@ loses_then r all ends a b old mid new x y z first before same long loses feed st
 -- ---- the bytes of an input, in order
 
 pub loop_loses : (all : List PacketKindTag) (xs : List ℕ) (i c : ℕ) (old mid new : Recording) (x y z : List ℕ) → i < length xs → c ≡ get_or xs i 0
-    → recorded.GoesOn (take i xs) old mid x y → Loses (Ok tt) all (take i xs) old mid x y → recorded.layout mid ≡ recorded.layout old → recorded.longest mid ≡ recorded.longest old
-    → TextLoses (Ok tt) all (c ≡ 10) mid new y z → Stays y z → Loses (Ok tt) all (take (i + 1) xs) old new x z
+    → recorded.GoesOn (take i xs) old mid x y → Loses all (take i xs) old mid x y → recorded.layout mid ≡ recorded.layout old → recorded.longest mid ≡ recorded.longest old
+    → TextLoses all (c ≡ 10) mid new y z → Stays y z → Loses all (take (i + 1) xs) old new x z
 loop_loses all xs i c old mid new x y z below is first before same long loses stays =
-    subst (λ t. Loses (Ok tt) all t old new x z) (ap (λ b. take i xs ++ b ∷ []) is ∙ sym (take_more xs i 0 below))
-    (loses_then (Ok tt) all (c ≡ 10) (take i xs) (c ∷ []) old mid new x y z first before same long loses (λ e. ([], ap (λ b. b ∷ []) e)) stays)
+    subst (λ t. Loses all t old new x z) (ap (λ b. take i xs ++ b ∷ []) is ∙ sym (take_more xs i 0 below))
+    (loses_then all (c ≡ 10) (take i xs) (c ∷ []) old mid new x y z first before same long loses (λ e. ([], ap (λ b. b ∷ []) e)) stays)
 
-pub rest_loses : (r : Result (Unit {0}) RecordingError) (all : List PacketKindTag) (xs : List ℕ) (n : ℕ) (old mid new : Recording) (x y z : List ℕ) → take n xs ≡ xs
-    → recorded.GoesOn (take n xs) old mid x y → Loses (Ok tt) all (take n xs) old mid x y → recorded.layout mid ≡ recorded.layout old → recorded.longest mid ≡ recorded.longest old
-    → TextLoses r all ⊥ mid new y z → OnOk r (Stays y z) → Loses r all xs old new x z
-rest_loses r all xs n old mid new x y z whole first before same long loses stays =
-    subst (λ t. Loses r all t old new x z) (append-nil (take n xs) ∙ whole)
-    (loses_then r all ⊥ (take n xs) [] old mid new x y z first before same long loses (λ no. absurd no) stays)
+pub rest_loses : (all : List PacketKindTag) (xs : List ℕ) (n : ℕ) (old mid new : Recording) (x y z : List ℕ) → take n xs ≡ xs
+    → recorded.GoesOn (take n xs) old mid x y → Loses all (take n xs) old mid x y → recorded.layout mid ≡ recorded.layout old → recorded.longest mid ≡ recorded.longest old
+    → TextLoses all ⊥ mid new y z → Stays y z → Loses all xs old new x z
+rest_loses all xs n old mid new x y z whole first before same long loses stays =
+    subst (λ t. Loses all t old new x z) (append-nil (take n xs) ∙ whole)
+    (loses_then all ⊥ (take n xs) [] old mid new x y z first before same long loses (λ no. absurd no) stays)
 
-pub byte_loses : (r : Result (Unit {0}) RecordingError) (all : List PacketKindTag) (xs : List ℕ) (i c : ℕ) (old mid new : Recording) (x y z : List ℕ) → i < length xs → c ≡ get_or xs i 0
-    → recorded.GoesOn (take i xs) old mid x y → Loses (Ok tt) all (take i xs) old mid x y → recorded.layout mid ≡ recorded.layout old → recorded.longest mid ≡ recorded.longest old
-    → TextLoses r all (c ≡ 10) mid new y z → OnOk r (Stays y z) → Loses r all xs old new x z
-byte_loses r all xs i c old mid new x y z below is first before same long loses stays =
-    subst (λ t. Loses r all t old new x z) (take-append-drop i xs)
-    (loses_then r all (c ≡ 10) (take i xs) (drop i xs) old mid new x y z first before same long loses
+pub byte_loses : (all : List PacketKindTag) (xs : List ℕ) (i c : ℕ) (old mid new : Recording) (x y z : List ℕ) → i < length xs → c ≡ get_or xs i 0
+    → recorded.GoesOn (take i xs) old mid x y → Loses all (take i xs) old mid x y → recorded.layout mid ≡ recorded.layout old → recorded.longest mid ≡ recorded.longest old
+    → TextLoses all (c ≡ 10) mid new y z → Stays y z → Loses all xs old new x z
+byte_loses all xs i c old mid new x y z below is first before same long loses stays =
+    subst (λ t. Loses all t old new x z) (take-append-drop i xs)
+    (loses_then all (c ≡ 10) (take i xs) (drop i xs) old mid new x y z first before same long loses
     (λ e. (drop (i + 1) xs, rw add-one (drop-cons xs i 0 below ∙ ap (λ b. b ∷ drop (suc i) xs) (sym is ∙ e)))) stays)

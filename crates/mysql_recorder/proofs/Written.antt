@@ -46,25 +46,25 @@ error_after layout sums e t a b c status first h =
 
 -- the clause of `push` for an empty output
 pub takes_of : (r : Result (Unit {0}) RecordingError) (all : List PacketKindTag) (p : List ℕ) (old new : Recording) (before t : List ℕ) → before ≡ []
-    → OnOk r (GoesOn p old new before t) → IfErr r (λ e. Stops all p old new e before t) → Loses r all p old new before t
+    → OnOk r (GoesOn p old new before t) → IfErr r (λ e. Stops all p old new e before t) → Loses all p old new before t
     → (recorded.has_lost old ≡ true → recorded.has_lost new ≡ true) → recorded.layout new ≡ recorded.layout old → recorded.longest new ≡ recorded.longest old
     → Takes r all p old new t
 takes_of r all p old new before t none goes refused loses lost layout longest = record {
   goes = subst (λ b. OnOk r (GoesOn p old new b t)) none goes;
   refused = subst (λ b. IfErr r (λ e. Stops all p old new e b t)) none refused;
-  loses = subst (λ b. Loses r all p old new b t) none loses;
+  loses = subst (λ b. Loses all p old new b t) none loses;
   lost = lost;
   layout = layout;
   longest = longest;
 }
 
 pub ends_of : (r : Result (Unit {0}) RecordingError) (all : List PacketKindTag) (old new : Recording) (before t : List ℕ) → before ≡ []
-    → OnOk r (Finishes old new before t) → IfErr r (λ e. TextStops all old e before t) → TextLoses r all (Unit {0}) old new before t
+    → OnOk r (Finishes old new before t) → IfErr r (λ e. TextStops all old e before t) → TextLoses all (Unit {0}) old new before t
     → (recorded.has_lost old ≡ true → recorded.has_lost new ≡ true) → Ends r all old new t
 ends_of r all old new before t none finishes refused loses lost = record {
   finishes = subst (λ b. OnOk r (Finishes old new b t)) none finishes;
   refused = subst (λ b. IfErr r (λ e. TextStops all old e b t)) none refused;
-  loses = subst (λ b. TextLoses r all (Unit {0}) old new b t) none loses;
+  loses = subst (λ b. TextLoses all (Unit {0}) old new b t) none loses;
   lost = lost;
 }
 

@@ -152,7 +152,7 @@ IsRun all words before after old new status = IsCallAnswered all (call_of words)
 pub record Takes (r : Result (Unit {0}) RecordingError) (all : List PacketKindTag) (piece : List ℕ) (old new : Recording) (text : List ℕ) : Type 0 where
   pub goes : OnOk r (GoesOn piece old new [] text)
   pub refused : IfErr r (λ e. Stops all piece old new e [] text)
-  pub loses : Loses r all piece old new [] text
+  pub loses : Loses all piece old new [] text
   pub lost : recorded.has_lost old ≡ true → recorded.has_lost new ≡ true
   pub layout : recorded.layout new ≡ recorded.layout old
   pub longest : recorded.longest new ≡ recorded.longest old
@@ -161,7 +161,7 @@ pub record Takes (r : Result (Unit {0}) RecordingError) (all : List PacketKindTa
 pub record Ends (r : Result (Unit {0}) RecordingError) (all : List PacketKindTag) (old new : Recording) (text : List ℕ) : Type 0 where
   pub finishes : OnOk r (Finishes old new [] text)
   pub refused : IfErr r (λ e. TextStops all old e [] text)
-  pub loses : TextLoses r all (Unit {0}) old new [] text
+  pub loses : TextLoses all (Unit {0}) old new [] text
   pub lost : recorded.has_lost old ≡ true → recorded.has_lost new ≡ true
 
 -- the sums are written, and the status; or memory ran out for them

@@ -1,5 +1,5 @@
 -- Where something of a recording is lost.
-use Rattle.std.specs.Prelude.{◌≡◌, ◌⊎◌, ℕ, ◌≤◌, true, List, [], ◌∷◌, ◌++◌, length, slice_index, Result, OnOk}
+use Rattle.std.specs.Prelude.{◌≡◌, ◌⊎◌, ℕ, ◌≤◌, true, List, [], ◌∷◌, ◌++◌, length, slice_index}
 use Rattle.mysql_conversation.specs.Session.{IsSessionBeginning}
 use Rattle.mysql_conversation.specs.declared.packet_kind.Side.{Side}
 use Rattle.mysql_conversation.specs.declared.packet_kind_tag.PacketKindTag.{PacketKindTag}
@@ -15,7 +15,6 @@ use Rattle.mysql_recorder.specs.Shown.{Item, placed, Writes}
 use Rattle.mysql_recorder.specs.Sides.{Stand}
 use Rattle.mysql_recorder.specs.Sides as sides
 use Rattle.mysql_recorder.specs.Stops.{StopsIn}
-use Rattle.mysql_recorder.specs.declared.error.RecordingError.{RecordingError}
 use Rattle.mysql_recorder.specs.declared.line.Place.{Place}
 use Rattle.mysql_recorder.specs.declared.recording.Recording.{Recording}
 use Rattle.mysql_recorder.specs.declared.sides.Sides.{Sides}
@@ -51,22 +50,22 @@ PieceLosesIn all side bytes s before after = (pieces : List Piece) (items : List
     → LosesIn all (sides.layout s) (sides.longest s) side (of_side side s.client.reader.held s.server.reader.held ++ bytes) items before after
 
 -- if something is lost now, it is lost in the piece, and what was shown stays
-abbrev pub PieceLoses : Result (Unit {0}) RecordingError → List PacketKindTag → Side → List ℕ → Sides → Sides → List ℕ → List ℕ → Type 0
-PieceLoses r all side bytes old new before after = sides.has_lost new ≡ true → (pieces : List Piece) (items : List Item) → Stand old pieces items
+abbrev pub PieceLoses : List PacketKindTag → Side → List ℕ → Sides → Sides → List ℕ → List ℕ → Type 0
+PieceLoses all side bytes old new before after = sides.has_lost new ≡ true → (pieces : List Piece) (items : List Item) → Stand old pieces items
     → (mid : List ℕ)
     × LosesIn all (sides.layout old) (sides.longest old) side (of_side side old.client.reader.held old.server.reader.held ++ bytes) items before mid
-    × OnOk r (Stays mid after)
+    × Stays mid after
 
 -- ---- lines
 
 -- the same for the pending part of a line
-abbrev pub LineLoses : Result (Unit {0}) RecordingError → List PacketKindTag → Recording → Recording → List ℕ → List ℕ → Type 0
-LineLoses r all old new before after = PieceLoses r all old.line.side old.line.bytes.items old.sides new.sides before after
+abbrev pub LineLoses : List PacketKindTag → Recording → Recording → List ℕ → List ℕ → Type 0
+LineLoses all old new before after = PieceLoses all old.line.side old.line.bytes.items old.sides new.sides before after
 
 -- for a line that ends: something is lost in the pending part, or the whole line is pending and is a mark for missing bytes
-abbrev pub LineEndLoses : Result (Unit {0}) RecordingError → List PacketKindTag → Recording → Recording → List ℕ → List ℕ → Type 0
-LineEndLoses r all old new before after =
-    LineLoses r all old new before after ⊎ ((old.line.is_untaken ≡ true) × IsMark old.line.bytes.items × OnOk r (Stays before after))
+abbrev pub LineEndLoses : List PacketKindTag → Recording → Recording → List ℕ → List ℕ → Type 0
+LineEndLoses all old new before after =
+    LineLoses all old new before after ⊎ ((old.line.is_untaken ≡ true) × IsMark old.line.bytes.items × Stays before after)
 
 -- ---- texts
 
@@ -95,16 +94,16 @@ abbrev pub IsLost : List PacketKindTag → Layout → ℕ → Type 0 → List �
 IsLost all layout limit ends text items before after =
     LosesAfter all layout limit text items before after ⊎ (EndsInMark text items × ends × (before ≡ after))
 
-abbrev pub TextLoses : Result (Unit {0}) RecordingError → List PacketKindTag → Type 0 → Recording → Recording → List ℕ → List ℕ → Type 0
-TextLoses r all ends old new before after = has_lost new ≡ true → (text : List ℕ) (items : List Item) → Recorded old text items
-    → (mid : List ℕ) × IsLost all (layout old) (longest old) ends text items before mid × OnOk r (Stays mid after)
+abbrev pub TextLoses : List PacketKindTag → Type 0 → Recording → Recording → List ℕ → List ℕ → Type 0
+TextLoses all ends old new before after = has_lost new ≡ true → (text : List ℕ) (items : List Item) → Recorded old text items
+    → (mid : List ℕ) × IsLost all (layout old) (longest old) ends text items before mid × Stays mid after
 
 -- these bytes begin with a line feed
 abbrev pub IsAtFeed : List ℕ → Type 0
 IsAtFeed bytes = (rest : List ℕ) × (bytes ≡ 10 ∷ rest)
 
 -- If something is lost now, it is lost after a prefix of the input, whose packets are shown. What was shown stays.
-abbrev pub Loses : Result (Unit {0}) RecordingError → List PacketKindTag → List ℕ → Recording → Recording → List ℕ → List ℕ → Type 0
-Loses r all input old new before after = has_lost new ≡ true → (text : List ℕ) (items : List Item) → Recorded old text items
+abbrev pub Loses : List PacketKindTag → List ℕ → Recording → Recording → List ℕ → List ℕ → Type 0
+Loses all input old new before after = has_lost new ≡ true → (text : List ℕ) (items : List Item) → Recorded old text items
     → (front : List ℕ) × (back : List ℕ) × (here : List Item) × (shown : List ℕ) × (mid : List ℕ) × (input ≡ front ++ back)
-    × Writes (layout old) items here before shown × IsLost all (layout old) (longest old) (IsAtFeed back) (text ++ front) (items ++ here) shown mid × OnOk r (Stays mid after)
+    × Writes (layout old) items here before shown × IsLost all (layout old) (longest old) (IsAtFeed back) (text ++ front) (items ++ here) shown mid × Stays mid after

@@ -154,7 +154,7 @@ impl Recording {
         ensures deciphered { spec.is_deciphered self.new ≡ spec.is_deciphered self.old }
         ensures sums { spec.has_sums self.new ≡ spec.has_sums self.old }
         ensures refused { IfErr result (λ e. Stops PacketKindTag.ALL input.now self.old self.new e (string_bytes out.old) (string_bytes out.new)) }
-        ensures loses { Loses result PacketKindTag.ALL input.now self.old self.new (string_bytes out.old) (string_bytes out.new) }
+        ensures loses { Loses PacketKindTag.ALL input.now self.old self.new (string_bytes out.old) (string_bytes out.new) }
         ensures text { Stays (string_bytes out.old) (string_bytes out.new) }
         // The error is `Line` only where a line of the input is none of a recording's, and then it is an error.
         ensures place { OnOk result (place_after (spec.place self.old) input.now ≡ Some (spec.place self.new)) }
@@ -172,7 +172,7 @@ impl Recording {
         ensures lost { spec.has_lost self.old ≡ true → spec.has_lost self.new ≡ true }
         ensures settings { spec.KeepsSettings self.old self.new }
         ensures refused { IfErr result (λ e. TextStops PacketKindTag.ALL self.old e (string_bytes out.old) (string_bytes out.new)) }
-        ensures loses { TextLoses result PacketKindTag.ALL ⊥ self.old self.new (string_bytes out.old) (string_bytes out.new) }
+        ensures loses { TextLoses PacketKindTag.ALL ⊥ self.old self.new (string_bytes out.old) (string_bytes out.new) }
         ensures text { Stays (string_bytes out.old) (string_bytes out.new) }
         ensures no_line { IfErr result (λ e. IfLine e ⊥) }
         ensures place { self.new.place ≡ self.old.place }
@@ -190,7 +190,7 @@ impl Recording {
         ensures lost { spec.has_lost self.old ≡ true → spec.has_lost self.new ≡ true }
         ensures settings { spec.KeepsSettings self.old self.new }
         ensures refused { IfErr result (λ e. TextStops PacketKindTag.ALL self.old e (string_bytes out.old) (string_bytes out.new)) }
-        ensures loses { TextLoses result PacketKindTag.ALL (byte ≡ 10) self.old self.new (string_bytes out.old) (string_bytes out.new) }
+        ensures loses { TextLoses PacketKindTag.ALL (byte ≡ 10) self.old self.new (string_bytes out.old) (string_bytes out.new) }
         ensures text { Stays (string_bytes out.old) (string_bytes out.new) }
         ensures place { OnOk result (next_place self.old.place byte ≡ Some self.new.place) }
         ensures line { IfErr result (λ e. IfLine e (next_place self.old.place byte ≡ None)) }
@@ -216,7 +216,7 @@ impl Recording {
         ensures deciphered { spec.is_deciphered self.new ≡ spec.is_deciphered self.old }
         ensures sums { spec.has_sums self.new ≡ spec.has_sums self.old }
         ensures refused { IfErr result (λ e. TextStops PacketKindTag.ALL self.old e (string_bytes out.old) (string_bytes out.new)) }
-        ensures loses { TextLoses result PacketKindTag.ALL (Unit {0}) self.old self.new (string_bytes out.old) (string_bytes out.new) }
+        ensures loses { TextLoses PacketKindTag.ALL (Unit {0}) self.old self.new (string_bytes out.old) (string_bytes out.new) }
         ensures text { Stays (string_bytes out.old) (string_bytes out.new) }
         ensures no_line { IfErr result (λ e. IfLine e ⊥) }
     {
@@ -240,7 +240,7 @@ impl Recording {
         ensures place { self.new.place ≡ self.old.place }
         ensures line { OnOk result (self.new.line.bytes.items ≡ []) }
         ensures refused { IfErr result (λ e. LineStops PacketKindTag.ALL self.old e (string_bytes out.old) (string_bytes out.new)) }
-        ensures loses { LineEndLoses result PacketKindTag.ALL self.old self.new (string_bytes out.old) (string_bytes out.new) }
+        ensures loses { LineEndLoses PacketKindTag.ALL self.old self.new (string_bytes out.old) (string_bytes out.new) }
         ensures text { Stays (string_bytes out.old) (string_bytes out.new) }
         ensures untaken { self.new.line.is_untaken ≡ true }
         ensures no_line { IfErr result (λ e. IfLine e ⊥) }
@@ -258,7 +258,7 @@ impl Recording {
         ensures place { self.new.place ≡ self.old.place }
         ensures line { OnOk result (self.new.line.bytes.items ≡ []) }
         ensures refused { IfErr result (λ e. LineStops PacketKindTag.ALL self.old e (string_bytes out.old) (string_bytes out.new)) }
-        ensures loses { LineEndLoses result PacketKindTag.ALL self.old self.new (string_bytes out.old) (string_bytes out.new) }
+        ensures loses { LineEndLoses PacketKindTag.ALL self.old self.new (string_bytes out.old) (string_bytes out.new) }
         ensures text { Stays (string_bytes out.old) (string_bytes out.new) }
         ensures no_line { IfErr result (λ e. IfLine e ⊥) }
     {
@@ -293,7 +293,7 @@ impl Recording {
         ensures place { self.new.place ≡ self.old.place }
         ensures line { OnOk result (self.new.line.bytes.items ≡ []) }
         ensures refused { IfErr result (λ e. LineStops PacketKindTag.ALL self.old e (string_bytes out.old) (string_bytes out.new)) }
-        ensures loses { LineLoses result PacketKindTag.ALL self.old self.new (string_bytes out.old) (string_bytes out.new) }
+        ensures loses { LineLoses PacketKindTag.ALL self.old self.new (string_bytes out.old) (string_bytes out.new) }
         ensures text { Stays (string_bytes out.old) (string_bytes out.new) }
         ensures taken { self.new.line.is_untaken ≡ false }
         ensures no_line { IfErr result (λ e. IfLine e ⊥) }

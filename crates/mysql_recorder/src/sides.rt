@@ -147,7 +147,7 @@ impl Sides {
         ensures refused { IfErr result (λ e. PieceStops PacketKindTag.ALL side piece.now self.old e (string_bytes out.old) (string_bytes out.new)) }
         ensures lost { spec.has_lost self.old ≡ true → spec.has_lost self.new ≡ true }
         ensures settings { spec.KeepsSettings self.old self.new }
-        ensures loses { PieceLoses result PacketKindTag.ALL side piece.now self.old self.new (string_bytes out.old) (string_bytes out.new) }
+        ensures loses { PieceLoses PacketKindTag.ALL side piece.now self.old self.new (string_bytes out.old) (string_bytes out.new) }
         ensures text { Stays (string_bytes out.old) (string_bytes out.new) }
         ensures no_line { IfErr result (λ e. IfLine e ⊥) }
     {
@@ -335,7 +335,7 @@ impl Sides {
         ensures refused { IfErr result (λ e. PieceStops PacketKindTag.ALL side piece.now self.old e (string_bytes out.old) (string_bytes out.new)) }
         ensures lost { spec.has_lost self.old ≡ true → spec.has_lost self.new ≡ true }
         ensures settings { spec.KeepsSettings self.old self.new }
-        ensures loses { PieceLoses result PacketKindTag.ALL side piece.now self.old self.new (string_bytes out.old) (string_bytes out.new) }
+        ensures loses { PieceLoses PacketKindTag.ALL side piece.now self.old self.new (string_bytes out.old) (string_bytes out.new) }
         ensures text { Stays (string_bytes out.old) (string_bytes out.new) }
         ensures no_line { IfErr result (λ e. IfLine e ⊥) }
     {

@@ -1,10 +1,8 @@
-use Rattle.std.proofs.Common.{◌≡◌, Ok, Err, IfErr, refl, sym, subst, string_bytes}
+use Rattle.std.proofs.Common.{◌≡◌, Err, IfErr, refl, sym, subst, string_bytes}
 use Rattle.std.proofs.lemmas.Result.{err_from_is_err_and}
 use Rattle.mysql_conversation.specs.declared.packet_kind_tag.TheConstants.PacketKindTag.{ALL}
-use Rattle.mysql_recorder.specs.Losses.{TextLoses}
 use Rattle.mysql_recorder.proofs.Losses.{end_loses, then_loses}
 use Rattle.mysql_recorder.proofs.Seen.{finishes}
-use Rattle.mysql_recorder.proofs.Stays.{stays_then}
 use Rattle.mysql_recorder.proofs.Stopped.{text_stops}
 use Rattle.mysql_recorder.specs.Stops.{TextStops}
 use Rattle.mysql_recorder.proofs.recording.Recording.finish.Goals as goal
@@ -16,25 +14,19 @@ returns-clause-finishes c =
 
 pub returns-clause-loses : goal.returns-clause-loses
 returns-clause-loses c =
-    then_loses (Ok tt) (Ok tt) ALL (Unit {0}) c.args.self.now c.end_line.new.self c.end_line.new.self (string_bytes c.args.out.now) (string_bytes c.end_line.new.out) (string_bytes c.say_unheard.new.out)
-    (end_loses (Ok tt) ALL (Unit {0}) c.args.self.now c.end_line.new.self (string_bytes c.args.out.now) (string_bytes c.end_line.new.out) c.in_ok-end_line.ensures.loses tt)
-    refl (λ m h. stays_then m (string_bytes c.end_line.new.out) (string_bytes c.say_unheard.new.out) h c.in_ok-say_unheard.ensures.stays)
+    then_loses ALL (Unit {0}) c.args.self.now c.end_line.new.self c.end_line.new.self (string_bytes c.args.out.now) (string_bytes c.end_line.new.out) (string_bytes c.say_unheard.new.out)
+    (end_loses ALL (Unit {0}) c.args.self.now c.end_line.new.self (string_bytes c.args.out.now) (string_bytes c.end_line.new.out) c.end_line.ensures.loses tt)
+    refl c.say_unheard.ensures.stays
 
 pub returns-in_err-end_line-clause-loses : goal.returns-in_err-end_line-clause-loses
 returns-in_err-end_line-clause-loses c =
-    let p = err_from_is_err_and c.from_residual.result c.from_residual.ensures.1 in
-    subst (λ r. TextLoses r ALL (Unit {0}) c.args.self.now c.end_line.new.self (string_bytes c.args.out.now) (string_bytes c.end_line.new.out)) (sym p.1)
-    (then_loses c.end_line.result (Err p.0) ALL (Unit {0}) c.args.self.now c.end_line.new.self c.end_line.new.self (string_bytes c.args.out.now) (string_bytes c.end_line.new.out) (string_bytes c.end_line.new.out)
-    (end_loses c.end_line.result ALL (Unit {0}) c.args.self.now c.end_line.new.self (string_bytes c.args.out.now) (string_bytes c.end_line.new.out) c.end_line.ensures.loses tt)
-    refl (λ m h. tt))
+    end_loses ALL (Unit {0}) c.args.self.now c.end_line.new.self (string_bytes c.args.out.now) (string_bytes c.end_line.new.out) c.end_line.ensures.loses tt
 
 pub returns-in_err-say_unheard-clause-loses : goal.returns-in_err-say_unheard-clause-loses
 returns-in_err-say_unheard-clause-loses c =
-    let p = err_from_is_err_and c.from_residual-in_err-say_unheard.result c.from_residual-in_err-say_unheard.ensures.1 in
-    subst (λ r. TextLoses r ALL (Unit {0}) c.args.self.now c.end_line.new.self (string_bytes c.args.out.now) (string_bytes c.say_unheard.new.out)) (sym p.1)
-    (then_loses c.end_line.result (Err p.0) ALL (Unit {0}) c.args.self.now c.end_line.new.self c.end_line.new.self (string_bytes c.args.out.now) (string_bytes c.end_line.new.out) (string_bytes c.say_unheard.new.out)
-    (end_loses c.end_line.result ALL (Unit {0}) c.args.self.now c.end_line.new.self (string_bytes c.args.out.now) (string_bytes c.end_line.new.out) c.end_line.ensures.loses tt)
-    refl (λ m h. tt))
+    then_loses ALL (Unit {0}) c.args.self.now c.end_line.new.self c.end_line.new.self (string_bytes c.args.out.now) (string_bytes c.end_line.new.out) (string_bytes c.say_unheard.new.out)
+    (end_loses ALL (Unit {0}) c.args.self.now c.end_line.new.self (string_bytes c.args.out.now) (string_bytes c.end_line.new.out) c.end_line.ensures.loses tt)
+    refl c.say_unheard.ensures.stays
 
 pub returns-in_err-end_line-clause-refused : goal.returns-in_err-end_line-clause-refused
 returns-in_err-end_line-clause-refused c =

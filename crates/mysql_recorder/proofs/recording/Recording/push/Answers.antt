@@ -1,8 +1,7 @@
-use Rattle.std.proofs.Common.{◌≡◌, Some, None, ap, Ok, Err, IfErr, get_or, take, refl, sym, subst, ◌∙◌, string_bytes}
+use Rattle.std.proofs.Common.{◌≡◌, Some, None, ap, IfErr, get_or, take, refl, sym, subst, ◌∙◌, string_bytes}
 use Rattle.mysql_conversation.specs.declared.packet_kind_tag.TheConstants.PacketKindTag.{ALL}
 use Rattle.std.proofs.lemmas.List.{take_all}
 use Rattle.std.proofs.lemmas.Result.{err_from_is_err_and}
-use Rattle.mysql_recorder.specs.Losses.{Loses}
 use Rattle.mysql_recorder.specs.Stops.{Stops}
 use Rattle.mysql_recorder.proofs.Goes.{loop_starts, loop_goes, loop_ends}
 use Rattle.mysql_recorder.specs.Lines.{next_place, place_after}
@@ -14,7 +13,7 @@ use Rattle.mysql_recorder.proofs.Stopped.{stops_after, stops_on_err}
 use Rattle.mysql_recorder.proofs.recording.Recording.push.Goals as goal
 
 pub loop-byte-init : goal.loop-byte-init
-loop-byte-init c = record { goes = loop_starts c.args.input.now c.args.self.now (string_bytes c.args.out.now); lost = λ e. e; layout = refl; longest = refl; may_wait = refl; deciphered = refl; sums = refl; loses = loses_none (Ok tt) ALL (take 0 c.args.input.now) c.args.self.now c.args.self.now (string_bytes c.args.out.now) (string_bytes c.args.out.now) refl; place = refl; text = stays_same (string_bytes c.args.out.now) }
+loop-byte-init c = record { goes = loop_starts c.args.input.now c.args.self.now (string_bytes c.args.out.now); lost = λ e. e; layout = refl; longest = refl; may_wait = refl; deciphered = refl; sums = refl; loses = loses_none ALL (take 0 c.args.input.now) c.args.self.now c.args.self.now (string_bytes c.args.out.now) (string_bytes c.args.out.now) refl; place = refl; text = stays_same (string_bytes c.args.out.now) }
 
 pub loop-byte-preserved : goal.loop-byte-preserved
 loop-byte-preserved c = record {
@@ -59,10 +58,10 @@ returns-in_err-take_byte-clause-refused c =
 
 pub returns-clause-loses : goal.returns-clause-loses
 returns-clause-loses c =
-    rest_loses c.take_rest.result ALL c.args.input.now c.loop-byte.byte-index c.args.self.now c.loop-byte.self c.take_rest.new.self
+    rest_loses ALL c.args.input.now c.loop-byte.byte-index c.args.self.now c.loop-byte.self c.take_rest.new.self
     (string_bytes c.args.out.now) (string_bytes c.loop-byte.out) (string_bytes c.take_rest.new.out)
     (take_all c.loop-byte.byte-index c.args.input.now c.loop-byte-test.false)
-    c.loop-byte.invariant.goes c.loop-byte.invariant.loses c.loop-byte.invariant.layout c.loop-byte.invariant.longest c.take_rest.ensures.loses (on_ok_of c.take_rest.result _ c.take_rest.ensures.text)
+    c.loop-byte.invariant.goes c.loop-byte.invariant.loses c.loop-byte.invariant.layout c.loop-byte.invariant.longest c.take_rest.ensures.loses c.take_rest.ensures.text
 
 pub returns-clause-text : goal.returns-clause-text
 returns-clause-text c =
@@ -70,11 +69,9 @@ returns-clause-text c =
 
 pub returns-in_err-take_byte-clause-loses : goal.returns-in_err-take_byte-clause-loses
 returns-in_err-take_byte-clause-loses c =
-    let p = err_from_is_err_and c.from_residual.result c.from_residual.ensures.1 in
-    subst (λ r. Loses r ALL c.args.input.now c.args.self.now c.take_byte.new.self (string_bytes c.args.out.now) (string_bytes c.take_byte.new.out)) (sym p.1)
-    (byte_loses (Err p.0) ALL c.args.input.now c.loop-byte.byte-index (get_or c.args.input.now c.loop-byte.byte-index 0) c.args.self.now c.loop-byte.self c.take_byte.new.self
+    byte_loses ALL c.args.input.now c.loop-byte.byte-index (get_or c.args.input.now c.loop-byte.byte-index 0) c.args.self.now c.loop-byte.self c.take_byte.new.self
     (string_bytes c.args.out.now) (string_bytes c.loop-byte.out) (string_bytes c.take_byte.new.out)
-    c.loop-byte-test.true refl c.loop-byte.invariant.goes c.loop-byte.invariant.loses c.loop-byte.invariant.layout c.loop-byte.invariant.longest c.in_err-take_byte.ensures.loses tt)
+    c.loop-byte-test.true refl c.loop-byte.invariant.goes c.loop-byte.invariant.loses c.loop-byte.invariant.layout c.loop-byte.invariant.longest c.take_byte.ensures.loses c.take_byte.ensures.text
 
 pub returns-clause-place : goal.returns-clause-place
 returns-clause-place c =

@@ -1,4 +1,4 @@
-use Rattle.std.proofs.Common.{◌≡◌, true, take, Ok, Some, string_bytes}
+use Rattle.std.proofs.Common.{◌≡◌, true, take, Some, string_bytes}
 use Rattle.mysql_conversation.specs.declared.packet_kind_tag.TheConstants.PacketKindTag.{ALL}
 use Rattle.mysql_show.specs.Appended.{Stays}
 use Rattle.mysql_recorder.specs.Lines.{place_after}
@@ -15,7 +15,7 @@ invariant-loop-byte l = record {
   may_wait : may_wait l.self ≡ may_wait l.fn.self;
   deciphered : is_deciphered l.self ≡ is_deciphered l.fn.self;
   sums : has_sums l.self ≡ has_sums l.fn.self;
-  loses : Loses (Ok tt) ALL (take l.byte-index l.input) l.fn.self l.self (string_bytes l.fn.out) (string_bytes l.out);
+  loses : Loses ALL (take l.byte-index l.input) l.fn.self l.self (string_bytes l.fn.out) (string_bytes l.out);
   place : place_after l.fn.self.place (take l.byte-index l.input) ≡ Some l.self.place;
   text : Stays (string_bytes l.fn.out) (string_bytes l.out);
 }

@@ -48,7 +48,7 @@ returns-in-Some-End-clause-refused c =
 pub returns-in-Some-End-clause-loses : goal.returns-in-Some-End-clause-loses
 returns-in-Some-End-clause-loses c =
     let found : c.in_ok-side.field-0 ≡ Some says.End = c.in-Some-End.is ∙ ap Some c.in-Some-End.field-0-is in
-    feed_loses c.end_line.result ALL c.args.self.now (record c.args.self.now { place = c.pass.new.self }) c.end_line.new.self c.args.byte
+    feed_loses ALL c.args.self.now (record c.args.self.now { place = c.pass.new.self }) c.end_line.new.self c.args.byte
     (string_bytes c.args.out.now) (string_bytes c.end_line.new.out)
     (subst (λ f. (line : List ℕ) (before : List Heard) → Stands c.args.self.now.place line before → Passes f c.args.byte line before c.pass.new.self) found c.in_ok-side.ensures.passes)
     refl refl c.end_line.ensures.loses

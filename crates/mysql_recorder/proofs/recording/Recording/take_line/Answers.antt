@@ -24,7 +24,7 @@ returns-clause-refused c =
 
 pub returns-clause-loses : goal.returns-clause-loses
 returns-clause-loses c =
-    line_loses c.take_line-taken.result ALL c.args.self.now
+    line_loses ALL c.args.self.now
     (record {
       alloc = c.args.self.now.alloc;
       place = c.args.self.now.place;

@@ -1,4 +1,4 @@
-use Rattle.std.proofs.Common.{Ok, refl, string_bytes}
+use Rattle.std.proofs.Common.{refl, string_bytes}
 use Rattle.mysql_conversation.specs.declared.packet_kind_tag.TheConstants.PacketKindTag.{ALL}
 use Rattle.mysql_recorder.proofs.Goes.{takes_on_ok, recorded_stays}
 use Rattle.mysql_recorder.proofs.Losses.{text_keeps, text_loses}
@@ -18,7 +18,7 @@ returns-then-may_be_taken-clause-refused c =
 
 pub returns-then-may_be_taken-clause-loses : goal.returns-then-may_be_taken-clause-loses
 returns-then-may_be_taken-clause-loses c =
-    text_loses c.take_line.result ALL ⊥ c.args.self.now c.take_line.new.self (string_bytes c.args.out.now) (string_bytes c.take_line.new.out) c.take_line.ensures.loses
+    text_loses ALL ⊥ c.args.self.now c.take_line.new.self (string_bytes c.args.out.now) (string_bytes c.take_line.new.out) c.take_line.ensures.loses
 
 pub returns-else-may_be_taken-clause-loses : goal.returns-else-may_be_taken-clause-loses
-returns-else-may_be_taken-clause-loses c = text_keeps (Ok tt) ALL ⊥ c.args.self.now c.args.self.now (string_bytes c.args.out.now) (string_bytes c.args.out.now) refl
+returns-else-may_be_taken-clause-loses c = text_keeps ALL ⊥ c.args.self.now c.args.self.now (string_bytes c.args.out.now) (string_bytes c.args.out.now) refl

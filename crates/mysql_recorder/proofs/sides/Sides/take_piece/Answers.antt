@@ -1,7 +1,6 @@
 use Rattle.std.proofs.Common.{[], ◌∷◌, string_bytes}
 use Rattle.mysql_conversation.specs.declared.packet_kind_tag.TheConstants.PacketKindTag.{ALL}
 use Rattle.mysql_recorder.specs.Sides.{piece}
-use Rattle.mysql_recorder.proofs.Lines.{on_ok_of}
 use Rattle.mysql_recorder.proofs.Losses.{came_loses}
 use Rattle.mysql_recorder.proofs.Stopped.{goes_on_came, piece_never}
 use Rattle.mysql_recorder.proofs.sides.Sides.take_piece.Goals as goal
@@ -18,5 +17,5 @@ returns-in-Ok-clause-refused c =
 
 pub returns-in-Ok-clause-loses : goal.returns-in-Ok-clause-loses
 returns-in-Ok-clause-loses c =
-    came_loses c.in-Ok.came c.go_on.result ALL c.args.side c.args.piece.now c.args.self.now c.read.new.self c.go_on.new.self (string_bytes c.args.out.now) (string_bytes c.read.new.out) (string_bytes c.go_on.new.out)
-    c.in-Ok.ensures.loses c.go_on.ensures.whole c.in-Ok.ensures.lost (on_ok_of c.go_on.result _ c.go_on.ensures.text)
+    came_loses c.in-Ok.came ALL c.args.side c.args.piece.now c.args.self.now c.read.new.self c.go_on.new.self (string_bytes c.args.out.now) (string_bytes c.read.new.out) (string_bytes c.go_on.new.out)
+    c.in-Ok.ensures.loses c.go_on.ensures.whole c.in-Ok.ensures.lost c.go_on.ensures.text
