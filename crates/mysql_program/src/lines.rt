@@ -1,6 +1,7 @@
 //! Lines that the program writes. None of their fields is a float.
 
 ghost use Rattle.std.specs.Prelude.{◌≡◌, ◌++◌, IfOk, OnOk, false, string_bytes};
+ghost use Rattle.mysql_show.specs.Appended.{Stays};
 ghost use Rattle.mysql_show.specs.Fields.{have_float};
 ghost use Rattle.mysql_show.specs.FieldText.{lines_of};
 ghost use Rattle.mysql_program.specs.Lines.{end_lines};
@@ -22,6 +23,7 @@ pub fn text_of(alloc: Global, fields: &[Field<'_>]) -> Result<String, AllocError
 pub fn append_lines(alloc: Global, out: &mut String, fields: &[Field<'_>]) -> Result<(), AllocError>
     requires { have_float fields.now ≡ false }
     ensures ok { OnOk result (string_bytes out.new ≡ string_bytes out.old ++ lines_of fields.now) }
+    ensures stays { Stays (string_bytes out.old) (string_bytes out.new) }
 {
     mysql_show::append_lines(alloc, out, fields)
 }
@@ -34,6 +36,7 @@ pub fn append_end(
     written: &[u8],
 ) -> Result<(), AllocError>
     ensures ok { OnOk result (string_bytes out.new ≡ string_bytes out.old ++ end_lines rest written.now) }
+    ensures stays { Stays (string_bytes out.old) (string_bytes out.new) }
 {
     let last = [
         Field::number("rest", rest as u64),

@@ -1,6 +1,6 @@
 //! The fields of a packet.
 
-ghost use Rattle.std.specs.Prelude.{◌≡◌, ◌++◌, OnOk, option_map};
+ghost use Rattle.std.specs.Prelude.{◌≡◌, ◌++◌, OnErr, OnOk, option_map};
 ghost use Rattle.mysql_values.specs.ParamValue.{param_content};
 ghost use Rattle.mysql_values.specs.ValueRef.{ref_content};
 ghost use Rattle.mysql_show.specs.Fields as spec;
@@ -157,12 +157,14 @@ impl<'a> Field<'a> {
     }
 }
 
-/// Appends fields.
+/// Appends fields. After an error the list is as it was.
 pub fn add_fields<'a>(more: &[Field<'a>], fields: &mut Vec<Field<'a>>) -> Result<(), AllocError>
     ensures ok { OnOk result (fields.new.items ≡ fields.old.items ++ more.now) }
+    ensures err { OnErr result (fields.new.items ≡ fields.old.items) }
 {
+    fields.reserve(more.len())?;
     for field in more {
-        fields.push(field.copied())?;
+        fields.push_reserved(field.copied());
     }
     Ok(())
 }

@@ -4,6 +4,7 @@ ghost use Rattle.std.specs.Prelude.{true, ◌≡◌, ◌++◌, IfOk, OnOk, strin
 ghost use Rattle.std.specs.List.{flat_map};
 ghost use Rattle.mysql_wire.specs.Reading.{Answers};
 ghost use Rattle.mysql_repl.specs.BinlogDumpGtid.{gtid_dump};
+ghost use Rattle.mysql_show.specs.Appended.{Stays};
 ghost use Rattle.mysql_program.specs.Answer.{done};
 ghost use Rattle.mysql_program.specs.Gtid as spec;
 
@@ -57,6 +58,7 @@ fn show(alloc: Global, packet: &ComBinlogDumpGtid<'_>, rest: usize) -> Result<An
 /// Appends a line for each sid.
 pub fn append_sids(alloc: Global, out: &mut String, sids: &[Sid<'_>]) -> Result<(), AllocError>
     ensures ok { OnOk result (string_bytes out.new ≡ string_bytes out.old ++ flat_map spec.sid_line sids.now) }
+    ensures stays { Stays (string_bytes out.old) (string_bytes out.new) }
 {
     for sid in sids {
         append_sid(alloc, out, sid)?;
@@ -66,6 +68,7 @@ pub fn append_sids(alloc: Global, out: &mut String, sids: &[Sid<'_>]) -> Result<
 
 fn append_sid(alloc: Global, out: &mut String, sid: &Sid<'_>) -> Result<(), AllocError>
     ensures ok { OnOk result (string_bytes out.new ≡ string_bytes out.old ++ spec.sid_line sid.now) }
+    ensures stays { Stays (string_bytes out.old) (string_bytes out.new) }
 {
     let shown = format!(in alloc; "{sid}")?;
     append_lines(alloc, out, &[Field::word("sid", shown.as_str())])
