@@ -1,5 +1,5 @@
 -- What the program writes for a reader's input.
-use Rattle.std.proofs.Common.{◌≡◌, ◌⊎◌, inl, take, ℕ, Bool, List, [], ◌++◌, Option, Some, None, refl, sym, subst, ◌∙◌, append-nil}
+use Rattle.std.proofs.Common.{◌≡◌, ◌⊎◌, inl, take, ℕ, Bool, List, [], ◌++◌, Option, Some, None, refl, sym, ap, subst, ◌∙◌, append-nil}
 use Rattle.std.proofs.KnownBytes.{Appends-nil, Appends-trans, Consumes-kept, Consumes-nil, Consumes-trans}
 use Rattle.std.specs.Io.KnownBytes.{Appends, Consumes, IsAtEnd, Keeps}
 use Rattle.mysql_conversation.specs.declared.packet_kind_tag.PacketKindTag.{PacketKindTag}
@@ -53,8 +53,8 @@ fed_more all layout limit from old new p before mid after a b c fed read h = rec
   read = Consumes-trans before mid after fed.input p fed.read read;
   written = Appends-trans a b c fed.text h.text fed.written h.written;
   amid = λ f. amid_more all layout limit old new fed.input p fed.text h.text fed.layout_is fed.longest_is h.takes (fed.amid f);
-  layout_is = h.takes.layout ∙ fed.layout_is;
-  longest_is = h.takes.longest ∙ fed.longest_is;
+  layout_is = ap (λ s. s.layout) h.takes.settings ∙ fed.layout_is;
+  longest_is = ap (λ s. s.longest) h.takes.settings ∙ fed.longest_is;
 }
 
 pub piece_answered : (all : List PacketKindTag) (layout : Layout) (limit : ℕ) (sums : Bool) (from : Type 0) (old new : Recording) (p : List ℕ) (before mid after a b c : Option (List ℕ)) (status : ℕ)

@@ -1,15 +1,15 @@
 -- Two steps in turn.
-use Rattle.std.proofs.Common.{◌≡◌, ◌⊎◌, inl, inr, ℕ, ◌+◌, ◌<◌, length, take, get_or, true, false, List, [], ◌∷◌, ◌++◌, Some, Result, Ok, Err, IfOk, OnOk, refl, sym, ap, subst, ◌∙◌, append_assoc, append-nil}
+use Rattle.std.proofs.Common.{◌≡◌, ◌⊎◌, inl, inr, ℕ, ◌+◌, ◌<◌, length, take, get_or, true, false, List, [], ◌∷◌, ◌++◌, Option, Some, Result, Ok, Err, IfOk, OnOk, refl, sym, ap, subst, ◌∙◌, append_assoc, append-nil}
 use Rattle.std.proofs.lemmas.List.{take_more}
 use Rattle.mysql_conversation.specs.declared.packet_kind.Side.{Side}
 use Rattle.mysql_conversation.specs.declared.packet_kind.Side.TheVariants as side
 use Rattle.mysql_observer.specs.Observed.{Observed}
-use Rattle.mysql_recorder.specs.Frames.{Piece, joined, AreFrames, NoneComes, IsNumbered, ComeIn}
+use Rattle.mysql_recorder.specs.Frames.{Piece, joined, AreFrames, NoneComes, IsNumbered}
 use Rattle.mysql_recorder.specs.Lines.{Heard, heard, IsRead, Stands, Passes}
 use Rattle.mysql_recorder.specs.Recorded as recorded
 use Rattle.mysql_recorder.specs.Recorded.{IsReadTo, Recorded, Takes}
 use Rattle.mysql_recorder.specs.Shown.{Item, Writes, placed}
-use Rattle.mysql_recorder.specs.Sides.{InStep, IsSummed, Stand, has_lost, layout, piece, IsAt, Reads, passed_of}
+use Rattle.mysql_recorder.specs.Sides.{InStep, Stand, has_lost, layout, piece, IsAt, Reads}
 use Rattle.mysql_recorder.specs.Sides as sides
 use Rattle.mysql_recorder.specs.declared.error.RecordingError.{RecordingError}
 use Rattle.mysql_recorder.specs.declared.line.Said.TheVariants as says
@@ -47,104 +47,95 @@ pub then_on_ok : (r : Result (Unit {0}) RecordingError) (b : List Piece) (old mi
 then_on_ok (Ok u) b old mid new x y z first lost same second = sides_then [] b old mid new x y z first lost same second
 then_on_ok (Err e) b old mid new x y z first lost same second = tt
 
--- the stream of a piece, and the other stream
-read_step : (side : Side) (bytes : List ℕ) (items here : List Item) (old new : Stream) (before after : Packets) (x y : List ℕ) (was longest : ℕ) → Reads side bytes [] items here old new before after x y
-    → NoneComes new.reader.held → new.passed ≡ old.passed → longest ≡ was → InStep old was → InStep new longest
-read_step side bytes items here old new before after x y was longest r none passed same h = record {
+-- the stream of a piece
+read_step : (side : Side) (bytes : List ℕ) (items here : List Item) (old new : Stream) (before after : Packets) (x y : List ℕ) (longest : ℕ) → Reads side bytes [] items here old new before after x y
+    → NoneComes new.reader.held → new.passed ≡ old.passed → InStep old longest → InStep new longest
+read_step side bytes items here old new before after x y longest r none passed h = record {
   numbered = r.numbered;
-  limit = r.limit ∙ h.limit ∙ sym same;
+  limit = r.limit ∙ h.limit;
   none = none;
   none_passed = passed ∙ h.none_passed;
 }
 
-other_step : (old new : Stream) (was longest : ℕ) → new ≡ old → longest ≡ was → InStep old was → InStep new longest
-other_step old new was longest e same h = subst (λ s. InStep s longest) (sym e) (subst (λ n. InStep old n) (sym same) h)
-
 -- a piece of the client, or one of the server
-pub read_client : (old new : Sides) (bytes before after : List ℕ)
-    → ((items : List Item) → IsAt old.client old.packets items → (here : List Item) × Reads side.Client bytes [] items here old.client new.client old.packets new.packets before after)
-    → (IsNumbered old.client.reader → NoneComes new.client.reader.held)
-    → new.client.passed ≡ old.client.passed → new.server ≡ old.server → new.has_lost ≡ old.has_lost → new.longest ≡ old.longest → sides.GoesOn (piece side.Client bytes ∷ []) old new before after
-read_client old new bytes before after reads none passed server lost longest pieces items h =
-    let r = reads items (h.client.numbered, h.observed) in
-    let last = none h.client.numbered in
-    inr (
-      r.0,
-      record {
-        come = subst (λ s. ComeIn [] [] (pieces ++ piece side.Client bytes ∷ []) (items ++ r.0) new.client.reader.held s.reader.held) (sym server)
-            (come_then [] [] pieces items old.client.reader.held old.server.reader.held (piece side.Client bytes) r.0 new.client.reader.held h.come r.1.from
-            (subst (λ left. AreFrames r.0 (old.client.reader.held ++ bytes) left) (append-nil new.client.reader.held) r.1.frames) last);
-        client = read_step side.Client bytes items r.0 old.client new.client old.packets new.packets before after old.longest new.longest r.1 last passed longest h.client;
-        server = other_step old.server new.server old.longest new.longest server longest h.server;
-        observed = r.1.observed;
-        nothing_lost = lost ∙ h.nothing_lost;
-      },
-      r.1.written,
-    )
-
-pub read_server : (old new : Sides) (bytes before after : List ℕ)
-    → ((items : List Item) → IsAt old.server old.packets items → (here : List Item) × Reads side.Server bytes [] items here old.server new.server old.packets new.packets before after)
-    → (IsNumbered old.server.reader → NoneComes new.server.reader.held)
-    → new.server.passed ≡ old.server.passed → new.client ≡ old.client → new.has_lost ≡ old.has_lost → new.longest ≡ old.longest → sides.GoesOn (piece side.Server bytes ∷ []) old new before after
-read_server old new bytes before after reads none passed client lost longest pieces items h =
-    let r = reads items (h.server.numbered, h.observed) in
-    let last = none h.server.numbered in
-    inr (
-      r.0,
-      record {
-        come = subst (λ s. ComeIn [] [] (pieces ++ piece side.Server bytes ∷ []) (items ++ r.0) s.reader.held new.server.reader.held) (sym client)
-            (come_then [] [] pieces items old.client.reader.held old.server.reader.held (piece side.Server bytes) r.0 new.server.reader.held h.come r.1.from
-            (subst (λ left. AreFrames r.0 (old.server.reader.held ++ bytes) left) (append-nil new.server.reader.held) r.1.frames) last);
-        client = other_step old.client new.client old.longest new.longest client longest h.client;
-        server = read_step side.Server bytes items r.0 old.server new.server old.packets new.packets before after old.longest new.longest r.1 last passed longest h.server;
-        observed = r.1.observed;
-        nothing_lost = lost ∙ h.nothing_lost;
-      },
-      r.1.written,
-    )
-
-pub whole_client : (r : Result Came RecordingError) (old new : Sides) (bytes before after : List ℕ)
+pub read_client : (r : Result Came RecordingError) (old : Sides) (new : Stream) (packets : Packets) (bytes before after : List ℕ)
     → IfOk r (λ came. came ≡ came_as.Whole → (items : List Item) → IsAt old.client old.packets items
-    → (here : List Item) × Reads side.Client bytes [] items here old.client new.client old.packets new.packets before after)
-    → IfOk r (λ came. came ≡ came_as.Whole → IsNumbered old.client.reader → NoneComes new.client.reader.held)
-    → new.client.passed ≡ old.client.passed → new.server ≡ old.server → new.has_lost ≡ old.has_lost → new.longest ≡ old.longest
-    → IfOk r (λ came. came ≡ came_as.Whole → sides.GoesOn (piece side.Client bytes ∷ []) old new before after)
-whole_client (Err e) old new bytes before after reads none passed server lost longest = tt
-whole_client (Ok came) old new bytes before after reads none passed server lost longest = λ w. read_client old new bytes before after (reads w) (none w) passed server lost longest
+    → (here : List Item) × Reads side.Client bytes [] items here old.client new old.packets packets before after)
+    → IfOk r (λ came. came ≡ came_as.Whole → IsNumbered old.client.reader → NoneComes new.reader.held)
+    → new.passed ≡ old.client.passed
+    → IfOk r (λ came. came ≡ came_as.Whole → sides.GoesOn (piece side.Client bytes ∷ []) old (record old { client = new; packets = packets }) before after)
+read_client (Err e) old new packets bytes before after reads none passed = tt
+read_client (Ok came) old new packets bytes before after reads none passed = λ w pieces items h.
+    let r = reads w items (h.client.numbered, h.observed) in
+    let last = none w h.client.numbered in
+    inr (
+      r.0,
+      record {
+        come = come_then [] [] pieces items old.client.reader.held old.server.reader.held (piece side.Client bytes) r.0 new.reader.held h.come r.1.from
+            (subst (λ left. AreFrames r.0 (old.client.reader.held ++ bytes) left) (append-nil new.reader.held) r.1.frames) last;
+        client = read_step side.Client bytes items r.0 old.client new old.packets packets before after old.longest r.1 last passed h.client;
+        server = h.server;
+        observed = r.1.observed;
+        nothing_lost = h.nothing_lost;
+      },
+      r.1.written,
+    )
 
-pub whole_server : (r : Result Came RecordingError) (old new : Sides) (bytes before after : List ℕ)
+pub read_server : (r : Result Came RecordingError) (old : Sides) (new : Stream) (packets : Packets) (bytes before after : List ℕ)
     → IfOk r (λ came. came ≡ came_as.Whole → (items : List Item) → IsAt old.server old.packets items
-    → (here : List Item) × Reads side.Server bytes [] items here old.server new.server old.packets new.packets before after)
-    → IfOk r (λ came. came ≡ came_as.Whole → IsNumbered old.server.reader → NoneComes new.server.reader.held)
-    → new.server.passed ≡ old.server.passed → new.client ≡ old.client → new.has_lost ≡ old.has_lost → new.longest ≡ old.longest
-    → IfOk r (λ came. came ≡ came_as.Whole → sides.GoesOn (piece side.Server bytes ∷ []) old new before after)
-whole_server (Err e) old new bytes before after reads none passed client lost longest = tt
-whole_server (Ok came) old new bytes before after reads none passed client lost longest = λ w. read_server old new bytes before after (reads w) (none w) passed client lost longest
+    → (here : List Item) × Reads side.Server bytes [] items here old.server new old.packets packets before after)
+    → IfOk r (λ came. came ≡ came_as.Whole → IsNumbered old.server.reader → NoneComes new.reader.held)
+    → new.passed ≡ old.server.passed
+    → IfOk r (λ came. came ≡ came_as.Whole → sides.GoesOn (piece side.Server bytes ∷ []) old (record old { server = new; packets = packets }) before after)
+read_server (Err e) old new packets bytes before after reads none passed = tt
+read_server (Ok came) old new packets bytes before after reads none passed = λ w pieces items h.
+    let r = reads w items (h.server.numbered, h.observed) in
+    let last = none w h.server.numbered in
+    inr (
+      r.0,
+      record {
+        come = come_then [] [] pieces items old.client.reader.held old.server.reader.held (piece side.Server bytes) r.0 new.reader.held h.come r.1.from
+            (subst (λ left. AreFrames r.0 (old.server.reader.held ++ bytes) left) (append-nil new.reader.held) r.1.frames) last;
+        client = h.client;
+        server = read_step side.Server bytes items r.0 old.server new old.packets packets before after old.longest r.1 last passed h.server;
+        observed = r.1.observed;
+        nothing_lost = h.nothing_lost;
+      },
+      r.1.written,
+    )
 
--- everything except the sums is unchanged
-pub summed_stand : (old new : Sides) (pieces : List Piece) (items : List Item) → IsSummed old new → Stand old pieces items → Stand new pieces items
-summed_stand old new pieces items e h = record {
-  come = subst (λ c. ComeIn [] [] pieces items c.reader.held new.server.reader.held) (sym e.client) (subst (λ s. ComeIn [] [] pieces items old.client.reader.held s.reader.held) (sym e.server) h.come);
-  client = other_step old.client new.client old.longest new.longest e.client e.longest h.client;
-  server = other_step old.server new.server old.longest new.longest e.server e.longest h.server;
-  observed = subst (λ f. Observed f (placed items)) (sym e.observer) h.observed;
-  nothing_lost = e.has_lost ∙ h.nothing_lost;
+-- the expected answer and the options of the packets may differ
+pub still_stand : (s : Sides) (answer : Option ℕ) (packets : Packets) (pieces : List Piece) (items : List Item) → packets.observer ≡ s.packets.observer
+    → Stand s pieces items → Stand (record s { answer = answer; packets = packets }) pieces items
+still_stand s answer packets pieces items e h = record {
+  come = h.come;
+  client = h.client;
+  server = h.server;
+  observed = subst (λ f. Observed f (placed items)) (sym e) h.observed;
+  nothing_lost = h.nothing_lost;
 }
 
--- everything except the awaited answer is unchanged
-same_stand : (old new : Sides) (pieces : List Piece) (items : List Item) → sides.IsSame old new → Stand old pieces items → Stand new pieces items
-same_stand old new pieces items e h =
-    summed_stand old new pieces items
-    (record { client = e.client; server = e.server; has_lost = e.has_lost; longest = e.longest; observer = ap (λ p. p.observer) e.packets; deciphered = ap (λ p. p.is_deciphered) e.packets; layout = ap (λ p. p.layout) e.packets }) h
-
 pub goes_same : (more : List Piece) (old mid new : Sides) (before after : List ℕ) → sides.GoesOn more old mid before after → sides.IsSame mid new → sides.GoesOn more old new before after
-goes_same more old mid new before after g e pieces items h =
-    elim (g pieces items h) as (λ _. (has_lost new ≡ true) ⊎ ((here : List Item) × Stand new (pieces ++ more) (items ++ here) × Writes (layout old) items here before after)) [
-      | inl f ↦ inl (e.has_lost ∙ f)
-      | inr f ↦ inr (f.0, same_stand mid new (pieces ++ more) (items ++ f.0) e f.1, f.2)
-    ]
+goes_same more old mid new before after g e = subst (λ s. sides.GoesOn more old s before after) (sym e) (λ pieces items h.
+    elim (g pieces items h) as (λ _. (has_lost mid ≡ true) ⊎ ((here : List Item) × Stand (record mid { answer = new.answer }) (pieces ++ more) (items ++ here) × Writes (layout old) items here before after)) [
+      | inl f ↦ inl f
+      | inr f ↦ inr (f.0, still_stand mid new.answer mid.packets (pieces ++ more) (items ++ f.0) refl f.1, f.2)
+    ])
 
 -- ---- recordings
+
+-- the options of the packets may differ
+pub still_recorded : (r : Recording) (packets : Packets) (text : List ℕ) (items : List Item) → packets.observer ≡ r.sides.packets.observer
+    → Recorded r text items → Recorded (record r { sides = record r.sides { packets = packets } }) text items
+still_recorded r packets text items e h = record {
+  said = h.said;
+  pieces = h.pieces;
+  read = h.read;
+  waits = h.waits;
+  line = h.line;
+  untaken = h.untaken;
+  stand = still_stand r.sides r.sides.answer packets h.pieces items e h.stand;
+}
 
 taken : (mid new : Recording) (text : List ℕ) (said : List Heard) (pieces : List Piece) (items : List Item) (before after : List ℕ)
     → IsRead text mid.place said → said ≡ joined pieces ++ heard mid.line.side mid.line.bytes.items → Stand mid.sides pieces items

@@ -16,11 +16,11 @@ use Rattle.mysql_recorder.specs.Frames.{joined}
 use Rattle.mysql_recorder.specs.Lines.{Heard, text_of, said_by, Stands, Passes}
 use Rattle.mysql_recorder.specs.Losses.{IsNumberOf, AreNoFrames, AreTooLong, LosesIn, PieceLosesIn, PieceLoses, LineLoses, LineEndLoses, EndsInMark, IsLost, TextLoses, IsAtFeed, Loses}
 use Rattle.mysql_recorder.specs.Marks.{IsMark}
-use Rattle.mysql_recorder.specs.Recorded.{IsReadTo, IsShown, Recorded}
+use Rattle.mysql_recorder.specs.Recorded.{Recorded}
 use Rattle.mysql_recorder.specs.Recorded as recorded
 use Rattle.mysql_recorder.specs.Refused.{ShowsRefused}
 use Rattle.mysql_recorder.specs.Shown.{Item, placed, Writes}
-use Rattle.mysql_recorder.specs.Sides.{IsAt, Reads, Stand, has_lost, layout, longest, passed_of}
+use Rattle.mysql_recorder.specs.Sides.{IsAt, Reads, has_lost, layout}
 use Rattle.mysql_recorder.specs.Sides as sides
 use Rattle.mysql_recorder.specs.Streams.{as_sent}
 use Rattle.mysql_recorder.specs.declared.error.RecordingError.{RecordingError}
@@ -110,7 +110,7 @@ piece_keeps all side bytes old new before after e lost pieces items h = absurd (
 pub came_loses : (came : Came) (all : List PacketKindTag) (side : Side) (bytes : List ℕ) (old mid new : Sides) (before m after : List ℕ)
     → (came ≢ came_as.Whole → PieceLosesIn all side bytes old before m) → (came ≡ came_as.Whole → sides.IsSame mid new × (after ≡ m)) → has_lost mid ≡ has_lost old → Stays m after
     → PieceLoses all side bytes old new before after
-came_loses came_as.Whole all side bytes old mid new before m after loses same kept stays = piece_keeps all side bytes old new before after ((same refl).0.has_lost ∙ kept)
+came_loses came_as.Whole all side bytes old mid new before m after loses same kept stays = piece_keeps all side bytes old new before after (ap (λ s. s.has_lost) (same refl).0 ∙ kept)
 came_loses (came_as.Refused a n) all side bytes old mid new before m after loses same kept stays = λ lost pieces items h. (m, loses (λ e. cc) pieces items h, stays)
 came_loses (came_as.NoFrames x n) all side bytes old mid new before m after loses same kept stays = λ lost pieces items h. (m, loses (λ e. cc) pieces items h, stays)
 

@@ -89,9 +89,6 @@ pub record ShowsAttributes (whole now : AttributesLeft) (first fields : List Sai
   pub all : whole.all ≡ several done now.all
   pub shown : fields ≡ first ++ attribute_fields done
 
-pub attributes_begin : (whole : AttributesLeft) (first : List Said) → ShowsAttributes whole whole first first
-attributes_begin whole first = record { done = []; all = refl; shown = sym (append-nil first) }
-
 pub attributes_step : (whole old new : AttributesLeft) (a : Attribute) (first before named after : List Said) (x y : Said) → ShowsAttributes whole old first before → old.all ≡ more a new.all
     → named ≡ before ++ x ∷ [] → after ≡ named ++ y ∷ [] → x ∷ y ∷ [] ≡ attribute_fields (a ∷ []) → ShowsAttributes whole new first after
 attributes_step whole old new a first before named after x y h one e g is = record {
@@ -145,9 +142,6 @@ pub record ShowsParams (whole now : ParamsLeft) (first fields : List Said) : Typ
   pub rest : after_values whole.params whole.rest whole.tails ≡ after_values now.params now.rest now.tails
   pub attributes : now.attributes ≡ whole.attributes
   pub shown : fields ≡ first ++ map param_said done
-
-pub params_begin : (whole : ParamsLeft) (first : List Said) → ShowsParams whole whole first first
-params_begin whole first = record { done = []; params = refl; end = refl; rest = refl; attributes = refl; shown = sym (append-nil first) }
 
 pub params_step : (whole old new : ParamsLeft) (first before after : List Said) (p : TypedParam) (x : Said) → ShowsParams whole old first before → reads.Gives old p new → x ≡ param_said p → after ≡ before ++ x ∷ []
     → ShowsParams whole new first after

@@ -47,15 +47,14 @@ error_after layout sums e t a b c status first h =
 -- the clause of `push` for an empty output
 pub takes_of : (r : Result (Unit {0}) RecordingError) (all : List PacketKindTag) (p : List ℕ) (old new : Recording) (before t : List ℕ) → before ≡ []
     → OnOk r (GoesOn p old new before t) → IfErr r (λ e. Stops all p old new e before t) → Loses all p old new before t
-    → (recorded.has_lost old ≡ true → recorded.has_lost new ≡ true) → recorded.layout new ≡ recorded.layout old → recorded.longest new ≡ recorded.longest old
+    → (recorded.has_lost old ≡ true → recorded.has_lost new ≡ true) → recorded.settings new ≡ recorded.settings old
     → Takes r all p old new t
-takes_of r all p old new before t none goes refused loses lost layout longest = record {
+takes_of r all p old new before t none goes refused loses lost settings = record {
   goes = subst (λ b. OnOk r (GoesOn p old new b t)) none goes;
   refused = subst (λ b. IfErr r (λ e. Stops all p old new e b t)) none refused;
   loses = subst (λ b. Loses all p old new b t) none loses;
   lost = lost;
-  layout = layout;
-  longest = longest;
+  settings = settings;
 }
 
 pub ends_of : (r : Result (Unit {0}) RecordingError) (all : List PacketKindTag) (old new : Recording) (before t : List ℕ) → before ≡ []

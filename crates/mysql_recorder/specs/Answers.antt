@@ -10,7 +10,7 @@ use Rattle.mysql_recorder.specs.Calls.{call_of}
 use Rattle.mysql_recorder.specs.Lines.{Heard}
 use Rattle.mysql_recorder.specs.Losses.{IsAtFeed, IsLost, Loses, TextLoses}
 use Rattle.mysql_show.specs.Output.{Answer, IsFront, IsWritten}
-use Rattle.mysql_recorder.specs.Recorded.{Finishes, GoesOn, IsShown, Recorded}
+use Rattle.mysql_recorder.specs.Recorded.{Finishes, GoesOn, IsShown}
 use Rattle.mysql_recorder.specs.Recorded as recorded
 use Rattle.mysql_recorder.specs.Refusals.{IfRefused}
 use Rattle.mysql_recorder.specs.Shown.{Item, Writes}
@@ -154,8 +154,7 @@ pub record Takes (r : Result (Unit {0}) RecordingError) (all : List PacketKindTa
   pub refused : IfErr r (λ e. Stops all piece old new e [] text)
   pub loses : Loses all piece old new [] text
   pub lost : recorded.has_lost old ≡ true → recorded.has_lost new ≡ true
-  pub layout : recorded.layout new ≡ recorded.layout old
-  pub longest : recorded.longest new ≡ recorded.longest old
+  pub settings : recorded.settings new ≡ recorded.settings old
 
 -- the answer of `finish`
 pub record Ends (r : Result (Unit {0}) RecordingError) (all : List PacketKindTag) (old new : Recording) (text : List ℕ) : Type 0 where

@@ -6,7 +6,7 @@ use Rattle.mysql_recorder.specs.declared.entry.Layout.{Layout}
 use Rattle.mysql_recorder.specs.Frames.{Piece, joined, ComeIn, NoneComes}
 use Rattle.mysql_recorder.specs.Lines.{AreLines, Heard, heard, IsRead, IsOfSide, Line, said_by, Stands, text_of}
 use Rattle.mysql_recorder.specs.Shown.{Item, Writes}
-use Rattle.mysql_recorder.specs.Sides.{Stand}
+use Rattle.mysql_recorder.specs.Sides.{Settings, Stand}
 use Rattle.mysql_recorder.specs.Sides as sides
 use Rattle.mysql_recorder.specs.Steps as steps
 use Rattle.mysql_recorder.specs.declared.line.Place.{Place}
@@ -19,21 +19,9 @@ layout r = sides.layout r.sides
 abbrev pub longest : Recording → ℕ
 longest r = sides.longest r.sides
 
--- how many commands may wait
-abbrev pub may_wait : Recording → ℕ
-may_wait r = sides.may_wait r.sides
-
--- the recording contains the decrypted payloads after a request for TLS
-abbrev pub is_deciphered : Recording → Bool
-is_deciphered r = sides.is_deciphered r.sides
-
--- sums are requested
-abbrev pub has_sums : Recording → Bool
-has_sums r = sides.has_sums r.sides
-
--- the options are unchanged
-abbrev pub KeepsSettings : Recording → Recording → Type 0
-KeepsSettings old new = sides.KeepsSettings old.sides new.sides
+-- the options
+abbrev pub settings : Recording → Settings
+settings r = sides.settings r.sides
 
 -- the number of the last exchange
 abbrev pub last_exchange : Recording → ℕ

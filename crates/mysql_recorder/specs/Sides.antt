@@ -38,17 +38,36 @@ has_lost s = s.has_lost
 abbrev pub longest : Sides → ℕ
 longest s = s.longest
 
--- how many commands may wait
-abbrev pub may_wait : Sides → ℕ
-may_wait s = observed.limit s.packets.observer
+-- the options of a recording
+pub record Settings : Type 0 where
+  pub layout : Layout
+  -- the longest payload
+  pub longest : ℕ
+  -- how many commands may wait
+  pub may_wait : ℕ
+  -- the recording contains the decrypted payloads after a request for TLS
+  pub is_deciphered : Bool
+  -- sums are requested
+  pub has_sums : Bool
 
--- the recording contains the decrypted payloads after a request for TLS
-abbrev pub is_deciphered : Sides → Bool
-is_deciphered s = s.packets.is_deciphered
+abbrev pub settings : Sides → Settings
+settings s = record {
+  layout = s.packets.layout;
+  longest = s.longest;
+  may_wait = observed.limit s.packets.observer;
+  is_deciphered = s.packets.is_deciphered;
+  has_sums = is_some s.packets.sums;
+}
 
--- sums are requested
-abbrev pub has_sums : Sides → Bool
-has_sums s = is_some s.packets.sums
+-- those that the packets of a connection have
+pub record Options : Type 0 where
+  pub layout : Layout
+  pub may_wait : ℕ
+  pub is_deciphered : Bool
+  pub has_sums : Bool
+
+abbrev pub options : Packets → Options
+options p = record { layout = p.layout; may_wait = observed.limit p.observer; is_deciphered = p.is_deciphered; has_sums = is_some p.sums }
 
 abbrev pub passed_of : Side → Sides → Option ℕ
 passed_of Client s = s.client.passed
@@ -68,14 +87,6 @@ pub record Stand (s : Sides) (pieces : List Piece) (items : List Item) : Type 0 
   pub server : InStep s.server s.longest
   pub observed : Observed s.packets.observer (placed items)
   pub nothing_lost : s.has_lost ≡ false
-
--- the options are unchanged: the layout, the limits, whether TLS is decrypted, and whether there are sums
-pub record KeepsSettings (old new : Sides) : Type 0 where
-  pub layout : layout new ≡ layout old
-  pub longest : longest new ≡ longest old
-  pub may_wait : may_wait new ≡ may_wait old
-  pub deciphered : is_deciphered new ≡ is_deciphered old
-  pub sums : has_sums new ≡ has_sums old
 
 -- these packets are a whole session, and neither side has an incomplete payload
 abbrev pub IsWhole : Sides → List Item → Type 0
@@ -113,22 +124,8 @@ abbrev pub piece : Side → List ℕ → Piece
 piece side bytes = record { side = side; bytes = bytes }
 
 -- everything except for the expected answer is the same
-pub record IsSame (old new : Sides) : Type 0 where
-  pub client : new.client ≡ old.client
-  pub server : new.server ≡ old.server
-  pub has_lost : new.has_lost ≡ old.has_lost
-  pub longest : new.longest ≡ old.longest
-  pub packets : new.packets ≡ old.packets
-
--- everything except for the sums is the same
-pub record IsSummed (old new : Sides) : Type 0 where
-  pub client : new.client ≡ old.client
-  pub server : new.server ≡ old.server
-  pub has_lost : new.has_lost ≡ old.has_lost
-  pub longest : new.longest ≡ old.longest
-  pub observer : new.packets.observer ≡ old.packets.observer
-  pub deciphered : new.packets.is_deciphered ≡ old.packets.is_deciphered
-  pub layout : new.packets.layout ≡ old.packets.layout
+abbrev pub IsSame : Sides → Sides → Type 0
+IsSame old new = new ≡ record old { answer = new.answer }
 
 -- if nothing is lost, nothing is appended
 abbrev pub SaysNothing : Sides → List ℕ → List ℕ → Type 0

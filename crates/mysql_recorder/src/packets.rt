@@ -5,7 +5,7 @@ ghost use Rattle.mysql_conversation.specs.Pipelined.{Numbered};
 ghost use Rattle.mysql_show.specs.Appended.{Stays};
 ghost use Rattle.mysql_conversation.specs.Session.{IsSession, IsSessionBeginning};
 ghost use Rattle.mysql_conversation.specs.Piped.{place};
-ghost use Rattle.mysql_observer.specs.Observed.{Observed, Resumed, ResumedAfter, last_exchange, limit};
+ghost use Rattle.mysql_observer.specs.Observed.{Observed, Resumed, ResumedAfter, last_exchange};
 ghost use Rattle.mysql_recorder.specs.Entries.{entry_as};
 ghost use Rattle.mysql_conversation.specs.declared.packet_kind_tag.PacketKindTag as names_of;
 ghost use Rattle.mysql_conversation.specs.declared.packet_kind.PacketKind as kinds;
@@ -17,7 +17,7 @@ ghost use Rattle.mysql_recorder.specs.Refusals.{AppendsRefused, Expects, IfLine,
 ghost use Rattle.mysql_recorder.specs.Shown.{AppendsFields};
 ghost use Rattle.mysql_recorder.specs.RecordFields.{AreFields};
 ghost use Rattle.mysql_recorder.specs.Entries.{notice_text};
-ghost use Rattle.mysql_recorder.specs.Sides.{IsAtRest};
+ghost use Rattle.mysql_recorder.specs.Sides.{IsAtRest, options};
 ghost use Rattle.mysql_recorder.specs.Steps.{notice_exchange};
 ghost use Rattle.mysql_recorder.specs.Sums.{AppendsSomeSums};
 ghost use Rattle.mysql_show.specs.Fields.{have_float};
@@ -110,10 +110,7 @@ impl Packets {
     /// commands may wait.
     pub(crate) fn new(alloc: Global, layout: Layout, waiting: usize) -> Self
         ensures observed { Observed result.observer [] }
-        ensures layout { result.layout ≡ layout }
-        ensures may_wait { limit result.observer ≡ waiting }
-        ensures deciphered { result.is_deciphered ≡ false }
-        ensures sums { is_some result.sums ≡ false }
+        ensures options { options result ≡ record { layout = layout; may_wait = waiting; is_deciphered = false; has_sums = false } }
     {
         Packets {
             alloc,
@@ -127,9 +124,7 @@ impl Packets {
 
     /// Sums the following packets.
     pub(crate) fn sum(&mut self)
-        ensures observer { self.new.observer ≡ self.old.observer }
-        ensures deciphered { self.new.is_deciphered ≡ self.old.is_deciphered }
-        ensures layout { self.new.layout ≡ self.old.layout }
+        ensures same { self.new ≡ record self.old { sums = self.new.sums } }
         ensures sums { is_some self.new.sums ≡ true }
     {
         self.sums = Some(Sums::new(self.alloc));
@@ -137,11 +132,7 @@ impl Packets {
 
     /// Declares that the recording contains the decrypted contents of TLS.
     pub(crate) fn tls_established(&mut self)
-        ensures observed { (items : List Numbered) → Observed self.old.observer items → Observed self.new.observer items }
-        ensures may_wait { limit self.new.observer ≡ limit self.old.observer }
-        ensures deciphered { self.new.is_deciphered ≡ true }
-        ensures layout { self.new.layout ≡ self.old.layout }
-        ensures sums { self.new.sums ≡ self.old.sums }
+        ensures { self.new ≡ record self.old { is_deciphered = true } }
     {
         self.is_deciphered = true;
     }
@@ -179,10 +170,7 @@ impl Packets {
     /// Continues at the next command under the agreed capabilities, in the middle of a connection or after a loss.
     pub(crate) fn resume(&mut self, agreed: SessionCapabilities)
         ensures resumed { Resumed self.new.observer agreed (last_exchange self.old.observer) [] }
-        ensures layout { self.new.layout ≡ self.old.layout }
-        ensures may_wait { limit self.new.observer ≡ limit self.old.observer }
-        ensures deciphered { self.new.is_deciphered ≡ self.old.is_deciphered }
-        ensures sums { self.new.sums ≡ self.old.sums }
+        ensures options { options self.new ≡ options self.old }
     {
         self.observer.resume(agreed);
         self.unheard = Unheard::none();
@@ -191,10 +179,7 @@ impl Packets {
     /// Continues after a command, the last so far: the answer to the previous one is lost.
     pub(crate) fn resume_after(&mut self, agreed: SessionCapabilities, command: &Front)
         ensures resumed { (front : List ℕ) × ResumedAfter self.new.observer agreed (last_exchange self.old.observer - 1) front }
-        ensures layout { self.new.layout ≡ self.old.layout }
-        ensures may_wait { limit self.new.observer ≡ limit self.old.observer }
-        ensures deciphered { self.new.is_deciphered ≡ self.old.is_deciphered }
-        ensures sums { self.new.sums ≡ self.old.sums }
+        ensures options { options self.new ≡ options self.old }
     {
         self.observer.resume_after(agreed, command.as_slice());
         self.unheard = Unheard::none();
@@ -247,10 +232,7 @@ impl Packets {
         // Also of a connection that is resumed:
         ensures reason { IfErr result (λ e. IfRefused e (λ why. IsReason self.old.observer side payload.now why)) }
         ensures stays { Stays (string_bytes out.old) (string_bytes out.new) }
-        ensures layout { self.new.layout ≡ self.old.layout }
-        ensures may_wait { limit self.new.observer ≡ limit self.old.observer }
-        ensures deciphered { self.new.is_deciphered ≡ self.old.is_deciphered }
-        ensures sums { is_some self.new.sums ≡ is_some self.old.sums }
+        ensures options { options self.new ≡ options self.old }
         ensures no_line { IfErr result (λ e. IfLine e ⊥) }
     {
         let is_between = self.observer.is_idle();
@@ -283,10 +265,7 @@ impl Packets {
         // Also of a connection that is resumed:
         ensures reason { IfErr result (λ why. IsReason self.old.observer side payload.now why) }
         ensures err { OnErr result ((items : List Numbered) → Observed self.old.observer items → Observed self.new.observer items) }
-        ensures layout { self.new.layout ≡ self.old.layout }
-        ensures may_wait { limit self.new.observer ≡ limit self.old.observer }
-        ensures deciphered { self.new.is_deciphered ≡ self.old.is_deciphered }
-        ensures sums { self.new.sums ≡ self.old.sums }
+        ensures options { options self.new ≡ options self.old }
     {
         let seen = self.observer.next(side, payload);
         if self.is_deciphered {
@@ -334,9 +313,7 @@ impl Packets {
         ensures ok { OnOk result (AppendsFields (λ fields. AreFields self.old.observer packet.now.side kind packet.now.payload.now fields) self.old.layout (entry_as packet.now) (string_bytes out.old) (string_bytes out.new)) }
         ensures stays { Stays (string_bytes out.old) (string_bytes out.new) }
         ensures observer { self.new.observer ≡ self.old.observer }
-        ensures deciphered { self.new.is_deciphered ≡ self.old.is_deciphered }
-        ensures layout { self.new.layout ≡ self.old.layout }
-        ensures sums { is_some self.new.sums ≡ is_some self.old.sums }
+        ensures options { options self.new ≡ options self.old }
     {
         if let Some(sums) = &mut self.sums {
             sums.add(packet, kind)?;

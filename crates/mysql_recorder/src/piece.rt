@@ -1,8 +1,7 @@
 //! Pieces of one side's stream.
 
-ghost use Rattle.std.specs.Prelude.{◌≡◌, ◌≢◌, [], ◌++◌, List, IfOk, IfErr, is_some, string_bytes};
+ghost use Rattle.std.specs.Prelude.{◌≡◌, ◌≢◌, [], ◌++◌, List, IfOk, IfErr, string_bytes};
 ghost use Rattle.mysql_show.specs.Appended.{Stays};
-ghost use Rattle.mysql_observer.specs.Observed.{limit};
 ghost use Rattle.mysql_recorder.specs.Frames.{IsNumbered, NoneComes};
 ghost use Rattle.mysql_recorder.specs.Losses.{LosesIn};
 ghost use Rattle.mysql_recorder.specs.Refusals.{IfLine, IfRefused};
@@ -48,10 +47,7 @@ pub(crate) fn read_packets(
     ensures stays { Stays (string_bytes out.old) (string_bytes out.new) }
     ensures none { IfOk result (λ came. came ≡ came_as.Whole → IsNumbered stream.old.reader → NoneComes stream.new.reader.held) }
     ensures passed { stream.new.passed ≡ stream.old.passed }
-    ensures layout { packets.new.layout ≡ packets.old.layout }
-    ensures may_wait { limit packets.new.observer ≡ limit packets.old.observer }
-    ensures deciphered { packets.new.is_deciphered ≡ packets.old.is_deciphered }
-    ensures sums { is_some packets.new.sums ≡ is_some packets.old.sums }
+    ensures options { spec.options packets.new ≡ spec.options packets.old }
     ensures no_line { IfErr result (λ e. IfLine e ⊥) }
 {
     let mut input = piece;

@@ -4,7 +4,7 @@ ghost use Rattle.std.specs.Prelude.{◌≡◌, ◌++◌, ◌^◌, ℕ, List, [],
 ghost use Rattle.mysql_recorder.specs.Answers as spec;
 ghost use Rattle.mysql_recorder.specs.Calls as calls;
 ghost use Rattle.mysql_show.specs.Output.{Answer, IsFront, IsWritten};
-ghost use Rattle.mysql_recorder.specs.Recorded.{Recorded, has_lost, has_sums, layout, longest};
+ghost use Rattle.mysql_recorder.specs.Recorded.{Recorded, has_lost, layout, longest, settings};
 ghost use Rattle.mysql_recorder.specs.Shown.{Item};
 
 use crate::entry::Layout;
@@ -341,7 +341,7 @@ fn end_with_sums<W: Write>(
     status: u8,
 ) -> u8
     ensures ends { (answer : Answer) × spec.EndsWith sums [] status answer × IsWritten answer (W.contents writer.old) (W.contents writer.new) result }
-    ensures sums { sums ≡ true → has_sums recording.now ≡ true → spec.SumsWritten (layout recording.now) status (W.contents writer.old) (W.contents writer.new) result }
+    ensures sums { sums ≡ true → (settings recording.now).has_sums ≡ true → spec.SumsWritten (layout recording.now) status (W.contents writer.old) (W.contents writer.new) result }
 {
     if sums {
         let mut out = String::new(alloc);

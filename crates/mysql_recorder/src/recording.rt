@@ -2,6 +2,7 @@
 
 ghost use Rattle.std.specs.Prelude.{◌≡◌, ◌↔◌, ◌∷◌, [], ℕ, List, IfErr, IsTrue, None, OnOk, Some, false, true, string_bytes};
 ghost use Rattle.mysql_show.specs.Appended.{Stays};
+ghost use Rattle.mysql_recorder.specs.Keeps.{Keeps};
 ghost use Rattle.mysql_recorder.specs.Losses.{LineEndLoses, LineLoses, Loses, TextLoses};
 ghost use Rattle.mysql_recorder.specs.Lines.{next_place, place_after};
 ghost use Rattle.mysql_recorder.specs.Recorded as spec;
@@ -51,11 +52,7 @@ impl Recording {
     /// `waiting` waiting commands.
     pub fn new(alloc: Global, layout: Layout, longest: usize, waiting: usize) -> Self
         ensures recorded { spec.Recorded result [] [] }
-        ensures layout { spec.layout result ≡ layout }
-        ensures longest { spec.longest result ≡ longest }
-        ensures may_wait { spec.may_wait result ≡ waiting }
-        ensures deciphered { spec.is_deciphered result ≡ false }
-        ensures sums { spec.has_sums result ≡ false }
+        ensures settings { spec.settings result ≡ record { layout = layout; longest = longest; may_wait = waiting; is_deciphered = false; has_sums = false } }
     {
         Recording {
             alloc,
@@ -74,11 +71,7 @@ impl Recording {
     pub fn resync(self, agreed: SessionCapabilities) -> Self
         ensures resync { spec.IsResynced self result agreed }
         ensures lost { spec.has_lost result ≡ spec.has_lost self }
-        ensures layout { spec.layout result ≡ spec.layout self }
-        ensures longest { spec.longest result ≡ spec.longest self }
-        ensures may_wait { spec.may_wait result ≡ spec.may_wait self }
-        ensures deciphered { spec.is_deciphered result ≡ spec.is_deciphered self }
-        ensures sums { spec.has_sums result ≡ spec.has_sums self }
+        ensures settings { spec.settings result ≡ spec.settings self }
     {
         let mut recording = self;
         recording.sides.take_up_at(agreed);
@@ -87,13 +80,9 @@ impl Recording {
 
     /// Sums the following packets.
     pub fn with_sums(self) -> Self
-        ensures sums { spec.has_sums result ≡ true }
+        ensures settings { spec.settings result ≡ record (spec.settings self) { has_sums = true } }
         ensures recorded { (text : List ℕ) (items : List Item) → spec.Recorded self text items → spec.Recorded result text items }
         ensures lost { spec.has_lost result ≡ spec.has_lost self }
-        ensures layout { spec.layout result ≡ spec.layout self }
-        ensures longest { spec.longest result ≡ spec.longest self }
-        ensures may_wait { spec.may_wait result ≡ spec.may_wait self }
-        ensures deciphered { spec.is_deciphered result ≡ spec.is_deciphered self }
     {
         let mut recording = self;
         recording.sides.sum();
@@ -102,13 +91,9 @@ impl Recording {
 
     /// Continues after a request for TLS: the recording has the decrypted contents, and no packet is refused as `Encrypted`.
     pub fn deciphered(self) -> Self
-        ensures deciphered { spec.is_deciphered result ≡ true }
+        ensures settings { spec.settings result ≡ record (spec.settings self) { is_deciphered = true } }
         ensures recorded { (text : List ℕ) (items : List Item) → spec.Recorded self text items → spec.Recorded result text items }
         ensures lost { spec.has_lost result ≡ spec.has_lost self }
-        ensures layout { spec.layout result ≡ spec.layout self }
-        ensures longest { spec.longest result ≡ spec.longest self }
-        ensures may_wait { spec.may_wait result ≡ spec.may_wait self }
-        ensures sums { spec.has_sums result ≡ spec.has_sums self }
     {
         let mut recording = self;
         recording.sides.tls_established();
@@ -117,8 +102,8 @@ impl Recording {
 
     /// Appends the sums, if they are requested.
     pub fn append_sums(&self, out: &mut String) -> Result<(), AllocError>
-        ensures none { spec.has_sums self.now ≡ false → (result ≡ Ok tt) × (string_bytes out.new ≡ string_bytes out.old) }
-        ensures sums { spec.has_sums self.now ≡ true → OnOk result (AppendsSomeSums (spec.layout self.now) (string_bytes out.old) (string_bytes out.new)) }
+        ensures none { (spec.settings self.now).has_sums ≡ false → (result ≡ Ok tt) × (string_bytes out.new ≡ string_bytes out.old) }
+        ensures sums { (spec.settings self.now).has_sums ≡ true → OnOk result (AppendsSomeSums (spec.layout self.now) (string_bytes out.old) (string_bytes out.new)) }
         ensures stays { Stays (string_bytes out.old) (string_bytes out.new) }
     {
         self.sides.append_sums(out)
@@ -148,11 +133,7 @@ impl Recording {
     pub fn push(&mut self, input: &[u8], out: &mut String) -> Result<(), RecordingError>
         ensures goes { OnOk result (spec.GoesOn input.now self.old self.new (string_bytes out.old) (string_bytes out.new)) }
         ensures lost { spec.has_lost self.old ≡ true → spec.has_lost self.new ≡ true }
-        ensures layout { spec.layout self.new ≡ spec.layout self.old }
-        ensures longest { spec.longest self.new ≡ spec.longest self.old }
-        ensures may_wait { spec.may_wait self.new ≡ spec.may_wait self.old }
-        ensures deciphered { spec.is_deciphered self.new ≡ spec.is_deciphered self.old }
-        ensures sums { spec.has_sums self.new ≡ spec.has_sums self.old }
+        ensures settings { spec.settings self.new ≡ spec.settings self.old }
         ensures refused { IfErr result (λ e. Stops PacketKindTag.ALL input.now self.old self.new e (string_bytes out.old) (string_bytes out.new)) }
         ensures loses { Loses PacketKindTag.ALL input.now self.old self.new (string_bytes out.old) (string_bytes out.new) }
         ensures text { Stays (string_bytes out.old) (string_bytes out.new) }
@@ -169,13 +150,10 @@ impl Recording {
     /// Takes the bytes of a line that is not complete, if it is no mark.
     fn take_rest(&mut self, out: &mut String) -> Result<(), RecordingError>
         ensures goes { OnOk result (spec.GoesOn [] self.old self.new (string_bytes out.old) (string_bytes out.new)) }
-        ensures lost { spec.has_lost self.old ≡ true → spec.has_lost self.new ≡ true }
-        ensures settings { spec.KeepsSettings self.old self.new }
         ensures refused { IfErr result (λ e. TextStops PacketKindTag.ALL self.old e (string_bytes out.old) (string_bytes out.new)) }
         ensures loses { TextLoses PacketKindTag.ALL ⊥ self.old self.new (string_bytes out.old) (string_bytes out.new) }
-        ensures text { Stays (string_bytes out.old) (string_bytes out.new) }
-        ensures no_line { IfErr result (λ e. IfLine e ⊥) }
         ensures place { self.new.place ≡ self.old.place }
+        ensures keeps { Keeps result self.old.sides self.new.sides (string_bytes out.old) (string_bytes out.new) }
     {
         if self.may_be_taken() {
             self.take_line(out)
@@ -188,7 +166,7 @@ impl Recording {
     fn take_byte(&mut self, byte: u8, out: &mut String) -> Result<(), RecordingError>
         ensures goes { OnOk result (spec.GoesOn (byte ∷ []) self.old self.new (string_bytes out.old) (string_bytes out.new)) }
         ensures lost { spec.has_lost self.old ≡ true → spec.has_lost self.new ≡ true }
-        ensures settings { spec.KeepsSettings self.old self.new }
+        ensures settings { spec.settings self.new ≡ spec.settings self.old }
         ensures refused { IfErr result (λ e. TextStops PacketKindTag.ALL self.old e (string_bytes out.old) (string_bytes out.new)) }
         ensures loses { TextLoses PacketKindTag.ALL (byte ≡ 10) self.old self.new (string_bytes out.old) (string_bytes out.new) }
         ensures text { Stays (string_bytes out.old) (string_bytes out.new) }
@@ -209,14 +187,10 @@ impl Recording {
     pub fn finish(&mut self, out: &mut String) -> Result<(), RecordingError>
         ensures left { OnOk result ((mid : List ℕ) × Stays (string_bytes out.old) mid × spec.SaysLeft self.new mid (string_bytes out.new)) }
         ensures finishes { OnOk result (spec.Finishes self.old self.new (string_bytes out.old) (string_bytes out.new)) }
-        ensures lost { spec.has_lost self.old ≡ true → spec.has_lost self.new ≡ true }
-        ensures layout { spec.layout self.new ≡ spec.layout self.old }
-        ensures longest { spec.longest self.new ≡ spec.longest self.old }
-        ensures may_wait { spec.may_wait self.new ≡ spec.may_wait self.old }
-        ensures deciphered { spec.is_deciphered self.new ≡ spec.is_deciphered self.old }
-        ensures sums { spec.has_sums self.new ≡ spec.has_sums self.old }
         ensures refused { IfErr result (λ e. TextStops PacketKindTag.ALL self.old e (string_bytes out.old) (string_bytes out.new)) }
         ensures loses { TextLoses PacketKindTag.ALL (Unit {0}) self.old self.new (string_bytes out.old) (string_bytes out.new) }
+        ensures lost { spec.has_lost self.old ≡ true → spec.has_lost self.new ≡ true }
+        ensures settings { spec.settings self.new ≡ spec.settings self.old }
         ensures text { Stays (string_bytes out.old) (string_bytes out.new) }
         ensures no_line { IfErr result (λ e. IfLine e ⊥) }
     {
@@ -235,15 +209,12 @@ impl Recording {
     /// Takes a line at its end.
     fn end_line(&mut self, out: &mut String) -> Result<(), RecordingError>
         ensures goes { OnOk result (spec.Takes self.old self.new (string_bytes out.old) (string_bytes out.new)) }
-        ensures lost { spec.has_lost self.old ≡ true → spec.has_lost self.new ≡ true }
-        ensures settings { spec.KeepsSettings self.old self.new }
         ensures place { self.new.place ≡ self.old.place }
         ensures line { OnOk result (self.new.line.bytes.items ≡ []) }
         ensures refused { IfErr result (λ e. LineStops PacketKindTag.ALL self.old e (string_bytes out.old) (string_bytes out.new)) }
         ensures loses { LineEndLoses PacketKindTag.ALL self.old self.new (string_bytes out.old) (string_bytes out.new) }
-        ensures text { Stays (string_bytes out.old) (string_bytes out.new) }
         ensures untaken { self.new.line.is_untaken ≡ true }
-        ensures no_line { IfErr result (λ e. IfLine e ⊥) }
+        ensures keeps { Keeps result self.old.sides self.new.sides (string_bytes out.old) (string_bytes out.new) }
     {
         let taken = self.take_last(out);
         self.line.is_untaken = true;
@@ -253,14 +224,11 @@ impl Recording {
     /// Takes the end of a line, before the next one begins.
     fn take_last(&mut self, out: &mut String) -> Result<(), RecordingError>
         ensures goes { OnOk result (spec.Takes self.old self.new (string_bytes out.old) (string_bytes out.new)) }
-        ensures lost { spec.has_lost self.old ≡ true → spec.has_lost self.new ≡ true }
-        ensures settings { spec.KeepsSettings self.old self.new }
         ensures place { self.new.place ≡ self.old.place }
         ensures line { OnOk result (self.new.line.bytes.items ≡ []) }
         ensures refused { IfErr result (λ e. LineStops PacketKindTag.ALL self.old e (string_bytes out.old) (string_bytes out.new)) }
         ensures loses { LineEndLoses PacketKindTag.ALL self.old self.new (string_bytes out.old) (string_bytes out.new) }
-        ensures text { Stays (string_bytes out.old) (string_bytes out.new) }
-        ensures no_line { IfErr result (λ e. IfLine e ⊥) }
+        ensures keeps { Keeps result self.old.sides self.new.sides (string_bytes out.old) (string_bytes out.new) }
     {
         let missing = missing_of(self.line.bytes.as_slice());
         match missing {
@@ -272,13 +240,10 @@ impl Recording {
     /// Takes a mark of missing bytes.
     fn lose_line(&mut self, count: u64, out: &mut String) -> Result<(), RecordingError>
         ensures lost { OnOk result (spec.has_lost self.new ≡ true) }
-        ensures settings { spec.KeepsSettings self.old self.new }
         ensures place { self.new.place ≡ self.old.place }
         ensures line { OnOk result (self.new.line.bytes.items ≡ []) }
-        ensures stays { spec.has_lost self.old ≡ true → spec.has_lost self.new ≡ true }
         ensures refused { IfErr result (λ e. IfRefused e (λ why. ⊥)) }
-        ensures text { Stays (string_bytes out.old) (string_bytes out.new) }
-        ensures no_line { IfErr result (λ e. IfLine e ⊥) }
+        ensures keeps { Keeps result self.old.sides self.new.sides (string_bytes out.old) (string_bytes out.new) }
     {
         self.sides.lose(self.line.side, Loss::Missing(count), out)?;
         self.line.bytes.clear();
@@ -288,15 +253,12 @@ impl Recording {
     /// Takes the bytes of a line so far.
     fn take_line(&mut self, out: &mut String) -> Result<(), RecordingError>
         ensures goes { OnOk result (spec.Takes self.old self.new (string_bytes out.old) (string_bytes out.new)) }
-        ensures lost { spec.has_lost self.old ≡ true → spec.has_lost self.new ≡ true }
-        ensures settings { spec.KeepsSettings self.old self.new }
         ensures place { self.new.place ≡ self.old.place }
         ensures line { OnOk result (self.new.line.bytes.items ≡ []) }
         ensures refused { IfErr result (λ e. LineStops PacketKindTag.ALL self.old e (string_bytes out.old) (string_bytes out.new)) }
         ensures loses { LineLoses PacketKindTag.ALL self.old self.new (string_bytes out.old) (string_bytes out.new) }
-        ensures text { Stays (string_bytes out.old) (string_bytes out.new) }
         ensures taken { self.new.line.is_untaken ≡ false }
-        ensures no_line { IfErr result (λ e. IfLine e ⊥) }
+        ensures keeps { Keeps result self.old.sides self.new.sides (string_bytes out.old) (string_bytes out.new) }
     {
         let (side, is_untaken) = (self.line.side, self.line.is_untaken);
         let piece = mem::replace(&mut self.line.bytes, Vec::new(self.alloc));

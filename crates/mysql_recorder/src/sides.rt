@@ -1,9 +1,10 @@
 //! Both sides of a connection: their streams, and the packets that are shown.
 
-ghost use Rattle.std.specs.Prelude.{◌≡◌, ◌≢◌, ◌↔◌, ◌-◌, ◌∷◌, [], ◌++◌, ℕ, List, IfOk, IfErr, IsTrue, OnOk, None, true, false, string_bytes};
+ghost use Rattle.std.specs.Prelude.{◌≡◌, ◌≢◌, ◌↔◌, ◌-◌, ◌∷◌, [], ◌++◌, ℕ, List, IfOk, IfErr, IsTrue, OnOk, None, true, false, is_some, string_bytes};
 ghost use Rattle.mysql_show.specs.Appended.{Stays};
 ghost use Rattle.mysql_observer.specs.Observed.{Resumed, ResumedAfter, last_exchange};
 ghost use Rattle.mysql_recorder.specs.Frames.{Piece};
+ghost use Rattle.mysql_recorder.specs.Keeps.{Keeps};
 ghost use Rattle.mysql_recorder.specs.Losses.{PieceLoses, PieceLosesIn};
 ghost use Rattle.mysql_recorder.specs.Refusals.{IfLine, IfRefused};
 ghost use Rattle.mysql_recorder.specs.Shown.{Item};
@@ -44,11 +45,7 @@ impl Sides {
     /// bytes, in which `waiting` commands may wait.
     pub(crate) fn new(alloc: Global, layout: Layout, longest: usize, waiting: usize) -> Self
         ensures stand { spec.Stand result [] [] }
-        ensures layout { spec.layout result ≡ layout }
-        ensures longest { spec.longest result ≡ longest }
-        ensures may_wait { spec.may_wait result ≡ waiting }
-        ensures deciphered { spec.is_deciphered result ≡ false }
-        ensures sums { spec.has_sums result ≡ false }
+        ensures settings { spec.settings result ≡ record { layout = layout; longest = longest; may_wait = waiting; is_deciphered = false; has_sums = false } }
     {
         Sides {
             alloc,
@@ -66,7 +63,7 @@ impl Sides {
     pub(crate) fn take_up_at(&mut self, agreed: SessionCapabilities)
         ensures resync { spec.IsResynced self.new agreed (last_exchange self.old.packets.observer) }
         ensures lost { spec.has_lost self.new ≡ spec.has_lost self.old }
-        ensures settings { spec.KeepsSettings self.old self.new }
+        ensures settings { spec.settings self.new ≡ spec.settings self.old }
     {
         self.client = Stream::new(self.alloc, self.longest, false);
         self.server = Stream::new(self.alloc, self.longest, false);
@@ -75,30 +72,23 @@ impl Sides {
 
     /// Sums the following packets.
     pub(crate) fn sum(&mut self)
-        ensures same { spec.IsSummed self.old self.new }
-        ensures sums { spec.has_sums self.new ≡ true }
-        ensures may_wait { spec.may_wait self.new ≡ spec.may_wait self.old }
+        ensures same { self.new ≡ record self.old { packets = record self.old.packets { sums = self.new.packets.sums } } }
+        ensures sums { is_some self.new.packets.sums ≡ true }
     {
         self.packets.sum();
     }
 
     /// Declares that the recording contains the decrypted contents of TLS.
     pub(crate) fn tls_established(&mut self)
-        ensures stand { (pieces : List Piece) (items : List Item) → spec.Stand self.old pieces items → spec.Stand self.new pieces items }
-        ensures deciphered { spec.is_deciphered self.new ≡ true }
-        ensures lost { spec.has_lost self.new ≡ spec.has_lost self.old }
-        ensures layout { spec.layout self.new ≡ spec.layout self.old }
-        ensures longest { spec.longest self.new ≡ spec.longest self.old }
-        ensures may_wait { spec.may_wait self.new ≡ spec.may_wait self.old }
-        ensures sums { spec.has_sums self.new ≡ spec.has_sums self.old }
+        ensures { self.new ≡ record self.old { packets = record self.old.packets { is_deciphered = true } } }
     {
         self.packets.tls_established();
     }
 
     /// Appends the sums, if they are requested.
     pub(crate) fn append_sums(&self, out: &mut String) -> Result<(), AllocError>
-        ensures none { spec.has_sums self.now ≡ false → (result ≡ Ok tt) × (string_bytes out.new ≡ string_bytes out.old) }
-        ensures sums { spec.has_sums self.now ≡ true → OnOk result (AppendsSomeSums (spec.layout self.now) (string_bytes out.old) (string_bytes out.new)) }
+        ensures none { (spec.settings self.now).has_sums ≡ false → (result ≡ Ok tt) × (string_bytes out.new ≡ string_bytes out.old) }
+        ensures sums { (spec.settings self.now).has_sums ≡ true → OnOk result (AppendsSomeSums (spec.layout self.now) (string_bytes out.old) (string_bytes out.new)) }
         ensures stays { Stays (string_bytes out.old) (string_bytes out.new) }
     {
         self.packets.append_sums(out)
@@ -145,11 +135,8 @@ impl Sides {
     ) -> Result<(), RecordingError>
         ensures goes { OnOk result (spec.GoesOn (spec.piece side piece.now ∷ []) self.old self.new (string_bytes out.old) (string_bytes out.new)) }
         ensures refused { IfErr result (λ e. PieceStops PacketKindTag.ALL side piece.now self.old e (string_bytes out.old) (string_bytes out.new)) }
-        ensures lost { spec.has_lost self.old ≡ true → spec.has_lost self.new ≡ true }
-        ensures settings { spec.KeepsSettings self.old self.new }
         ensures loses { PieceLoses PacketKindTag.ALL side piece.now self.old self.new (string_bytes out.old) (string_bytes out.new) }
-        ensures text { Stays (string_bytes out.old) (string_bytes out.new) }
-        ensures no_line { IfErr result (λ e. IfLine e ⊥) }
+        ensures keeps { Keeps result self.old self.new (string_bytes out.old) (string_bytes out.new) }
     {
         if is_beginning && self.passed(side).is_some() {
             self.begin_line(side, piece, out)
@@ -166,10 +153,7 @@ impl Sides {
         out: &mut String,
     ) -> Result<(), RecordingError>
         ensures goes { OnOk result (spec.GoesOn (spec.piece side piece.now ∷ []) self.old self.new (string_bytes out.old) (string_bytes out.new)) }
-        ensures lost { spec.has_lost self.old ≡ true → spec.has_lost self.new ≡ true }
-        ensures settings { spec.KeepsSettings self.old self.new }
-        ensures text { Stays (string_bytes out.old) (string_bytes out.new) }
-        ensures no_line { IfErr result (λ e. IfLine e ⊥) }
+        ensures keeps { Keeps result self.old self.new (string_bytes out.old) (string_bytes out.new) }
     {
         self.take_up(side, piece, out)?;
         self.take_piece(side, piece, out)
@@ -180,10 +164,7 @@ impl Sides {
         // Also after a loss.
         ensures steps { OnOk result (steps.StepsIn side line.now self.old self.new) }
         ensures goes { OnOk result (spec.GoesOn [] self.old self.new (string_bytes out.old) (string_bytes out.new)) }
-        ensures lost { spec.has_lost self.old ≡ true → spec.has_lost self.new ≡ true }
-        ensures settings { spec.KeepsSettings self.old self.new }
-        ensures text { Stays (string_bytes out.old) (string_bytes out.new) }
-        ensures no_line { IfErr result (λ e. IfLine e ⊥) }
+        ensures keeps { Keeps result self.old self.new (string_bytes out.old) (string_bytes out.new) }
     {
         let Some(passed) = self.passed(side) else {
             return Ok(());
@@ -212,7 +193,7 @@ impl Sides {
     fn step_in(&mut self, side: Side)
         ensures passed { spec.passed_of side self.new ≡ None }
         ensures lost { spec.has_lost self.new ≡ spec.has_lost self.old }
-        ensures settings { spec.KeepsSettings self.old self.new }
+        ensures settings { spec.settings self.new ≡ spec.settings self.old }
     {
         match side {
             Side::Client => self.client.take_up(),
@@ -223,7 +204,7 @@ impl Sides {
     /// Skips `count` bytes of a stream, if it is out of step.
     fn pass_over(&mut self, side: Side, count: usize)
         ensures lost { spec.has_lost self.new ≡ spec.has_lost self.old }
-        ensures settings { spec.KeepsSettings self.old self.new }
+        ensures settings { spec.settings self.new ≡ spec.settings self.old }
     {
         match side {
             Side::Client => self.client.pass_over(count),
@@ -279,11 +260,8 @@ impl Sides {
         out: &mut String,
     ) -> Result<(), RecordingError>
         ensures lost { OnOk result (spec.has_lost self.new ≡ true) }
-        ensures stays { spec.has_lost self.old ≡ true → spec.has_lost self.new ≡ true }
         ensures refused { IfErr result (λ e. IfRefused e (λ why. ⊥)) }
-        ensures settings { spec.KeepsSettings self.old self.new }
-        ensures text { Stays (string_bytes out.old) (string_bytes out.new) }
-        ensures no_line { IfErr result (λ e. IfLine e ⊥) }
+        ensures keeps { Keeps result self.old self.new (string_bytes out.old) (string_bytes out.new) }
     {
         let Some(agreed) = self.packets.agreed() else {
             return Err(RecordingError::from(loss));
@@ -303,7 +281,7 @@ impl Sides {
     fn lose_answer(&mut self, agreed: SessionCapabilities, command: &Front)
         ensures lost { spec.has_lost self.new ≡ true }
         ensures resumed { (front : List ℕ) × ResumedAfter self.new.packets.observer agreed (last_exchange self.old.packets.observer - 1) front }
-        ensures settings { spec.KeepsSettings self.old self.new }
+        ensures settings { spec.settings self.new ≡ spec.settings self.old }
     {
         self.has_lost = true;
         self.server.lose();
@@ -315,7 +293,7 @@ impl Sides {
     fn be_lost(&mut self, agreed: SessionCapabilities)
         ensures lost { spec.has_lost self.new ≡ true }
         ensures resumed { Resumed self.new.packets.observer agreed (last_exchange self.old.packets.observer) [] }
-        ensures settings { spec.KeepsSettings self.old self.new }
+        ensures settings { spec.settings self.new ≡ spec.settings self.old }
     {
         self.has_lost = true;
         self.client.lose();
@@ -333,11 +311,8 @@ impl Sides {
     ) -> Result<(), RecordingError>
         ensures goes { OnOk result (spec.GoesOn (spec.piece side piece.now ∷ []) self.old self.new (string_bytes out.old) (string_bytes out.new)) }
         ensures refused { IfErr result (λ e. PieceStops PacketKindTag.ALL side piece.now self.old e (string_bytes out.old) (string_bytes out.new)) }
-        ensures lost { spec.has_lost self.old ≡ true → spec.has_lost self.new ≡ true }
-        ensures settings { spec.KeepsSettings self.old self.new }
         ensures loses { PieceLoses PacketKindTag.ALL side piece.now self.old self.new (string_bytes out.old) (string_bytes out.new) }
-        ensures text { Stays (string_bytes out.old) (string_bytes out.new) }
-        ensures no_line { IfErr result (λ e. IfLine e ⊥) }
+        ensures keeps { Keeps result self.old self.new (string_bytes out.old) (string_bytes out.new) }
     {
         if self.passed(side).is_some() {
             self.pass_over(side, piece.len());
@@ -360,11 +335,8 @@ impl Sides {
     ) -> Result<(), RecordingError>
         ensures whole { came ≡ came_as.Whole → spec.IsSame self.old self.new × (string_bytes out.new ≡ string_bytes out.old) }
         ensures lost { came ≢ came_as.Whole → OnOk result (spec.has_lost self.new ≡ true) }
-        ensures stays { spec.has_lost self.old ≡ true → spec.has_lost self.new ≡ true }
-        ensures settings { spec.KeepsSettings self.old self.new }
         ensures refused { IfErr result (λ e. IfRefused e (λ why. ⊥)) }
-        ensures text { Stays (string_bytes out.old) (string_bytes out.new) }
-        ensures no_line { IfErr result (λ e. IfLine e ⊥) }
+        ensures keeps { Keeps result self.old self.new (string_bytes out.old) (string_bytes out.new) }
     {
         self.await_answer(side, first);
         match came {
@@ -393,7 +365,7 @@ impl Sides {
         ensures goes { IfOk result (λ came. came ≡ came_as.Whole → spec.GoesOn (spec.piece side piece.now ∷ []) self.old self.new (string_bytes out.old) (string_bytes out.new)) }
         ensures refused { IfErr result (λ e. PieceStops PacketKindTag.ALL side piece.now self.old e (string_bytes out.old) (string_bytes out.new)) }
         ensures lost { spec.has_lost self.new ≡ spec.has_lost self.old }
-        ensures settings { spec.KeepsSettings self.old self.new }
+        ensures settings { spec.settings self.new ≡ spec.settings self.old }
         ensures loses { IfOk result (λ came. came ≢ came_as.Whole → PieceLosesIn PacketKindTag.ALL side piece.now self.old (string_bytes out.old) (string_bytes out.new)) }
         ensures stays { Stays (string_bytes out.old) (string_bytes out.new) }
         ensures no_line { IfErr result (λ e. IfLine e ⊥) }

@@ -35,10 +35,7 @@ shows c =
 pub packets-preserved : goal.packets-preserved
 packets-preserved c = record {
   passed = ap (λ s. s.passed) c.recycle.ensures ∙ c.in-Ok-Some.ensures.passed ∙ c.packets.invariant.passed;
-  layout = c.take-taken.ensures.layout ∙ c.packets.invariant.layout;
-  may_wait = c.take-taken.ensures.may_wait ∙ c.packets.invariant.may_wait;
-  deciphered = c.take-taken.ensures.deciphered ∙ c.packets.invariant.deciphered;
-  sums = c.take-taken.ensures.sums ∙ c.packets.invariant.sums;
+  options = c.take-taken.ensures.options ∙ c.packets.invariant.options;
   stays = stays_then (string_bytes c.args.out.now) (string_bytes c.packets.out) (string_bytes c.take-taken.new.out) c.packets.invariant.stays c.take-taken.ensures.stays;
   numbered = λ n. subst (λ s. IsNumbered s.reader) (sym c.recycle.ensures)
       (handed_numbered c.packets.stream.reader c.next.new.self.reader c.packets.input.now (cow_slice_items c.in-Ok-Some.sent.payload) c.next.new.input.now (rw c.in-Ok-Some.field-0-is at c.in-Ok-Some.ensures.payload));
@@ -50,7 +47,7 @@ packets-preserved c = record {
       (string_bytes c.args.out.now) (string_bytes c.packets.out) (string_bytes c.take-taken.new.out) c.in-Ok-Some.sent.sequence c.as_slice.result.now r.1
       (rw c.as_slice.ensures.value (rw c.in-Ok-Some.field-0-is at c.in-Ok-Some.ensures.payload))
       (rw c.in-Ok-Some.field-0-is at c.in-Ok-Some.ensures.sequence)
-      c.packets.invariant.layout (shows c));
+      (ap (λ o. o.layout) c.packets.invariant.options) (shows c));
 }
 
 pub returns-in-Err-taken-clause-refused : goal.returns-in-Err-taken-clause-refused
@@ -60,7 +57,7 @@ returns-in-Err-taken-clause-refused c = λ items h.
     (string_bytes c.args.out.now) (string_bytes c.packets.out) (string_bytes c.take-taken.new.out) c.in-Ok-Some.sent.sequence c.as_slice.result.now c.in-Err-taken.error r.1
     (rw c.as_slice.ensures.value (rw c.in-Ok-Some.field-0-is at c.in-Ok-Some.ensures.payload))
     (rw c.in-Ok-Some.field-0-is at c.in-Ok-Some.ensures.sequence)
-    c.packets.invariant.layout
+    (ap (λ o. o.layout) c.packets.invariant.options)
     (IfErr-at_err (λ e. (xs : List Numbered) → Observed c.packets.packets.observer xs
     → IfRefused e (λ why. ShowsRefused ALL c.packets.packets.layout c.args.side c.in-Ok-Some.sent.sequence c.as_slice.result.now xs why (string_bytes c.packets.out) (string_bytes c.take-taken.new.out)))
     c.in-Err-taken.is c.take-taken.ensures.refused)
@@ -87,7 +84,7 @@ returns-in-Ok-Refused-clause-loses c = λ e items h.
     (string_bytes c.args.out.now) (string_bytes c.packets.out) (string_bytes c.take-taken.new.out) c.in-Ok-Some.sent.sequence c.as_slice.result.now r.1
     (rw c.as_slice.ensures.value (rw c.in-Ok-Some.field-0-is at c.in-Ok-Some.ensures.payload))
     (rw c.in-Ok-Some.field-0-is at c.in-Ok-Some.ensures.sequence)
-    c.packets.invariant.layout
+    (ap (λ o. o.layout) c.packets.invariant.options)
     (at_refused {P = P} c.take-taken.result c.in-Ok-Refused.agreed refused c.take-taken.ensures.lost)
 
 pub returns-in-Err-clause-loses : goal.returns-in-Err-clause-loses

@@ -1,18 +1,14 @@
-use Rattle.std.proofs.Common.{◌≡◌, ◌+◌, List, is_some, length, string_bytes}
+use Rattle.std.proofs.Common.{◌≡◌, ◌+◌, List, length, string_bytes}
 use Rattle.mysql_show.specs.Appended.{Stays}
-use Rattle.mysql_observer.specs.Observed.{limit}
 use Rattle.mysql_recorder.specs.Frames.{IsNumbered}
 use Rattle.mysql_recorder.specs.Shown.{Item}
-use Rattle.mysql_recorder.specs.Sides.{IsAt, Reads}
+use Rattle.mysql_recorder.specs.Sides.{IsAt, Reads, options}
 use Rattle.mysql_recorder.proofs.piece.read_packets.Given as goal
 
 abbrev pub invariant-packets : goal.invariant-packets
 invariant-packets l = record {
   passed : l.stream.passed ≡ l.fn.stream.passed;
-  layout : l.packets.layout ≡ l.fn.packets.layout;
-  may_wait : limit l.packets.observer ≡ limit l.fn.packets.observer;
-  deciphered : l.packets.is_deciphered ≡ l.fn.packets.is_deciphered;
-  sums : is_some l.packets.sums ≡ is_some l.fn.packets.sums;
+  options : options l.packets ≡ options l.fn.packets;
   stays : Stays (string_bytes l.fn.out) (string_bytes l.out);
   numbered : IsNumbered l.fn.stream.reader → IsNumbered l.stream.reader;
   reads : (items : List Item) → IsAt l.fn.stream l.fn.packets items

@@ -27,19 +27,19 @@ returns-in_ok-show-in-Ok-clause-shown c = λ e items h. (
       (c.as_str.ensures.value ∙ ap text_of c.name.ensures.value)
       (subst (λ l. AppendsFields (λ fields. AreFields c.next.new.self.observer c.args.side c.in-Ok.seen.kind c.args.payload.now fields) l
       (record { side = c.args.side; sequence = c.args.sequence; exchange = c.in-Ok.seen.exchange; kind = c.as_str.result.now; payload = c.args.payload.now })
-      (string_bytes c.args.out.now) (string_bytes c.show.new.out)) c.next.ensures.layout c.in_ok-show-in-Ok.ensures.ok)),
+      (string_bytes c.args.out.now) (string_bytes c.show.new.out)) (ap (λ o. o.layout) c.next.ensures.options) c.in_ok-show-in-Ok.ensures.ok)),
 )
 
 pub returns-in-Err-clause-lost : goal.returns-in-Err-clause-lost
 returns-in-Err-clause-lost c =
     subst (λ l. IfOk c.refuse.result (λ taken. taken ≢ taken_as.Shown → (items : List Numbered) → Observed c.args.self.now.observer items
-    → (reason : SessionError) × ShowsRefused ALL l c.args.side c.args.sequence c.args.payload.now items reason (string_bytes c.args.out.now) (string_bytes c.refuse.new.out))) c.next.ensures.layout
+    → (reason : SessionError) × ShowsRefused ALL l c.args.side c.args.sequence c.args.payload.now items reason (string_bytes c.args.out.now) (string_bytes c.refuse.new.out))) (ap (λ o. o.layout) c.next.ensures.options)
     (refused_ok ALL c.next.new.self.layout c.args.self.now.observer c.next.new.self.observer c.args.side c.args.sequence c.args.payload.now c.in-Err.why (string_bytes c.args.out.now) (string_bytes c.refuse.new.out)
     c.in-Err.ensures.err (λ items kind number. c.in-Err.ensures.refused items kind number) c.in-Err.ensures.reason c.refuse.result c.refuse.ensures.ok)
 
 pub returns-in-Err-clause-refused : goal.returns-in-Err-clause-refused
 returns-in-Err-clause-refused c =
     subst (λ l. IfErr c.refuse.result (λ e. (items : List Numbered) → Observed c.args.self.now.observer items
-    → IfRefused e (λ reason. ShowsRefused ALL l c.args.side c.args.sequence c.args.payload.now items reason (string_bytes c.args.out.now) (string_bytes c.refuse.new.out)))) c.next.ensures.layout
+    → IfRefused e (λ reason. ShowsRefused ALL l c.args.side c.args.sequence c.args.payload.now items reason (string_bytes c.args.out.now) (string_bytes c.refuse.new.out)))) (ap (λ o. o.layout) c.next.ensures.options)
     (refused_err ALL c.next.new.self.layout c.args.self.now.observer c.next.new.self.observer c.args.side c.args.sequence c.args.payload.now c.in-Err.why (string_bytes c.args.out.now) (string_bytes c.refuse.new.out)
     c.in-Err.ensures.err (λ items kind number. c.in-Err.ensures.refused items kind number) c.in-Err.ensures.reason c.refuse.result c.refuse.ensures.err)

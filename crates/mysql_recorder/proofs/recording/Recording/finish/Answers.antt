@@ -37,4 +37,4 @@ returns-in_err-end_line-clause-refused c =
     (text_stops (Err c.in_err-end_line.field-0.0) ALL c.args.self.now (string_bytes c.args.out.now) (string_bytes c.end_line.new.out) c.in_err-end_line.ensures.refused))
 
 pub returns-clause-left : goal.returns-clause-left
-returns-clause-left c = (string_bytes c.end_line.new.out, c.in_ok-end_line.ensures.text, c.in_ok-say_unheard.ensures.left)
+returns-clause-left c = (string_bytes c.end_line.new.out, c.in_ok-end_line.ensures.keeps.text, c.in_ok-say_unheard.ensures.left)

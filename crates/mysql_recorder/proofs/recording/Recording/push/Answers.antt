@@ -13,22 +13,18 @@ use Rattle.mysql_recorder.proofs.Stopped.{stops_after, stops_on_err}
 use Rattle.mysql_recorder.proofs.recording.Recording.push.Goals as goal
 
 pub loop-byte-init : goal.loop-byte-init
-loop-byte-init c = record { goes = loop_starts c.args.input.now c.args.self.now (string_bytes c.args.out.now); lost = λ e. e; layout = refl; longest = refl; may_wait = refl; deciphered = refl; sums = refl; loses = loses_none ALL (take 0 c.args.input.now) c.args.self.now c.args.self.now (string_bytes c.args.out.now) (string_bytes c.args.out.now) refl; place = refl; text = stays_same (string_bytes c.args.out.now) }
+loop-byte-init c = record { goes = loop_starts c.args.input.now c.args.self.now (string_bytes c.args.out.now); lost = λ e. e; settings = refl; loses = loses_none ALL (take 0 c.args.input.now) c.args.self.now c.args.self.now (string_bytes c.args.out.now) (string_bytes c.args.out.now) refl; place = refl; text = stays_same (string_bytes c.args.out.now) }
 
 pub loop-byte-preserved : goal.loop-byte-preserved
 loop-byte-preserved c = record {
   goes = loop_goes c.args.input.now c.loop-byte.byte-index (get_or c.args.input.now c.loop-byte.byte-index 0) c.args.self.now c.loop-byte.self c.take_byte.new.self
       (string_bytes c.args.out.now) (string_bytes c.loop-byte.out) (string_bytes c.take_byte.new.out)
-      c.loop-byte-test.true refl c.loop-byte.invariant.goes c.in_ok-take_byte.ensures.lost c.loop-byte.invariant.layout c.in_ok-take_byte.ensures.goes;
+      c.loop-byte-test.true refl c.loop-byte.invariant.goes c.in_ok-take_byte.ensures.lost (ap (λ s. s.layout) c.loop-byte.invariant.settings) c.in_ok-take_byte.ensures.goes;
   lost = λ e. c.in_ok-take_byte.ensures.lost (c.loop-byte.invariant.lost e);
-  layout = c.in_ok-take_byte.ensures.settings.layout ∙ c.loop-byte.invariant.layout;
-  longest = c.in_ok-take_byte.ensures.settings.longest ∙ c.loop-byte.invariant.longest;
-  may_wait = c.in_ok-take_byte.ensures.settings.may_wait ∙ c.loop-byte.invariant.may_wait;
-  deciphered = c.in_ok-take_byte.ensures.settings.deciphered ∙ c.loop-byte.invariant.deciphered;
-  sums = c.in_ok-take_byte.ensures.settings.sums ∙ c.loop-byte.invariant.sums;
+  settings = c.in_ok-take_byte.ensures.settings ∙ c.loop-byte.invariant.settings;
   loses = loop_loses ALL c.args.input.now c.loop-byte.byte-index (get_or c.args.input.now c.loop-byte.byte-index 0) c.args.self.now c.loop-byte.self c.take_byte.new.self
       (string_bytes c.args.out.now) (string_bytes c.loop-byte.out) (string_bytes c.take_byte.new.out)
-      c.loop-byte-test.true refl c.loop-byte.invariant.goes c.loop-byte.invariant.loses c.loop-byte.invariant.layout c.loop-byte.invariant.longest c.in_ok-take_byte.ensures.loses c.in_ok-take_byte.ensures.text;
+      c.loop-byte-test.true refl c.loop-byte.invariant.goes c.loop-byte.invariant.loses (ap (λ s. s.layout) c.loop-byte.invariant.settings) (ap (λ s. s.longest) c.loop-byte.invariant.settings) c.in_ok-take_byte.ensures.loses c.in_ok-take_byte.ensures.text;
   place = place_more (Some c.args.self.now.place) c.args.input.now c.loop-byte.byte-index c.loop-byte.self.place c.take_byte.new.self.place c.loop-byte-test.true c.loop-byte.invariant.place c.in_ok-take_byte.ensures.place;
   text = stays_then (string_bytes c.args.out.now) (string_bytes c.loop-byte.out) (string_bytes c.take_byte.new.out) c.loop-byte.invariant.text c.in_ok-take_byte.ensures.text;
 }
@@ -38,13 +34,13 @@ returns-clause-goes c =
     loop_ends c.take_rest.result c.args.input.now c.loop-byte.byte-index c.args.self.now c.loop-byte.self c.take_rest.new.self
     (string_bytes c.args.out.now) (string_bytes c.loop-byte.out) (string_bytes c.take_rest.new.out)
     (take_all c.loop-byte.byte-index c.args.input.now c.loop-byte-test.false)
-    c.loop-byte.invariant.goes c.take_rest.ensures.lost c.loop-byte.invariant.layout c.take_rest.ensures.goes
+    c.loop-byte.invariant.goes c.take_rest.ensures.keeps.lost (ap (λ s. s.layout) c.loop-byte.invariant.settings) c.take_rest.ensures.goes
 
 pub returns-clause-refused : goal.returns-clause-refused
 returns-clause-refused c =
     stops_on_err c.take_rest.result ALL c.args.input.now c.loop-byte.byte-index c.args.self.now c.loop-byte.self c.take_rest.new.self
     (string_bytes c.args.out.now) (string_bytes c.loop-byte.out) (string_bytes c.take_rest.new.out)
-    c.loop-byte.invariant.goes c.take_rest.ensures.lost c.loop-byte.invariant.layout c.take_rest.ensures.refused
+    c.loop-byte.invariant.goes c.take_rest.ensures.keeps.lost (ap (λ s. s.layout) c.loop-byte.invariant.settings) c.take_rest.ensures.refused
 
 pub returns-in_err-take_byte-clause-refused : goal.returns-in_err-take_byte-clause-refused
 returns-in_err-take_byte-clause-refused c =
@@ -54,24 +50,24 @@ returns-in_err-take_byte-clause-refused c =
     (subst (λ e. Stops ALL c.args.input.now c.args.self.now c.take_byte.new.self e (string_bytes c.args.out.now) (string_bytes c.take_byte.new.out)) same
     (stops_after ALL c.args.input.now c.loop-byte.byte-index c.args.self.now c.loop-byte.self c.take_byte.new.self
     (string_bytes c.args.out.now) (string_bytes c.loop-byte.out) (string_bytes c.take_byte.new.out) c.in_err-take_byte.field-0.0
-    c.loop-byte.invariant.goes c.in_err-take_byte.ensures.lost c.loop-byte.invariant.layout c.in_err-take_byte.ensures.refused))
+    c.loop-byte.invariant.goes c.in_err-take_byte.ensures.lost (ap (λ s. s.layout) c.loop-byte.invariant.settings) c.in_err-take_byte.ensures.refused))
 
 pub returns-clause-loses : goal.returns-clause-loses
 returns-clause-loses c =
     rest_loses ALL c.args.input.now c.loop-byte.byte-index c.args.self.now c.loop-byte.self c.take_rest.new.self
     (string_bytes c.args.out.now) (string_bytes c.loop-byte.out) (string_bytes c.take_rest.new.out)
     (take_all c.loop-byte.byte-index c.args.input.now c.loop-byte-test.false)
-    c.loop-byte.invariant.goes c.loop-byte.invariant.loses c.loop-byte.invariant.layout c.loop-byte.invariant.longest c.take_rest.ensures.loses c.take_rest.ensures.text
+    c.loop-byte.invariant.goes c.loop-byte.invariant.loses (ap (λ s. s.layout) c.loop-byte.invariant.settings) (ap (λ s. s.longest) c.loop-byte.invariant.settings) c.take_rest.ensures.loses c.take_rest.ensures.keeps.text
 
 pub returns-clause-text : goal.returns-clause-text
 returns-clause-text c =
-    stays_then (string_bytes c.args.out.now) (string_bytes c.loop-byte.out) (string_bytes c.take_rest.new.out) c.loop-byte.invariant.text c.take_rest.ensures.text
+    stays_then (string_bytes c.args.out.now) (string_bytes c.loop-byte.out) (string_bytes c.take_rest.new.out) c.loop-byte.invariant.text c.take_rest.ensures.keeps.text
 
 pub returns-in_err-take_byte-clause-loses : goal.returns-in_err-take_byte-clause-loses
 returns-in_err-take_byte-clause-loses c =
     byte_loses ALL c.args.input.now c.loop-byte.byte-index (get_or c.args.input.now c.loop-byte.byte-index 0) c.args.self.now c.loop-byte.self c.take_byte.new.self
     (string_bytes c.args.out.now) (string_bytes c.loop-byte.out) (string_bytes c.take_byte.new.out)
-    c.loop-byte-test.true refl c.loop-byte.invariant.goes c.loop-byte.invariant.loses c.loop-byte.invariant.layout c.loop-byte.invariant.longest c.take_byte.ensures.loses c.take_byte.ensures.text
+    c.loop-byte-test.true refl c.loop-byte.invariant.goes c.loop-byte.invariant.loses (ap (λ s. s.layout) c.loop-byte.invariant.settings) (ap (λ s. s.longest) c.loop-byte.invariant.settings) c.take_byte.ensures.loses c.take_byte.ensures.text
 
 pub returns-clause-place : goal.returns-clause-place
 returns-clause-place c =

@@ -1,24 +1,24 @@
-use Rattle.std.proofs.Common.{◌≢◌, IfOk, IfErr, refl, sym, subst, string_bytes}
+use Rattle.std.proofs.Common.{◌≢◌, IfOk, IfErr, sym, subst, string_bytes}
 use Rattle.mysql_conversation.specs.declared.packet_kind_tag.TheConstants.PacketKindTag.{ALL}
 use Rattle.mysql_recorder.specs.Losses.{PieceLosesIn}
 use Rattle.mysql_recorder.specs.Stops.{PieceStops}
 use Rattle.mysql_recorder.specs.declared.piece.Came.TheVariants as came_as
-use Rattle.mysql_recorder.proofs.Goes.{whole_client, whole_server}
+use Rattle.mysql_recorder.proofs.Goes.{read_client, read_server}
 use Rattle.mysql_recorder.proofs.Losses.{client_loses, server_loses}
 use Rattle.mysql_recorder.proofs.Stopped.{client_stops, server_stops}
 use Rattle.mysql_recorder.proofs.sides.Sides.read.Goals as goal
 
 pub returns-in-Client-clause-goes : goal.returns-in-Client-clause-goes
 returns-in-Client-clause-goes c = rw c.in-Client.is
-    (whole_client c.read_packets.result c.args.self.now (record c.args.self.now { client = c.read_packets.new.stream; packets = c.read_packets.new.packets }) c.args.piece.now
+    (read_client c.read_packets.result c.args.self.now c.read_packets.new.stream c.read_packets.new.packets c.args.piece.now
     (string_bytes c.args.out.now) (string_bytes c.read_packets.new.out)
-    c.read_packets.ensures.whole c.read_packets.ensures.none c.read_packets.ensures.passed refl refl refl)
+    c.read_packets.ensures.whole c.read_packets.ensures.none c.read_packets.ensures.passed)
 
 pub returns-in-Server-clause-goes : goal.returns-in-Server-clause-goes
 returns-in-Server-clause-goes c = rw c.in-Server.is
-    (whole_server c.read_packets-in-Server.result c.args.self.now (record c.args.self.now { server = c.read_packets-in-Server.new.stream; packets = c.read_packets-in-Server.new.packets }) c.args.piece.now
+    (read_server c.read_packets-in-Server.result c.args.self.now c.read_packets-in-Server.new.stream c.read_packets-in-Server.new.packets c.args.piece.now
     (string_bytes c.args.out.now) (string_bytes c.read_packets-in-Server.new.out)
-    c.read_packets-in-Server.ensures.whole c.read_packets-in-Server.ensures.none c.read_packets-in-Server.ensures.passed refl refl refl)
+    c.read_packets-in-Server.ensures.whole c.read_packets-in-Server.ensures.none c.read_packets-in-Server.ensures.passed)
 
 pub returns-in-Client-clause-refused : goal.returns-in-Client-clause-refused
 returns-in-Client-clause-refused c =

@@ -18,4 +18,4 @@ returns-in-Ok-clause-refused c =
 pub returns-in-Ok-clause-loses : goal.returns-in-Ok-clause-loses
 returns-in-Ok-clause-loses c =
     came_loses c.in-Ok.came ALL c.args.side c.args.piece.now c.args.self.now c.read.new.self c.go_on.new.self (string_bytes c.args.out.now) (string_bytes c.read.new.out) (string_bytes c.go_on.new.out)
-    c.in-Ok.ensures.loses c.go_on.ensures.whole c.in-Ok.ensures.lost c.go_on.ensures.text
+    c.in-Ok.ensures.loses c.go_on.ensures.whole c.in-Ok.ensures.lost c.go_on.ensures.keeps.text
