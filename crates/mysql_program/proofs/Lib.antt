@@ -9,4 +9,3 @@ pub mod Inputs
 pub mod Rows
 pub mod Types
 pub mod BulkAnswers
-pub mod Calls

@@ -1,6 +1,6 @@
 //! The arguments of `bulk`.
 
-ghost use Rattle.std.specs.Prelude.{◌≡◌, ◌-◌, ◌≤◌, IfOk, IfSome, Some, None, option_map};
+ghost use Rattle.std.specs.Prelude.{◌≡◌, ◌-◌, ◌≤◌, IfOk, IfSome, Some, None, map, option_map, string_bytes};
 ghost use Rattle.mysql_program.specs.Bulk.{builder_of};
 ghost use Rattle.mysql_program.specs.BulkCall as spec;
 
@@ -39,66 +39,16 @@ impl<'a> Model for BulkCall<'a> {
 }
 
 impl<'a> BulkCall<'a> {
-    /// Parses `STMT MAX`. It takes no memory.
-    pub fn plain(stmt: &str, most: &str) -> Option<BulkCall<'a>>
-        ensures value { result ≡ spec.bulk_call stmt.now most.now (Some spec.plain_rule) None }
+    /// Parses `STMT MAX [types] [rows=K] [columns=TYPE,TYPE,..]`. It takes no memory.
+    pub fn of(arguments: &'a [String]) -> Option<BulkCall<'a>>
+        ensures value { result ≡ spec.bulk_call (map string_bytes arguments.now) }
     {
-        BulkCall::with_rule(stmt, most, Some(BulkRule::PLAIN), None)
-    }
-
-    /// Parses `STMT MAX` and one of the options. It takes no memory.
-    pub fn with_one_option(stmt: &str, most: &str, option: &'a str) -> Option<BulkCall<'a>>
-        ensures value { result ≡ spec.call_of_one stmt.now most.now option.now }
-    {
-        match columns_in(option) {
-            Some(columns) => {
-                BulkCall::with_rule(stmt, most, Some(BulkRule::PLAIN), Some(columns))
-            }
-            None => BulkCall::with_rule(stmt, most, rule_of_one(option), None),
-        }
-    }
-
-    /// Parses `STMT MAX` and two of the options. It takes no memory.
-    pub fn with_two_options(
-        stmt: &str,
-        most: &str,
-        first: &str,
-        second: &'a str,
-    ) -> Option<BulkCall<'a>>
-        ensures value { result ≡ spec.call_of_two stmt.now most.now first.now second.now }
-    {
-        match columns_in(second) {
-            Some(columns) => BulkCall::with_rule(stmt, most, rule_of_one(first), Some(columns)),
-            None => BulkCall::with_rule(stmt, most, rule_of_two(first, second), None),
-        }
-    }
-
-    /// Parses `STMT MAX types rows=K columns=TYPE,TYPE,..`. It takes no memory.
-    pub fn with_three_options(
-        stmt: &str,
-        most: &str,
-        first: &str,
-        second: &str,
-        third: &'a str,
-    ) -> Option<BulkCall<'a>>
-        ensures value { result ≡ spec.call_of_three stmt.now most.now first.now second.now third.now }
-    {
-        let columns = columns_in(third)?;
-        BulkCall::with_rule(stmt, most, rule_of_two(first, second), Some(columns))
-    }
-
-    fn with_rule(
-        stmt: &str,
-        most: &str,
-        rule: Option<BulkRule>,
-        columns: Option<TypeWords<'a>>,
-    ) -> Option<BulkCall<'a>>
-        requires { IfSome rule (λ rule. IfSome rule.max_rows (λ rows. 1 ≤ rows)) }
-        ensures value { result ≡ spec.bulk_call stmt.now most.now rule columns.entry }
-    {
-        let rule = rule?;
+        let [stmt, most, words @ ..] = arguments else {
+            return None;
+        };
         let stmt_id = u32_of(stmt.as_bytes())?;
         let max_allowed_packet = at_least(4, u64_of(most.as_bytes())?)?;
+        let (rule, columns) = options_of(words)?;
         Some(BulkCall {
             stmt_id,
             max_allowed_packet,
@@ -150,43 +100,54 @@ impl<'a> BulkCall<'a> {
     }
 }
 
-/// Parses `types` or `rows=K`.
-fn rule_of_one(option: &str) -> Option<BulkRule>
-    ensures value { result ≡ spec.rule_of_one option.now }
-    ensures some_rows { IfSome result (λ rule. IfSome rule.max_rows (λ rows. 1 ≤ rows)) }
+/// Parses `[types] [rows=K] [columns=TYPE,TYPE,..]`.
+fn options_of(words: &[String]) -> Option<(BulkRule, Option<TypeWords<'_>>)>
+    ensures value { result ≡ spec.options_of (map string_bytes words.now) }
+    ensures some_rows { IfSome result (λ options. IfSome options.0.max_rows (λ rows. 1 ≤ rows)) }
 {
-    match option {
-        "types" => Some(BulkRule {
-            types_always: true,
-            max_rows: None,
-        }),
-        _ => Some(BulkRule {
-            types_always: false,
-            max_rows: Some(most_rows(option)?),
-        }),
+    match words {
+        [word, words @ ..] if word.as_str() == "types" => after_types(true, words),
+        _ => after_types(false, words),
     }
 }
 
-/// Parses `types rows=K`.
-fn rule_of_two(first: &str, second: &str) -> Option<BulkRule>
-    ensures value { result ≡ spec.rule_of_two first.now second.now }
-    ensures some_rows { IfSome result (λ rule. IfSome rule.max_rows (λ rows. 1 ≤ rows)) }
+/// Parses `[rows=K] [columns=TYPE,TYPE,..]`.
+fn after_types(types_always: bool, words: &[String]) -> Option<(BulkRule, Option<TypeWords<'_>>)>
+    ensures value { result ≡ spec.after_types types_always (map string_bytes words.now) }
+    ensures some_rows { IfSome result (λ options. IfSome options.0.max_rows (λ rows. 1 ≤ rows)) }
 {
-    if first != "types" {
-        return None;
+    if let [word, words @ ..] = words {
+        if let Some(digits) = word.as_bytes().strip_prefix(b"rows=") {
+            let max_rows = Some(at_least(1, u64_of(digits)?)?);
+            return after_rows(
+                BulkRule {
+                    types_always,
+                    max_rows,
+                },
+                words,
+            );
+        }
     }
-    Some(BulkRule {
-        types_always: true,
-        max_rows: Some(most_rows(second)?),
-    })
+    let max_rows = None;
+    after_rows(
+        BulkRule {
+            types_always,
+            max_rows,
+        },
+        words,
+    )
 }
 
-/// Parses the number of rows in `rows=K`, which is at least 1.
-fn most_rows(word: &str) -> Option<usize>
-    ensures value { result ≡ spec.most_rows word.now }
+/// Parses `[columns=TYPE,TYPE,..]`.
+fn after_rows(rule: BulkRule, words: &[String]) -> Option<(BulkRule, Option<TypeWords<'_>>)>
+    ensures value { result ≡ spec.after_rows rule (map string_bytes words.now) }
+    ensures rule { IfSome result (λ options. options.0 ≡ rule) }
 {
-    let digits = word.as_bytes().strip_prefix(b"rows=")?;
-    at_least(1, u64_of(digits)?)
+    match words {
+        [] => Some((rule, None)),
+        [word] => Some((rule, Some(columns_in(word.as_str())?))),
+        _ => None,
+    }
 }
 
 /// Parses the types in `columns=TYPE,TYPE,..`.

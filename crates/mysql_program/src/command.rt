@@ -49,157 +49,65 @@ impl<'a> Command<'a> {
     pub fn of(words: &'a [String]) -> Option<Command<'a>>
         ensures value { result ≡ spec.command_of (map string_bytes words.now) }
     {
-        match Command::longest_call(words) {
-            Some(command) => Some(command),
-            None => Command::call_to_five(words),
-        }
-    }
-
-    /// Parses a call of two to five words.
-    fn call_to_five(words: &'a [String]) -> Option<Command<'a>>
-        ensures value { result ≡ spec.call_to_five (map string_bytes words.now) }
-    {
-        match Command::longer_call(words) {
-            Some(command) => Some(command),
-            None => Command::shorter_call(words),
-        }
-    }
-
-    /// Parses a call of two to four words.
-    fn shorter_call(words: &'a [String]) -> Option<Command<'a>>
-        ensures value { result ≡ spec.shorter_call (map string_bytes words.now) }
-    {
         match words {
-            [name, word] => Command::with_one(name.as_str(), word.as_str()),
-            [name, first, second] => {
-                Command::with_two(name.as_str(), first.as_str(), second.as_str())
-            }
-            [name, first, second, third] => {
-                let (name, first) = (name.as_str(), first.as_str());
-                Command::with_three(name, first, second.as_str(), third.as_str())
-            }
-            _ => None,
+            [name, arguments @ ..] => Command::call(name.as_str(), arguments),
+            [] => None,
         }
     }
 
-    /// Parses a call of five words.
-    #[tactic(auto, unfolding(crate::specs::Command::longer_call))]
-    fn longer_call(words: &'a [String]) -> Option<Command<'a>>
-        ensures value { result ≡ spec.longer_call (map string_bytes words.now) }
-    {
-        match words {
-            [name, first, second, third, fourth] => {
-                let (name, first, second) = (name.as_str(), first.as_str(), second.as_str());
-                Command::with_four(name, first, second, third.as_str(), fourth.as_str())
-            }
-            _ => None,
-        }
-    }
-
-    /// Parses a call of six words.
-    #[tactic(auto, unfolding(crate::specs::Command::longest_call))]
-    fn longest_call(words: &'a [String]) -> Option<Command<'a>>
-        ensures value { result ≡ spec.longest_call (map string_bytes words.now) }
-    {
-        match words {
-            [name, first, second, third, fourth, fifth] => {
-                let (name, first, second) = (name.as_str(), first.as_str(), second.as_str());
-                let (third, fourth) = (third.as_str(), fourth.as_str());
-                Command::with_five(name, first, second, third, fourth, fifth.as_str())
-            }
-            _ => None,
-        }
-    }
-
-    fn with_one(name: &str, word: &'a str) -> Option<Command<'a>>
-        ensures value { result ≡ spec.with_one name.now word.now }
+    /// Parses a call by the command's name.
+    fn call(name: &str, arguments: &'a [String]) -> Option<Command<'a>>
+        ensures value { result ≡ spec.call name.now (map string_bytes arguments.now) }
     {
         match name {
-            "stmt" => Some(Command::Stmt(HexDigits::new(word.as_bytes())?)),
-            "infile" => Some(Command::Infile(HexDigits::new(word.as_bytes())?)),
-            "column" => Some(Command::Column(HexDigits::new(word.as_bytes())?)),
-            "handshake" => Some(Command::Handshake(HexDigits::new(word.as_bytes())?)),
-            "gtid" => Some(Command::Gtid(HexDigits::new(word.as_bytes())?)),
-            "gtidstrict" => Some(Command::GtidStrict(HexDigits::new(word.as_bytes())?)),
-            "sid" => Some(Command::Sid(Word::new(word))),
-            "gtidset" => Some(Command::GtidSet(Word::new(word))),
+            "stmt" => Some(Command::Stmt(digits_in(arguments)?)),
+            "infile" => Some(Command::Infile(digits_in(arguments)?)),
+            "column" => Some(Command::Column(digits_in(arguments)?)),
+            "handshake" => Some(Command::Handshake(digits_in(arguments)?)),
+            "gtid" => Some(Command::Gtid(digits_in(arguments)?)),
+            "gtidstrict" => Some(Command::GtidStrict(digits_in(arguments)?)),
+            "sid" => Some(Command::Sid(word_in(arguments)?)),
+            "gtidset" => Some(Command::GtidSet(word_in(arguments)?)),
+            "ok" => Command::ok(arguments),
+            "err" => Command::err(arguments),
+            "bulk" => Some(Command::Bulk(BulkCall::of(arguments)?)),
             _ => None,
         }
     }
 
-    #[tactic(auto, unfolding(crate::specs::Command::with_two))]
-    fn with_two(name: &str, first: &str, second: &'a str) -> Option<Command<'a>>
-        ensures value { result ≡ spec.with_two name.now first.now second.now }
+    /// Parses `KIND CAPS HEX [as-sent]`.
+    #[tactic(auto, unfolding(crate::specs::Command::ok_call))]
+    fn ok(arguments: &'a [String]) -> Option<Command<'a>>
+        ensures value { result ≡ spec.ok_call (map string_bytes arguments.now) }
     {
-        match name {
-            "err" => {
-                let capabilities = capabilities_of(first)?;
-                Some(Command::Err(capabilities, HexDigits::new(second.as_bytes())?))
+        let (front, layout) = match arguments {
+            [kind, capabilities, digits] => (
+                (kind, capabilities, digits),
+                ChangeLayout::Documented,
+            ),
+            [kind, capabilities, digits, word] => {
+                (
+                    (kind, capabilities, digits),
+                    ChangeLayout::of(word.as_str())?,
+                )
             }
-            "bulk" => Some(Command::Bulk(BulkCall::plain(first, second)?)),
-            _ => None,
-        }
+            _ => return None,
+        };
+        let kind = OkKind::of(front.0.as_str())?;
+        let capabilities = capabilities_of(front.1.as_str())?;
+        let digits = HexDigits::new(front.2.as_bytes())?;
+        Some(Command::Ok(kind, capabilities, digits, layout))
     }
 
-    #[tactic(auto, unfolding(crate::specs::Command::with_three))]
-    fn with_three(name: &str, first: &str, second: &str, third: &'a str) -> Option<Command<'a>>
-        ensures value { result ≡ spec.with_three name.now first.now second.now third.now }
+    /// Parses `CAPS HEX`.
+    fn err(arguments: &'a [String]) -> Option<Command<'a>>
+        ensures value { result ≡ spec.err_call (map string_bytes arguments.now) }
     {
-        match name {
-            "ok" => {
-                let kind = OkKind::of(first)?;
-                let capabilities = capabilities_of(second)?;
-                let digits = HexDigits::new(third.as_bytes())?;
-                let layout = ChangeLayout::Documented;
-                Some(Command::Ok(kind, capabilities, digits, layout))
-            }
-            "bulk" => Some(Command::Bulk(BulkCall::with_one_option(first, second, third)?)),
-            _ => None,
-        }
-    }
-
-    #[tactic(auto, unfolding(crate::specs::Command::with_four))]
-    fn with_four(
-        name: &str,
-        first: &str,
-        second: &str,
-        third: &'a str,
-        fourth: &'a str,
-    ) -> Option<Command<'a>>
-        ensures value { result ≡ spec.with_four name.now first.now second.now third.now fourth.now }
-    {
-        match name {
-            "ok" => {
-                let kind = OkKind::of(first)?;
-                let capabilities = capabilities_of(second)?;
-                let digits = HexDigits::new(third.as_bytes())?;
-                let layout = ChangeLayout::of(fourth)?;
-                Some(Command::Ok(kind, capabilities, digits, layout))
-            }
-            "bulk" => Some(Command::Bulk(BulkCall::with_two_options(
-                first, second, third, fourth,
-            )?)),
-            _ => None,
-        }
-    }
-
-    #[tactic(auto, unfolding(crate::specs::Command::with_five))]
-    fn with_five(
-        name: &str,
-        first: &str,
-        second: &str,
-        third: &str,
-        fourth: &str,
-        fifth: &'a str,
-    ) -> Option<Command<'a>>
-        ensures value { result ≡ spec.with_five name.now first.now second.now third.now fourth.now fifth.now }
-    {
-        match name {
-            "bulk" => Some(Command::Bulk(BulkCall::with_three_options(
-                first, second, third, fourth, fifth,
-            )?)),
-            _ => None,
-        }
+        let [capabilities, digits] = arguments else {
+            return None;
+        };
+        let capabilities = capabilities_of(capabilities.as_str())?;
+        Some(Command::Err(capabilities, HexDigits::new(digits.as_bytes())?))
     }
 
     /// Whether the answer needs the input, which only `bulk` reads.
@@ -235,5 +143,25 @@ impl<'a> Command<'a> {
             }
             Command::Bulk(call) => bulk::answer(alloc, &call, input),
         }
+    }
+}
+
+/// Parses `HEX`.
+fn digits_in(arguments: &[String]) -> Option<HexDigits<'_>>
+    ensures value { result ≡ spec.digits_in (map string_bytes arguments.now) }
+{
+    match arguments {
+        [digits] => HexDigits::new(digits.as_bytes()),
+        _ => None,
+    }
+}
+
+/// The only argument.
+fn word_in(arguments: &[String]) -> Option<Word<'_>>
+    ensures value { result ≡ spec.word_in (map string_bytes arguments.now) }
+{
+    match arguments {
+        [word] => Some(Word::new(word.as_str())),
+        _ => None,
     }
 }
