@@ -238,8 +238,7 @@ impl Tracked {
         exchange: u64,
         payload: &[u8],
     ) -> bool
-        ensures taken { spec.TrackedAfter result false agreed kind exchange payload.now self.old self.new }
-        ensures asked { result ≡ false → IsTrue (spec.asks_memory false agreed kind exchange payload.now self.old) }
+        ensures { spec.KeptIn (Some agreed) false kind exchange payload.now result self.old self.new }
     {
         if self.is_silent_alone(kind) {
             self.forget_executions();
@@ -258,8 +257,7 @@ impl Tracked {
         exchange: u64,
         payload: &[u8],
     ) -> bool
-        ensures taken { spec.TrackedAfter result false agreed kind exchange payload.now self.old self.new }
-        ensures asked { result ≡ false → IsTrue (spec.asks_memory false agreed kind exchange payload.now self.old) }
+        ensures { spec.KeptIn (Some agreed) false kind exchange payload.now result self.old self.new }
     {
         self.forget_executions();
         if is_lost(self.lost, exchange) {

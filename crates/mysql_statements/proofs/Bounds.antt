@@ -1,5 +1,5 @@
 -- A table stays within its limits.
-use Rattle.std.proofs.Common.{◌≡◌, ℕ, zero, suc, ◌+◌, ◌-◌, ◌<◌, ◌≤◌, Bool, true, false, nat_lt, ◌&&◌, not, List, [], ◌∷◌, ◌++◌, Option, Some, None, length, refl, sym, ap, subst, ◌==◌, Result, Ok, Err, OnOk, OnErr, if◌then◌else◌, arith}
+use Rattle.std.proofs.Common.{◌≡◌, ℕ, zero, suc, ◌+◌, ◌-◌, ◌<◌, ◌≤◌, Bool, true, false, nat_lt, ◌&&◌, not, List, [], ◌∷◌, ◌++◌, Option, Some, None, length, refl, ap, ◌==◌, Ok, Err, if◌then◌else◌, arith}
 use Rattle.std.proofs.lemmas.List.{length-append, length-map, length-replicate}
 use Rattle.std.proofs.lemmas.Bool.{leb-true, ltb-true, and_parts}
 use Rattle.mysql_wire.specs.Reading.{Reading}
@@ -271,9 +271,3 @@ within_after memory a kind.Column p t h = within_defined memory (column_at a p) 
 within_after memory a (kind.ColumnCount count follow) p t h = within_counted t.task count follow t h
 within_after memory a kind.Error p t h = within_failed t.task t h
 within_after memory a _ p t h = h
-
--- whether or not an allocation succeeded
-pub within_taken : {E : Type 0} (r : Result (Unit {0}) E) (a : Agreed) (k : PacketKind) (p : List ℕ) (old new : Table)
-    → OnOk r (new ≡ after true a k p old) → OnErr r (new ≡ after false a k p old) → IsWithin old → IsWithin new
-within_taken (Ok x) a k p old new ok err h = subst IsWithin (sym ok) (within_after true a k p old h)
-within_taken (Err e) a k p old new ok err h = subst IsWithin (sym err) (within_after false a k p old h)

@@ -1,5 +1,5 @@
 -- How much a table keeps, and which packets make it allocate.
-use Rattle.std.specs.Prelude.{◌≡◌, ℕ, zero, suc, ◌+◌, ◌≤◌, nat_lt, Bool, true, false, not, ◌&&◌, ◌||◌, List, length, Option, Some, None, is_some, Result, OnOk, OnErr, IsTrue}
+use Rattle.std.specs.Prelude.{◌≡◌, ℕ, zero, suc, ◌+◌, ◌≤◌, nat_lt, Bool, false, not, ◌&&◌, ◌||◌, List, length, Option, Some, None, is_some, Result, OnErr, IsTrue, is_ok}
 use Rattle.mysql_conversation.specs.Agreements.{Agreed}
 use Rattle.mysql_conversation.specs.declared.packet_kind.PacketKind.{PacketKind}
 use Rattle.mysql_conversation.specs.declared.packet_kind.PacketKind.TheVariants as kind
@@ -47,4 +47,4 @@ takes_memory a _ p t = false
 -- the table is the one after the packet, with or without memory; memory is requested only if something is to be kept
 abbrev pub IsTaken : {A E : Type 0} → Agreed → PacketKind → List ℕ → Table → Result A E → Table → Type 0
 IsTaken a k p t result now =
-    (OnOk result (now ≡ after true a k p t)) × (OnErr result (now ≡ after false a k p t)) × (OnErr result (IsTrue (takes_memory a k p t)))
+    (now ≡ after (is_ok result) a k p t) × OnErr result (IsTrue (takes_memory a k p t))

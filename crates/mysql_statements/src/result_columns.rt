@@ -1,6 +1,6 @@
 //! The columns of the last result.
 
-ghost use Rattle.std.specs.Prelude.{◌≡◌, IfSome, IfNone, OnOk, OnErr, IsTrue, Some, None, true, false};
+ghost use Rattle.std.specs.Prelude.{◌≡◌, IfSome, IfNone, OnErr, IsTrue, Some, None, is_ok};
 ghost use Rattle.mysql_conversation.specs.declared.packet_kind.PacketKind.TheVariants as kinds;
 ghost use Rattle.mysql_statements.specs.ResultColumns as spec;
 
@@ -79,8 +79,7 @@ impl ResultColumns {
         kind: PacketKind,
         payload: &[u8],
     ) -> Result<(), AllocError>
-        ensures taken { OnOk result (self.new ≡ spec.after true agreed kind payload.now self.old) }
-        ensures memory { OnErr result (self.new ≡ spec.after false agreed kind payload.now self.old) }
+        ensures taken { self.new ≡ spec.after (is_ok result) agreed kind payload.now self.old }
         // Memory is requested only if a column is kept.
         ensures asked { OnErr result (IsTrue (spec.takes_memory agreed kind payload.now self.old)) }
     {
@@ -112,8 +111,7 @@ impl ResultColumns {
     /// Takes a definition, if one is expected.
     #[inline(never)]
     fn define(&mut self, agreed: SessionCapabilities, payload: &[u8]) -> Result<(), AllocError>
-        ensures ok { OnOk result (self.new ≡ spec.after true agreed kinds.Column payload.now self.old) }
-        ensures err { OnErr result (self.new ≡ spec.after false agreed kinds.Column payload.now self.old) }
+        ensures taken { self.new ≡ spec.after (is_ok result) agreed kinds.Column payload.now self.old }
         ensures asked { OnErr result (IsTrue (spec.takes_memory agreed kinds.Column payload.now self.old)) }
     {
         let Some(left) = self.left else {

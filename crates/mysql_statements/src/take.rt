@@ -1,6 +1,6 @@
 //! Updates the table by packets.
 
-ghost use Rattle.std.specs.Prelude.{◌≡◌, OnOk, OnErr, IsTrue, true, false};
+ghost use Rattle.std.specs.Prelude.{◌≡◌, OnErr, IsTrue, is_ok};
 ghost use Rattle.mysql_statements.specs.After as spec;
 ghost use Rattle.mysql_statements.specs.Bounds as bounds;
 ghost use Rattle.mysql_statements.specs.Packets as packets;
@@ -39,8 +39,7 @@ impl Statements {
         kind: PacketKind,
         payload: &[u8],
     ) -> Result<(), AllocError>
-        ensures taken { OnOk result (self.new ≡ spec.after true agreed kind payload.now self.old) }
-        ensures memory { OnErr result (self.new ≡ spec.after false agreed kind payload.now self.old) }
+        ensures taken { self.new ≡ spec.after (is_ok result) agreed kind payload.now self.old }
         // Memory is requested only if the packet makes the table keep a statement or the definition of a column.
         ensures asked { OnErr result (IsTrue (bounds.takes_memory agreed kind payload.now self.old)) }
         // The limits are respected.
