@@ -1,20 +1,20 @@
 -- A state in plain numbers stands for one of the machine.
-use Rattle.std.proofs.Common.{◌≡◌, ℕ, ◌+◌, ◌-◌, ◌^◌, List, [], ◌∷◌, ◌++◌, inl, inr, arith, length, take, Some, None, true, false, refl, sym, subst, ap, ◌∙◌}
-use Rattle.std.specs.Prelude.{◌↔◌, ◌≢◌}
+use Rattle.std.proofs.Common.{◌≡◌, ℕ, ◌+◌, ◌-◌, ◌^◌, List, [], ◌∷◌, ◌++◌, inr, arith, length, take, Some, None, true, false, refl, sym, subst, ap, ◌∙◌}
+use Rattle.std.specs.Prelude.{◌≢◌}
 use Rattle.std.proofs.lemmas.Option.{same_Some}
 use Rattle.mysql_conversation.specs.Agreements.{Agreed}
 use Rattle.mysql_conversation.specs.ConversationState.{Stays, state_at}
 use Rattle.mysql_conversation.specs.Machine.{is_due, is_rest, take_step}
 use Rattle.mysql_conversation.specs.Piped.{IsCommand, place}
 use Rattle.mysql_conversation.specs.Pipelined.{Numbered, IsPipelinedBeginning}
-use Rattle.mysql_conversation.specs.PipelineState.{Comes, IsFull, IsQueue, TakenAt, TakesNone, numbered_from, opening, queue, stands_in}
+use Rattle.mysql_conversation.specs.PipelineState.{Comes, IsQueue, TakenAt, TakesNone, numbered_from, opening, queue, stands_in}
 use Rattle.mysql_conversation.specs.Standing.{PipeRun, command_of, pipe_step, start}
 use Rattle.mysql_conversation.proofs.PipeSteps.{run_sound, served_stays}
-use Rattle.mysql_conversation.proofs.Places.{idle_step, some_command}
+use Rattle.mysql_conversation.proofs.Places.{some_command}
 use Rattle.mysql_conversation.proofs.Queues.{queue_length}
 use Rattle.mysql_conversation.proofs.States.{idle_is}
 use Rattle.mysql_conversation.proofs.Stood.{pipe_comes, pipe_one_more, pipe_refused, start_sound}
-use Rattle.mysql_conversation.proofs.Turns.{no_aside, rest_step_is}
+use Rattle.mysql_conversation.proofs.Turns.{rest_step_is}
 use Rattle.mysql_conversation.specs.declared.packet_kind.PacketKind.{PacketKind}
 use Rattle.mysql_conversation.specs.declared.packet_kind.Side.{Side}
 use Rattle.mysql_conversation.specs.declared.packet_kind.Side.TheVariants.{Client, Server}
@@ -47,39 +47,12 @@ some_comes a s m side p e n = λ items h. pipe_comes a (opening s) items (stands
 
 -- ---- when no command may wait
 
--- a packet of the client that is no command isn't refused as full
-pub aside_fits : (a : Agreed) (s : PipelineState) (m n : State) (p : List ℕ) (k : PacketKind) → is_due m ≡ true → take_step a m Client p ≡ Some (k, n) → IsCommand Client p × TakesNone m s → ⊥
-aside_fits a s m n p k d e h = let none = no_aside a m p h.0.1 d h.0.2 in absurd (cc (none, e))
-
 -- a command in its turn that can't be counted
 pub idle_takes_none : (a : Agreed) (s : PipelineState) (m n : State) (p : List ℕ) (k : PacketKind) → is_rest m ≡ true → take_step a m Client p ≡ Some (k, n) → s.last ≡ 2 ^ 64 - 1 → IsCommand Client p × TakesNone m s
 idle_takes_none a s m n p k i e l =
     let step = subst (λ s. take_step a s Client p ≡ Some (k, n)) (idle_is m i) e in
     let f = some_command (command_of p) k n (sym (rest_step_is a p) ∙ step) in
     ((refl, f.0, f.1), inr (inr i, l))
-
--- what the machine refuses at the client's turn
-pub refused_fits : (a : Agreed) (s : PipelineState) (m : State) (p : List ℕ) → is_due m ≡ false → take_step a m Client p ≡ None → IsCommand Client p × TakesNone m s → ⊥
-refused_fits a s m p d e (k, inl h) = let no : true ≡ false = sym h.0.0 ∙ d in absurd cc
-refused_fits a s m p d e (k, inr (inl h, n)) = let no : true ≡ false = sym h.0 ∙ d in absurd cc
-refused_fits a s m p d e (k, inr (inr h, n)) = idle_step a p k.1 k.2 (subst (λ s. take_step a s Client p ≡ None) (idle_is m h) e)
-
-pub server_fits : (s : PipelineState) (m : State) (side : Side) (p : List ℕ) → side ≡ Server → IsCommand side p × TakesNone m s → ⊥
-server_fits s m side p e h = let no : Client ≡ Server = sym h.0.0 ∙ e in absurd cc
-
--- the call's state is the numbers' one
-pub full_is : {W : Type 0} (s : PipelineState) (m : State) (side : Side) (p : List ℕ) → IsQueue s → state_at s.current ≡ Some m → (W ↔ (IsCommand side p × TakesNone m s)) → W ↔ IsFull s side p
-full_is s m side p q e w = (
-  (λ f. let h = w.0 f in (h.0, q, m, e, h.1)),
-  (λ h. w.1 (h.0, subst (λ n. TakesNone n s) (same_Some h.2 m (sym h.3 ∙ e)) h.4)),
-)
-
--- numbers of no state are never full
-pub no_state_full : (s : PipelineState) (side : Side) (p : List ℕ) → state_at s.current ≡ None → IsFull s side p → ⊥
-no_state_full s side p e h = let no : None ≡ Some h.2 = sym e ∙ h.3 in absurd cc
-
-pub no_state_taken : (a : Agreed) (s : PipelineState) (items : List Numbered) → state_at s.current ≡ None → TakenAt a s items → ⊥
-no_state_taken a s items e h = let no : None ≡ Some h.1 = sym e ∙ h.2 in absurd cc
 
 -- ---- whether all is answered
 
