@@ -102,14 +102,6 @@ comes_at c o a s side payload e f g h =
     let k : Comes (agreed_of c) (state_of c o) side payload = subst (λ s. Comes (agreed_of c) s side payload) f (subst (λ a. Comes a s side payload) g h) in
     λ items t. let n = k items (taken_at c o items e t) in (n.0, n.1, inr (o, e, n.2))
 
--- whether no further command may wait
-pub full_is : {W : Type 0} (c : CConversation) (o : InitialPhase) (s : PipelineState) (side : Side) (payload : List ℕ) → opening_of c.opening ≡ Some o → s ≡ state_of c o
-    → (W ↔ stands.IsFull s side payload) → W ↔ IsFull c side payload
-full_is c o s side payload e f w = (
-  (λ x. (o, e, subst (λ s. stands.IsFull s side payload) f (w.0 x))),
-  (λ h. w.1 (subst (λ s. stands.IsFull s side payload) (sym f) (subst (λ q. stands.IsFull (state_of c q) side payload) (one_opening c.opening h.0 o h.1 e) h.2))),
-)
-
 -- ---- before it
 
 pub login_taken : (c : CConversation) (items : List Numbered) → IsLogin c → Taken c items → LoginTaken c items

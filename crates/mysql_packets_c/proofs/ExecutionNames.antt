@@ -1,6 +1,6 @@
 -- The names of parameters, read in order.
-use Rattle.std.proofs.Common.{◌≡◌, ◌<◌, ◌≤◌, ◌-◌, ◌++◌, ◌∷◌, ◌+◌, ℕ, List, [], Ok, false, slice_set, length, drop, take, refl, sym, subst, ap, ◌∙◌, arith}
-use Rattle.std.proofs.lemmas.List.{append-nil, append_assoc, length-map, length-take-le, map-append, take_more_set}
+use Rattle.std.proofs.Common.{◌≡◌, ◌≤◌, ◌-◌, ◌++◌, ◌+◌, ℕ, List, [], Ok, false, length, drop, take, refl, sym, subst, ap, ◌∙◌, arith}
+use Rattle.std.proofs.lemmas.List.{append-nil, length-map, length-take-le}
 use Rattle.mysql_wire.specs.Flags.{CapabilityFlags}
 use Rattle.mysql_wire.specs.Reading.{Reading, Faults}
 use Rattle.mysql_wire.specs.declared.fault.FaultOf.{FaultOf}
@@ -13,15 +13,6 @@ use Rattle.mysql_packets_c.specs.ExecutionNames.{FillsGoodNames, FillsNames, hel
 use Rattle.mysql_packets_c.specs.declared.execution.CBoundParam.{CBoundParam}
 use Rattle.mysql_packets_c.specs.declared.text.CBytes.{CBytes}
 use Rattle.mysql_packets_c.proofs.Executions.{good-are, no-front, no-head}
-
--- one more name
-pub one-name : (names : List CBytes) (place : ℕ) (x : CBytes) (read left more : List TypedParam) (p : TypedParam)
-    → names_of read ≡ held (take place names) ++ names_of left → left ≡ p ∷ more → x.bytes.now ≡ p.named_type.name → place < length names
-    → names_of read ≡ held (take (place + 1) (slice_set names place x)) ++ names_of more
-one-name names place x read left more p before first is fits =
-    let stored = ap held (take_more_set names place x fits) ∙ map-append (λ b. b.bytes.now) (take place names) (x ∷ []) in
-    before ∙ ap (λ (ps : List TypedParam). held (take place names) ++ names_of ps) first ∙ ap (λ (n : List ℕ). held (take place names) ++ n ∷ names_of more) (sym is)
-    ∙ sym (ap (λ (ns : List (List ℕ)). ns ++ names_of more) stored ∙ append_assoc (held (take place names)) (x.bytes.now ∷ []) (names_of more))
 
 -- all of them
 pub all-names : (old new : ParamsLeft) (before names : List CBytes) → FillsNames old new before names → HasNoParam new → names_of old.params ≡ held (take old.left names)

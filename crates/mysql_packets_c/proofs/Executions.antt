@@ -1,5 +1,5 @@
 -- An execution read into places.
-use Rattle.std.proofs.Common.{◌≡◌, ◌≢◌, ◌<◌, ◌≤◌, ◌-◌, ◌++◌, ◌∷◌, ◌+◌, ℕ, List, [], slice_set, Result, Ok, Err, Bool, length, drop, map, take, get_or, false, refl, sym, subst, ap, ◌∙◌, arith, if◌then◌else◌}
+use Rattle.std.proofs.Common.{◌≡◌, ◌≢◌, ◌<◌, ◌≤◌, ◌-◌, ◌++◌, ◌∷◌, ◌+◌, ℕ, List, [], slice_set, Result, Ok, Err, IfErr, IfOk, Bool, length, drop, map, take, get_or, false, refl, sym, subst, ap, ◌∙◌, arith, if◌then◌else◌}
 use Rattle.std.proofs.lemmas.List.{append-nil, append_assoc, drop_more, length-drop, length-map, length-take-le, take_more_set}
 use Rattle.std.specs.List.{AllZip}
 use Rattle.mysql_wire.specs.declared.fault.FaultKind.{FaultKind}
@@ -12,11 +12,12 @@ use Rattle.mysql_wire.specs.Form.{Form}
 use Rattle.mysql_wire.specs.Reading.{Reading, Faults, then_read}
 use Rattle.mysql_stmt.specs.Attributes.{Attribute, AttributesLeft, attribute, attributes_left, attributes_read}
 use Rattle.mysql_stmt.specs.ExecuteHead.{cursor_flags, stmt_id}
-use Rattle.mysql_stmt.specs.ExecuteRead.{AttributesAhead, Gives, HasNoParam, ParamsBytes, ParamsLeft, RefusesParam, StandsAfter, TypedParam, attributes_at, bytes_after, execution, execution_front, execution_of, left_of, params_of, params_to}
+use Rattle.mysql_stmt.specs.ExecuteRead.{AttributesAhead, Gives, GivesBound, HasNoParam, ParamsBytes, ParamsLeft, RefusesParam, StandsAfter, TypedParam, attributes_at, bytes_after, execution, execution_front, execution_of, left_of, params_of, params_to, read_as}
 use Rattle.mysql_stmt.specs.SentTypes.{NamedType}
 use Rattle.mysql_stmt.proofs.ParamViews.{no-param}
 use Rattle.mysql_stmt.specs.declared.execute_head.ComStmtExecuteHead.{ComStmtExecuteHead}
 use Rattle.mysql_stmt.specs.declared.execute_view.BoundParam.{BoundParam}
+use Rattle.mysql_stmt.specs.declared.typed_param.TypedExecuteParam.{TypedExecuteParam}
 use Rattle.mysql_packets_c.specs.Code.{fault_code, kind_code}
 use Rattle.mysql_packets_c.specs.Input.{used_of}
 use Rattle.mysql_packets_c.specs.Value.{IsSet, param_content}
@@ -223,49 +224,29 @@ module _ (old : ParamsBytes) (params : List CBoundParam) (i : ℕ) (x d : CBound
       let first : bound_list (drop i params) ≡ y ∷ others_at params i = ap bound_list (drop_more params i d fits) ∙ ap (λ (b : BoundParam). b ∷ others_at params i) (sym (bound ∙ ap bound_of is)) in
       ap (left_of old) (sym first ∙ list-at params i (length params - old.left) at)
 
-  pub one-given : (new : ParamsBytes) (pair : TypedParam) → Gives (left_of old (y ∷ others_at params i)) pair (left_of new (others_at params i)) → Gives (last_left old params) pair (last_left new params)
+  one-given : (new : ParamsBytes) (pair : TypedParam) → Gives (left_of old (y ∷ others_at params i)) pair (left_of new (others_at params i)) → Gives (last_left old params) pair (last_left new params)
   one-given new pair gives =
       let at : length params - new.left ≡ i + 1 = omega (arith, left, gives.left) in
       let after : left_of new (others_at params i) ≡ last_left new params = ap (left_of new) (list-at params (i + 1) (length params - new.left) at) in
       let Q : ParamsLeft → Type 0 = λ l. Gives l pair (left_of new (others_at params i)) in
       subst (λ (l : ParamsLeft). Gives (last_left old params) pair l) after (subst Q before-it gives)
 
-  pub none-given : (e : FaultOf) → RefusesParam e (left_of old (y ∷ others_at params i)) → RefusesParam e (last_left old params)
+  none-given : (e : FaultOf) → RefusesParam e (left_of old (y ∷ others_at params i)) → RefusesParam e (last_left old params)
   none-given e refused = subst (RefusesParam e) before-it refused
+
+  pub given-at : (r : Result TypedExecuteParam FaultOf) (new : ParamsBytes) → GivesBound old y (others_at params i) r new → IfOk r (λ it. Gives (last_left old params) (read_as it) (last_left new params))
+  given-at (Ok it) new h = one-given new (read_as it) h
+  given-at (Err e) new h = tt
+
+  pub refused-at : (r : Result TypedExecuteParam FaultOf) (new : ParamsBytes) → GivesBound old y (others_at params i) r new → IfErr r (λ e. RefusesParam e (last_left old params) × (new ≡ old))
+  refused-at (Ok it) new h = tt
+  refused-at (Err e) new h = (none-given e h.0, h.1)
 
 -- the parameters are read, and then the attributes
 after-params : (view : ParamsLeft) (bytes : List ℕ) → view.end ≡ Ok bytes
     → execution_of view ≡ then_read (attributes_at view.attributes bytes).all (λ attributes rest. Ok ((view.params, attributes), rest))
 after-params view bytes end =
     ap (λ (e : Result (List ℕ) FaultKind). then_read (params_to view.params e) (λ ps after. then_read (attributes_at view.attributes after).all (λ attributes rest. Ok ((ps, attributes), rest)))) end
-
-module _ (c : CapabilityFlags) (flags : ℕ) (params : List BoundParam) (bytes : List ℕ) (sent after : ParamsBytes) (list : List CBoundParam) (view : AttributesLeft)
-    (is_view : view ≡ attributes_left after.nulls after.place after.types after.values) where
-  abbrev old : ParamsLeft
-  old = last_left sent list
-
-  abbrev new : ParamsLeft
-  new = last_left after list
-
-  module _ (read : execution_of old ≡ (execution c flags params).reads bytes) (rest_kept : KeepsRest old new) (none : after.left ≡ 0) where
-    -- what is read after the parameters
-    then-attributes : (execution c flags params).reads bytes ≡ then_read view.all (λ attributes rest. Ok ((old.params, attributes), rest))
-    then-attributes =
-        let past = none-left after list none in
-        let at_end : old.end ≡ Ok after.values = sym rest_kept.end ∙ past.end in
-        let at_view : (attributes_at old.attributes after.values).all ≡ view.all = ap (λ (a : AttributesAhead). (attributes_at a after.values).all) (sym rest_kept.attributes ∙ past.attributes) ∙ ap (λ (v : AttributesLeft). v.all) (sym is_view) in
-        sym read ∙ after-params old after.values at_end ∙ ap (λ r. then_read r (λ attributes rest. Ok ((old.params, attributes), rest))) at_view
-
-    pub attributes-refused : (e : FaultOf) → Faults false e view.all → Faults false e ((execution c flags params).reads bytes)
-    attributes-refused e h =
-        subst (λ (r : _). Faults false e r) (sym then-attributes) (then-fault view.all (λ attributes rest. Ok ((old.params, attributes), rest)) e h)
-
-    pub all-read : (rest : List ℕ) → view.all ≡ Ok (attributes_read view.all, rest) → (execution c flags params).reads bytes ≡ Ok ((old.params, attributes_read view.all), rest)
-    all-read rest h = then-attributes ∙ ap (λ r. then_read r (λ attributes rest. Ok ((old.params, attributes), rest))) h
-
--- whether types are sent
-pub front-sends : (c : CapabilityFlags) (flags params : ℕ) (bytes : List ℕ) (b : ParamsBytes) → StandsAfter c flags params bytes b → sends_types ((execution_front c flags params).reads bytes) ≡ (if b.sends_types then 1 else 0)
-front-sends c flags params bytes b (f, after, reads, is) = rw (reads, is) refl
 
 -- a fault may follow any number of parameters
 fault-after : (ps : List TypedParam) (end : Result (List ℕ) FaultKind) (e : FaultOf) → Faults false e (params_to [] end) → Faults false e (params_to ps end)
@@ -275,10 +256,42 @@ fault-after ps (Ok rest) (fault.InvalidData text) h = absurd cc
 fault-after ps (Ok rest) (fault.InvalidInput text) h = absurd cc
 fault-after ps (Ok rest) fault.Memory h = absurd cc
 
-pub one-refused : (old new : ParamsLeft) (e : FaultOf) → KeepsRest old new → RefusesParam e new → Faults false e (execution_of old)
+one-refused : (old new : ParamsLeft) (e : FaultOf) → KeepsRest old new → RefusesParam e new → Faults false e (execution_of old)
 one-refused old new e kept refused =
     let at_end : Faults false e (params_to [] old.end) = rw (refused.0, kept.end) at refused.1 in
     then-fault (params_of old) (λ ps after. then_read (attributes_at old.attributes after).all (λ attributes rest. Ok ((ps, attributes), rest))) e (fault-after old.params old.end e at_end)
+
+module _ (c : CapabilityFlags) (flags : ℕ) (list : List CBoundParam) (bytes : List ℕ) (sent after : ParamsBytes) (left : sent.left ≡ length list)
+    (given : (params : List BoundParam) → length params ≡ length list → execution_of (left_of sent params) ≡ (execution c flags params).reads bytes) (kept : KeepsRest (last_left sent list) (last_left after list)) where
+  abbrev old : ParamsLeft
+  old = last_left sent list
+
+  read : execution_of old ≡ (execution c flags (bound_list list)).reads bytes
+  read = ap execution_of (all-left sent list left) ∙ given (bound_list list) (length-map list bound_of)
+
+  -- the fault of a parameter
+  pub params-refused : (e : FaultOf) → RefusesParam e (last_left after list) → Faults false e ((execution c flags (bound_list list)).reads bytes)
+  params-refused e refused = subst (λ (r : _). Faults false e r) read (one-refused old (last_left after list) e kept refused)
+
+  module _ (view : AttributesLeft) (is_view : view ≡ attributes_left after.nulls after.place after.types after.values) (none : after.left ≡ 0) where
+    -- what is read after the parameters
+    then-attributes : (execution c flags (bound_list list)).reads bytes ≡ then_read view.all (λ attributes rest. Ok ((old.params, attributes), rest))
+    then-attributes =
+        let past = none-left after list none in
+        let at_end : old.end ≡ Ok after.values = sym kept.end ∙ past.end in
+        let at_view : (attributes_at old.attributes after.values).all ≡ view.all = ap (λ (a : AttributesAhead). (attributes_at a after.values).all) (sym kept.attributes ∙ past.attributes) ∙ ap (λ (v : AttributesLeft). v.all) (sym is_view) in
+        sym read ∙ after-params old after.values at_end ∙ ap (λ r. then_read r (λ attributes rest. Ok ((old.params, attributes), rest))) at_view
+
+    pub attributes-refused : (e : FaultOf) → Faults false e view.all → Faults false e ((execution c flags (bound_list list)).reads bytes)
+    attributes-refused e h =
+        subst (λ (r : _). Faults false e r) (sym then-attributes) (then-fault view.all (λ attributes rest. Ok ((old.params, attributes), rest)) e h)
+
+    pub all-read : (rest : List ℕ) → view.all ≡ Ok (attributes_read view.all, rest) → (execution c flags (bound_list list)).reads bytes ≡ Ok ((old.params, attributes_read view.all), rest)
+    all-read rest h = then-attributes ∙ ap (λ r. then_read r (λ attributes rest. Ok ((old.params, attributes), rest))) h
+
+-- whether types are sent
+pub front-sends : (c : CapabilityFlags) (flags params : ℕ) (bytes : List ℕ) (b : ParamsBytes) → StandsAfter c flags params bytes b → sends_types ((execution_front c flags params).reads bytes) ≡ (if b.sends_types then 1 else 0)
+front-sends c flags params bytes b (f, after, reads, is) = rw (reads, is) refl
 
 -- ---- the whole execution
 

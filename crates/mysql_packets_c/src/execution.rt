@@ -1,11 +1,11 @@
 //! The execution of a prepared statement.
 #![tactic(auto, using(crate::proofs::Codes::codes, crate::proofs::Executions::executions))]
 
-ghost use Rattle.std.specs.Prelude.{◌≡◌, ◌≢◌, ◌<◌, ◌≤◌, ◌⊎◌, Ok, Err, IfErr, IfOk, OnOk, length, take, false, true};
+ghost use Rattle.std.specs.Prelude.{◌≡◌, ◌≢◌, ◌+◌, ◌<◌, ◌≤◌, ◌⊎◌, Ok, Err, IfErr, IfOk, OnOk, length, take, false, true};
 ghost use Rattle.mysql_stmt.specs.ExecuteParam.{param_of};
 ghost use Rattle.mysql_stmt.specs.Attributes.{attributes_left};
 ghost use Rattle.mysql_stmt.specs.ExecuteHead.{cursor_flags, execute_head};
-ghost use Rattle.mysql_stmt.specs.ExecuteRead.{HasNoParam, RefusesParam};
+ghost use Rattle.mysql_stmt.specs.ExecuteRead.{Gives, HasNoParam, RefusesParam, read_as};
 ghost use Rattle.mysql_packets_c.specs.Code.{ReadsInto};
 ghost use Rattle.mysql_packets_c.specs.Execution as spec;
 ghost use Rattle.mysql_packets_c.specs.Value.{SetsParam, param_content};
@@ -17,6 +17,7 @@ use crate::rows::CColumnType;
 use crate::value::{CValue, put_date_with_offset, put_ref};
 use mysql_stmt::{
     BoundParam, ComStmtExecuteHead, ExecuteParam, ExecuteParamsBytes, QueryAttributesView,
+    TypedExecuteParam,
 };
 use mysql_values::{ParamType, ValueRef};
 use mysql_wire::{
@@ -118,6 +119,21 @@ pub(crate) fn type_held(param_type: ParamType) -> CColumnType
     }
 }
 
+/// Reads the first of the remaining parameters, which has this place in the list.
+#[inline(always)]
+pub(crate) fn param_at<'a>(
+    sent: &mut ExecuteParamsBytes<'a>,
+    params: &[CBoundParam],
+    place: usize,
+) -> Result<TypedExecuteParam<'a>, Fault>
+    requires here { place < length params.now }
+    requires count { place + sent.old.left ≡ length params.now }
+    ensures given { IfOk result (λ it. Gives (spec.last_left sent.old params.now) (read_as it) (spec.last_left sent.new params.now)) }
+    ensures refused { IfErr result (λ e. RefusesParam e (spec.last_left sent.old params.now) × (sent.new ≡ sent.old)) }
+{
+    sent.next_param(bound_of(&params[place]))
+}
+
 /// Reads all the parameters into the first elements.
 #[tactic(auto, using(crate::proofs::Executions::fills))]
 fn fill_params<'a>(
@@ -133,12 +149,10 @@ fn fill_params<'a>(
     ensures all { OnOk result (HasNoParam (spec.last_left sent.new params.now)) }
     ensures refused { IfErr result (λ e. RefusesParam e (spec.last_left sent.new params.now)) }
 {
-    let mut place = 0;
-    for param in params {
-        let it = sent.next_param(bound_of(param))?;
+    for place in 0..params.len() {
+        let it = param_at(sent, params, place)?;
         put_param(&mut values[place], it.param);
         types[place] = type_held(it.param_type);
-        place += 1;
     }
     Ok(())
 }

@@ -9,7 +9,7 @@ ghost use Rattle.mysql_packets_c.specs.ExecutionAttribute as spec;
 ghost use Rattle.mysql_packets_c.specs.QueryAttribute.{AttributeInto, AttributesAre};
 
 use crate::code::{END, OK, code_of};
-use crate::execution::{CBoundParam, attributes_of, bound_of};
+use crate::execution::{CBoundParam, attributes_of, param_at};
 use crate::flags::capabilities_of;
 use crate::parameter::CParameter;
 use crate::query_attribute::{attribute_at, put_attribute};
@@ -24,8 +24,8 @@ fn pass_params(sent: &mut ExecuteParamsBytes<'_>, params: &[CBoundParam]) -> Res
     ensures all { OnOk result (sent.new.left ≡ 0) }
     ensures refused { IfErr result (λ e. RefusesParam e (last_left sent.new params.now)) }
 {
-    for param in params {
-        let _passed = sent.next_param(bound_of(param))?;
+    for place in 0..params.len() {
+        let _passed = param_at(sent, params, place)?;
     }
     Ok(())
 }

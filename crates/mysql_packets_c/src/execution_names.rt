@@ -8,7 +8,7 @@ ghost use Rattle.mysql_packets_c.specs.Execution.{bound_list, good_execution, go
 ghost use Rattle.mysql_packets_c.specs.ExecutionNames as spec;
 
 use crate::code::{BUFFER_TOO_SMALL, OK, code_of};
-use crate::execution::{CBoundParam, attributes_of, bound_of};
+use crate::execution::{CBoundParam, attributes_of, param_at};
 use crate::flags::capabilities_of;
 use crate::text::CBytes;
 use mysql_stmt::{ComStmtExecuteHead, ExecuteParamsBytes};
@@ -27,11 +27,9 @@ fn fill_names<'a>(
     ensures all { OnOk result (sent.new.left ≡ 0) }
     ensures refused { IfErr result (λ e. RefusesParam e (last_left sent.new params.now)) }
 {
-    let mut place = 0;
-    for param in params {
-        let it = sent.next_param(bound_of(param))?;
+    for place in 0..params.len() {
+        let it = param_at(sent, params, place)?;
         names[place] = CBytes { bytes: it.name };
-        place += 1;
     }
     Ok(())
 }

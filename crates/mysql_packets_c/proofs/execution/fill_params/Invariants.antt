@@ -4,9 +4,8 @@ use Rattle.mysql_packets_c.specs.Value.{IsSet, param_content}
 use Rattle.mysql_packets_c.specs.Execution.{KeepsRest, contents_of, last_left, types_of}
 use Rattle.mysql_packets_c.proofs.execution.fill_params.Given as goal
 
-abbrev pub invariant-loop-param : goal.invariant-loop-param
-invariant-loop-param l = record {
-  place : l.place ≡ l.param-index;
+abbrev pub invariant-loop-place : goal.invariant-loop-place
+invariant-loop-place l = record {
   count : l.place + l.sent.left ≡ length l.params;
   contents : contents_of (last_left l.fn.sent l.params).params ≡ map param_content (take l.place l.values) ++ contents_of (last_left l.sent l.params).params;
   types : types_of (last_left l.fn.sent l.params).params ≡ take l.place l.types ++ types_of (last_left l.sent l.params).params;

@@ -3,9 +3,8 @@ use Rattle.mysql_packets_c.specs.Execution.{KeepsRest, last_left}
 use Rattle.mysql_packets_c.specs.ExecutionNames.{held, names_of}
 use Rattle.mysql_packets_c.proofs.execution_names.fill_names.Given as goal
 
-abbrev pub invariant-loop-param : goal.invariant-loop-param
-invariant-loop-param l = record {
-  place : l.place ≡ l.param-index;
+abbrev pub invariant-loop-place : goal.invariant-loop-place
+invariant-loop-place l = record {
   count : l.place + l.sent.left ≡ length l.params;
   names : names_of (last_left l.fn.sent l.params).params ≡ held (take l.place l.names) ++ names_of (last_left l.sent l.params).params;
   rest : KeepsRest (last_left l.fn.sent l.params) (last_left l.sent l.params);
