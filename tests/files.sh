@@ -1,6 +1,6 @@
 #!/usr/bin/env bash
 # Holds files to what they must say: HANDLES, the lines that documents quote, the chart of instruction counts, the lists that tables/ has,
-# the libraries that README.md copies, and the format of the sources.
+# the libraries that README.md copies, and the format of the sources; and what nothing uses goes.
 # The last line is 'N passed, N failed'.
 set -uo pipefail
 cd -- "$(dirname -- "${BASH_SOURCE[0]}")/.." || exit 1
@@ -25,6 +25,7 @@ expect 'a page quotes other lines than the crate has, or names what no library h
 expect 'a page is too long, or a public item has no docs that make sense alone' tools/docs.py
 expect 'the chart of instruction counts is out of date' bench/chart.py --check
 expect 'a list of the numbers of the protocol is out of date' tools/tables.py --check
+expect 'nothing uses a definition, a lemma or a private function' tools/unused
 
 # Words that no page of the field uses, and what stands for them: untrusted, little-endian, the initial handshake, a mutant, an
 # allocation that fails, passed or shown, after, capacity, to check, EofName, the reference decoder, X_round_trips.
