@@ -1,6 +1,7 @@
 //! Errors of frames.
 
 ghost use Rattle.std.specs.Prelude.{◌≡◌};
+ghost use Rattle.mysql_frames.specs.declared.error.FrameError.TheVariants.{Memory};
 
 use std::alloc::AllocError;
 use thiserror::Error;
@@ -23,8 +24,6 @@ pub enum FrameError {
 }
 
 impl From<AllocError> for FrameError {
-    ghost use Rattle.mysql_frames.specs.declared.error.FrameError.TheVariants.{Memory};
-
     ghost from_gives = { λ _ e. e ≡ Memory };
 
     fn from(_error: AllocError) -> Self {

@@ -84,8 +84,7 @@ fn write_long_packet<P: MySerialize>(
     packet: &P,
 ) -> Result<u8, AllocError>
     ensures framed { IfOk result (λ after. AppendsFrames number (P.bytes packet.now) after out.old.items out.new.items) }
-    ensures err { OnErr result (out.new.items ≡ out.old.items) }
-    ensures err_capacity { OnErr result (vec_capacity out.new ≡ vec_capacity out.old) }
+    ensures err { OnErr result ((out.new.items ≡ out.old.items) × (vec_capacity out.new ≡ vec_capacity out.old)) }
     ensures capacity { vec_capacity out.old ≤ vec_capacity out.new }
 {
     let mut payload = Vec::new(*out.allocator());
