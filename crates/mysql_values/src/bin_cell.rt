@@ -2,7 +2,7 @@
 
 ghost use Rattle.std.specs.Prelude.{◌≡◌, ◌+◌, ◌<◌, ◌≤◌, ◌++◌, ◌∷◌, [], Some, vec_len, vec_capacity, Ok, IfErr, OnOk, OnErr};
 ghost use Rattle.mysql_wire.specs.Reading.{Answers};
-ghost use Rattle.mysql_values.specs.Cells.{held, with_cell, PutsOne, RefusesValue};
+ghost use Rattle.mysql_values.specs.Cells.{held, with_cell, PutsCell, RefusesValue};
 ghost use Rattle.mysql_values.specs.Value.{content_of, contents};
 ghost use Rattle.mysql_values.specs.ValueDeserializer.{bin_value, reads_bytes, value_in_column};
 
@@ -48,11 +48,7 @@ fn put_other<'s>(
     cells: &mut Vec<Option<Value>>,
 ) -> Result<(), FaultOf<'s>>
     requires { vec_len cells.old < vec_capacity cells.old }
-    ensures value { PutsOne (reads_bytes ((bin_value column_type is_unsigned).reads buf.old)) result (held cells.old.items) (held cells.new.items) buf.new ((bin_value column_type is_unsigned).reads buf.old) }
-    ensures len { OnOk result (vec_len cells.new ≡ vec_len cells.old + 1) }
-    ensures capacity { vec_capacity cells.old ≤ vec_capacity cells.new }
-    ensures err { OnErr result (cells.new.items ≡ cells.old.items) }
-    ensures stays { OnErr result (buf.new ≡ buf.old) }
+    ensures { PutsCell (bin_value column_type is_unsigned) result buf.old buf.new cells.old cells.new }
 {
     let mut rest = buf.rest();
     let value = read_other(column_type, is_unsigned, &mut rest)?;
@@ -72,11 +68,7 @@ fn put_value<'s>(
     cells: &mut Vec<Option<Value>>,
 ) -> Result<(), FaultOf<'s>>
     requires { vec_len cells.old < vec_capacity cells.old }
-    ensures value { PutsOne (reads_bytes ((bin_value column_type is_unsigned).reads buf.old)) result (held cells.old.items) (held cells.new.items) buf.new ((bin_value column_type is_unsigned).reads buf.old) }
-    ensures len { OnOk result (vec_len cells.new ≡ vec_len cells.old + 1) }
-    ensures capacity { vec_capacity cells.old ≤ vec_capacity cells.new }
-    ensures err { OnErr result (cells.new.items ≡ cells.old.items) }
-    ensures stays { OnErr result (buf.new ≡ buf.old) }
+    ensures { PutsCell (bin_value column_type is_unsigned) result buf.old buf.new cells.old cells.new }
 {
     match column_type {
         string_type!() => {

@@ -2,6 +2,7 @@
 
 ghost use Rattle.std.specs.Prelude.{◌≡◌, Ok, Some, IfOk, IfErr};
 ghost use Rattle.std.specs.Option.{option_copied};
+ghost use Rattle.mysql_values.specs.declared.params.ParamsError.TheVariants.{Memory};
 
 use crate::value::Value;
 use indexmap::IndexMap;
@@ -45,8 +46,6 @@ pub enum ParamsError {
 }
 
 impl From<AllocError> for ParamsError {
-    ghost use Rattle.mysql_values.specs.declared.params.ParamsError.TheVariants.{Memory};
-
     ghost from_gives = { λ _ e. e ≡ Memory };
 
     fn from(_error: AllocError) -> ParamsError {
@@ -55,8 +54,6 @@ impl From<AllocError> for ParamsError {
 }
 
 impl<T: Drop> From<AllocFailed<T>> for ParamsError {
-    ghost use Rattle.mysql_values.specs.declared.params.ParamsError.TheVariants.{Memory};
-
     ghost from_gives = { λ _ e. e ≡ Memory };
 
     fn from(_error: AllocFailed<T>) -> ParamsError {
