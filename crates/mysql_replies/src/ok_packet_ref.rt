@@ -1,4 +1,5 @@
 //! Borrowed OK packets, of each kind.
+#![tactic(auto, unfolding(crate::specs::OkPacket::ok_packet))]
 
 ghost use Rattle.std.specs.Prelude.{◌≡◌, option_map};
 ghost use Rattle.mysql_replies.specs.OkPacket as spec;
@@ -157,7 +158,6 @@ impl<'de, T: OkPacketRefKind> MyDeserialize<'de> for OkPacketRefDeserializer<'de
     ghost form = { λ capabilities. spec.ok_packet T.HEADER (T.body capabilities) };
 
     #[inline(always)]
-    #[tactic(auto, unfolding(crate::specs::OkPacket::ok_packet))]
     fn deserialize<'s>(agreed: Self::Ctx, buf: &mut ParseBuf<'de>) -> Result<Self, FaultOf<'s>> {
         let mut rest = buf.rest();
         read_header::<T>(&mut rest)?;
