@@ -4,6 +4,7 @@ ghost use Rattle.std.specs.Prelude.{◌≡◌, ◌++◌, ◌+◌, ◌<◌, ◌�
 ghost use Rattle.std.specs.List.{flat_map};
 ghost use Rattle.uuid.specs.Text.{parsed};
 ghost use Rattle.mysql_repl.specs.declared.sid.Sid.{Sid};
+ghost use Rattle.mysql_repl.specs.declared.sid_text.InvalidSid.TheVariants as fault;
 ghost use Rattle.mysql_repl.specs.SidGrammar.{SpellsSid};
 ghost use Rattle.mysql_repl.specs.SidText as spec;
 ghost use Rattle.mysql_repl.specs.SidTextParts.{left_parts, left_len, items_read};
@@ -65,8 +66,6 @@ pub enum InvalidSid {
 }
 
 impl From<InvalidTag> for InvalidSid {
-    ghost use Rattle.mysql_repl.specs.declared.sid_text.InvalidSid.TheVariants as fault;
-
     ghost from_gives = { λ fault_of_tag e. e ≡ fault.Tag fault_of_tag };
 
     fn from(error: InvalidTag) -> InvalidSid {
@@ -75,8 +74,6 @@ impl From<InvalidTag> for InvalidSid {
 }
 
 impl From<InvalidGno> for InvalidSid {
-    ghost use Rattle.mysql_repl.specs.declared.sid_text.InvalidSid.TheVariants as fault;
-
     ghost from_gives = { λ fault_of_gno e. e ≡ fault.Gno fault_of_gno };
 
     fn from(error: InvalidGno) -> InvalidSid {
@@ -85,8 +82,6 @@ impl From<InvalidGno> for InvalidSid {
 }
 
 impl From<AllocError> for InvalidSid {
-    ghost use Rattle.mysql_repl.specs.declared.sid_text.InvalidSid.TheVariants as fault;
-
     ghost from_gives = { λ _ e. e ≡ fault.Memory };
 
     fn from(_error: AllocError) -> InvalidSid {
@@ -95,8 +90,6 @@ impl From<AllocError> for InvalidSid {
 }
 
 impl<T: Drop> From<AllocFailed<T>> for InvalidSid {
-    ghost use Rattle.mysql_repl.specs.declared.sid_text.InvalidSid.TheVariants as fault;
-
     ghost from_gives = { λ _ e. e ≡ fault.Memory };
 
     fn from(_error: AllocFailed<T>) -> InvalidSid {
