@@ -30,3 +30,5 @@ module _ (database plugin attributes : Bool) (flags : ℕ) where
   other-bits i small no_database no_plugin no_attributes =
       bit-switched 32 20 i attributes second (omega arith) small no_attributes
       ∙ bit-switched 32 19 i plugin first (omega arith) small no_plugin ∙ bit-switched 32 3 i database flags (omega arith) small no_database
+
+pub ruleset options = (has-database, has-plugin, has-attributes, other-bits)

@@ -1,6 +1,9 @@
 //! The first scramble of a handshake, borrowed from the packet.
 
-ghost use Rattle.std.specs.Prelude.{◌+◌, ◌≡◌, ◌≤◌, length, Ok, ⊤};
+ghost use Rattle.std.proofs.Common.{rules};
+ghost use Rattle.std.specs.Cmp.Lexicographic.{pointwise};
+ghost use Rattle.std.specs.Cmp.Rules.{comparing};
+ghost use Rattle.std.specs.Prelude.{◌+◌, ◌≡◌, ◌≤◌, length, nat_eq, Ok, ⊤};
 ghost use Rattle.mysql_wire.specs.Form.{bytes};
 
 use mysql_wire::ParseBuf;
@@ -57,11 +60,6 @@ impl Clone for FirstScramble<'_> {
 }
 
 impl PartialEq for FirstScramble<'_> {
-    ghost use Rattle.std.specs.Prelude.{nat_eq};
-    ghost use Rattle.std.specs.Cmp.Lexicographic.{pointwise};
-    ghost use Rattle.std.proofs.Common.{rules};
-    ghost use Rattle.std.specs.Cmp.Rules.{comparing};
-
     ghost eq = { pointwise nat_eq };
 
     ghost laws = { Prim.search (comparing, rules) };
@@ -72,9 +70,6 @@ impl PartialEq for FirstScramble<'_> {
 }
 
 impl Eq for FirstScramble<'_> {
-    ghost use Rattle.std.proofs.Common.{rules};
-    ghost use Rattle.std.specs.Cmp.Rules.{comparing};
-
     ghost laws = { Prim.search (comparing, rules) };
 }
 

@@ -81,7 +81,7 @@ type WrittenScramble<'a> = Either<
 >;
 
 /// Returns the flags, with each of the three set exactly if its option is given.
-#[tactic(auto)]
+#[tactic(auto, using(crate::proofs::Options::options))]
 fn with_options(
     mut capabilities: CapabilityFlags,
     database: bool,
