@@ -1,7 +1,8 @@
 -- A binary row is read back.
+use mir.Val.{bits, hbits}
 use Rattle.std.proofs.Common.{◌≡◌, ℕ, suc, ◌+◌, ◌-◌, ◌/◌, ◌%◌, ◌<◌, ◌^◌, ◌==◌, Bool, true, false, List, [], ◌∷◌, ◌++◌, length, map, get_or, Some, Ok, refl, ap, ◌∙◌, arith, append_assoc, ltb-true}
 use Rattle.std.specs.Prelude.{ℤ, pos, negsuc, not}
-use Rattle.std.specs.Int.{Width, w8, w16, w32, w64, cast_unsigned, cast_signed}
+use Rattle.std.specs.Int.{Width, w8, w16, w32, w64, cast_unsigned}
 use Rattle.std.specs.Int.RustNames.{FitsSigned}
 use Rattle.std.specs.List.{All}
 use Rattle.std.proofs.lemmas.Bool.{and_parts}
@@ -54,49 +55,28 @@ low-4 x y e =
     ∙ ap (λ (r : ℕ). y % 256 ∷ y / 256 % 256 ∷ r ∷ x / 16777216 % 256 ∷ []) c
     ∙ ap (λ (s : ℕ). y % 256 ∷ y / 256 % 256 ∷ y / 65536 % 256 ∷ s ∷ []) d
 
-module _ (w : Width) (size : ℕ) where
-  short-pos : (u : Bool) (m : ℕ) → m < 256 ^ size → integer_of w u m ≡ pos m → IsSpelling (short_integer w size u) (Int (pos m)) (le_bytes size (cast_unsigned w64 (pos m)))
-  short-pos u m lt is rest = (m, ap Int is, number-again size m lt rest)
+-- an integer of a width, of which a negative one has the low bytes of its eight
+module _ (w : Width) (size : ℕ) (whole : 2 ^ bits w ≡ 256 ^ size) (halves : 2 ^ hbits w + 2 ^ hbits w ≡ 2 ^ bits w)
+    (low : (k : ℕ) → k < 2 ^ hbits w → le_bytes size (cast_unsigned w64 (negsuc k)) ≡ le_bytes size (2 ^ bits w - suc k)) where
+  low-again : (u : Bool) (n : ℤ) (m : ℕ) → m < 2 ^ bits w → integer_of w u m ≡ n → IsSpelling (short_integer w size u) (Int n) (le_bytes size m)
+  low-again u n m lt is rest = (m, ap Int is, number-again size m (rw (← whole) lt) rest)
 
-  short-neg : (k low : ℕ) → low < 256 ^ size → cast_signed w low ≡ negsuc k → le_bytes size (cast_unsigned w64 (negsuc k)) ≡ le_bytes size low
-      → IsSpelling (short_integer w size false) (Int (negsuc k)) (le_bytes size (cast_unsigned w64 (negsuc k)))
-  short-neg k low lt is e rest = rw e (low, ap Int is, number-again size low lt rest)
-
-tiny-again : (u : Bool) (n : ℤ) → has_width u (2 ^ 7) n ≡ true → IsSpelling (short_integer w8 1 u) (Int n) (le_bytes 1 (cast_unsigned w64 n))
-tiny-again true (pos m) h = let lt : m < 256 = omega (arith, ltb-true _ _ h) in short-pos w8 1 true m lt refl
-tiny-again true (negsuc k) h = let f : false ≡ true = h in absurd cc
-tiny-again false (pos m) h = let lt : m < 128 = omega (arith, ltb-true _ _ h) in short-pos w8 1 false m (omega (arith, lt)) (to_z_pos w8 m lt)
-tiny-again false (negsuc k) h =
-    let lt : k < 128 = omega (arith, ltb-true _ _ h) in
-    let e : cast_unsigned w64 (negsuc k) % 256 ≡ (256 - suc k) % 256 = omega (arith, lt) in
-    short-neg w8 1 k (256 - suc k) (omega arith) (to_z-neg w8 k lt) (low-1 _ _ e)
-
-short-again : (u : Bool) (n : ℤ) → has_width u (2 ^ 15) n ≡ true → IsSpelling (short_integer w16 2 u) (Int n) (le_bytes 2 (cast_unsigned w64 n))
-short-again true (pos m) h = let lt : m < 65536 = omega (arith, ltb-true _ _ h) in short-pos w16 2 true m lt refl
-short-again true (negsuc k) h = let f : false ≡ true = h in absurd cc
-short-again false (pos m) h = let lt : m < 32768 = omega (arith, ltb-true _ _ h) in short-pos w16 2 false m (omega (arith, lt)) (to_z_pos w16 m lt)
-short-again false (negsuc k) h =
-    let lt : k < 32768 = omega (arith, ltb-true _ _ h) in
-    let e : cast_unsigned w64 (negsuc k) % 65536 ≡ (65536 - suc k) % 65536 = omega (arith, lt) in
-    short-neg w16 2 k (65536 - suc k) (omega arith) (to_z-neg w16 k lt) (low-2 _ _ e)
-
-long-again : (u : Bool) (n : ℤ) → has_width u (2 ^ 31) n ≡ true → IsSpelling (short_integer w32 4 u) (Int n) (le_bytes 4 (cast_unsigned w64 n))
-long-again true (pos m) h = let lt : m < 4294967296 = omega (arith, ltb-true _ _ h) in short-pos w32 4 true m lt refl
-long-again true (negsuc k) h = let f : false ≡ true = h in absurd cc
-long-again false (pos m) h = let lt : m < 2147483648 = omega (arith, ltb-true _ _ h) in short-pos w32 4 false m (omega (arith, lt)) (to_z_pos w32 m lt)
-long-again false (negsuc k) h =
-    let lt : k < 2147483648 = omega (arith, ltb-true _ _ h) in
-    let e : cast_unsigned w64 (negsuc k) % 4294967296 ≡ (4294967296 - suc k) % 4294967296 = omega (arith, lt) in
-    short-neg w32 4 k (4294967296 - suc k) (omega arith) (to_z-neg w32 k lt) (low-4 _ _ e)
+  short-again : (u : Bool) (n : ℤ) → has_width u (2 ^ hbits w) n ≡ true → IsSpelling (short_integer w size u) (Int n) (le_bytes size (cast_unsigned w64 n))
+  short-again true (pos m) h = let lt = ltb-true _ _ h in low-again true (pos m) m (omega (arith, lt, halves)) refl
+  short-again true (negsuc k) h = let f : false ≡ true = h in absurd cc
+  short-again false (pos m) h = let lt = ltb-true _ _ h in low-again false (pos m) m (omega (arith, lt, halves)) (to_z_pos w m lt)
+  short-again false (negsuc k) h =
+      let lt = ltb-true _ _ h in
+      rw (low k lt) (low-again false (negsuc k) (2 ^ bits w - suc k) (omega (arith, lt, halves)) (to_z-neg w k lt))
 
 longlong-again : (u : Bool) (n : ℤ) → FitsSigned w64 n → not u ≡ true → IsSpelling (value_of_kind kind.LongLong u) (Int n) (bin (Int n))
 longlong-again true n fits h = let f : false ≡ true = h in absurd cc
 longlong-again false n fits h = λ rest. value-again column.MYSQL_TYPE_LONGLONG false (Int n) rest (refl, refl, fits)
 
 integer-again : (k : ValueKind) (u : Bool) (n : ℤ) → FitsSigned w64 n → takes_integer k u n ≡ true → IsSpelling (value_of_kind k u) (Int n) (le_bytes (integer_size k) (cast_unsigned w64 n))
-integer-again kind.Tiny u n fits h = tiny-again u n h
-integer-again kind.Short u n fits h = short-again u n h
-integer-again kind.Long u n fits h = long-again u n h
+integer-again kind.Tiny u n fits h = short-again w8 1 refl refl (λ k lt. low-1 (2 ^ 64 - suc k) (2 ^ 8 - suc k) (omega (arith, lt))) u n h
+integer-again kind.Short u n fits h = short-again w16 2 refl refl (λ k lt. low-2 (2 ^ 64 - suc k) (2 ^ 16 - suc k) (omega (arith, lt))) u n h
+integer-again kind.Long u n fits h = short-again w32 4 refl refl (λ k lt. low-4 (2 ^ 64 - suc k) (2 ^ 32 - suc k) (omega (arith, lt))) u n h
 integer-again kind.LongLong u n fits h = longlong-again u n fits h
 integer-again _ u n fits h = let f : false ≡ true = h in absurd cc
 

@@ -4,10 +4,9 @@ use Rattle.std.specs.Option.{option_map}
 use Rattle.std.proofs.lemmas.Bool.Decides.{nat_tests}
 use Rattle.std.proofs.lemmas.List.{append-nil, length-take-le, map-append}
 use Rattle.std.proofs.lemmas.Simd.{map-map}
-use Rattle.mysql_wire.specs.LenEnc.{lenenc_bytes}
 use Rattle.mysql_wire.specs.Writing.{saturated}
 use Rattle.mysql_values.specs.Value.{Content}
-use Rattle.mysql_stmt.specs.ExecuteHead.{execute_head, has_parameter_count}
+use Rattle.mysql_stmt.specs.ExecuteHead.{execute_head}
 use Rattle.mysql_stmt.specs.ExecuteParam.{Param, contents, value_of}
 use Rattle.mysql_stmt.specs.ExecuteParams.{where_some}
 use Rattle.mysql_stmt.specs.Execution as execution

@@ -1,5 +1,5 @@
 -- An execution read parameter by parameter: one parameter, and those after it.
-use Rattle.std.proofs.Common.{◌≡◌, ◌≢◌, ◌∙◌, sym, ap, subst, suc, zero, ℕ, ◌+◌, ◌-◌, ◌≤◌, ◌==◌, ◌↔◌, List, [], ◌∷◌, Result, Ok, Err, Bool, true, false, IsTrue, length, drop, replicate, refl, arith, zero-add}
+use Rattle.std.proofs.Common.{◌≡◌, ◌≢◌, ◌∙◌, sym, ap, subst, suc, zero, ℕ, ◌+◌, ◌==◌, ◌↔◌, List, [], ◌∷◌, Result, Ok, Err, Bool, true, false, IsTrue, length, drop, replicate, refl, arith, zero-add}
 use Rattle.std.proofs.lemmas.List.{length-replicate}
 use Rattle.mysql_wire.specs.Flags.{CapabilityFlags}
 use Rattle.mysql_wire.specs.declared.fault.FaultOf.{FaultOf}
@@ -48,6 +48,11 @@ all-params nulls place (p ∷ ps) bytes = step ((typed_param nulls place p).read
 
 abbrev pub under : BoundParam → NamedType → BoundType
 under p t = record { named_type = t; is_sent_ahead = p.is_sent_ahead }
+
+-- the first type is the same if the lists are
+pub in-force : {ts again : List NamedType} {t named : NamedType} (s : Bool) (earlier : ParamType) (left : List NamedType) → again ≡ ts → named ≡ t → TakesInForce s earlier again named left → TakesInForce s earlier ts t left
+in-force {again} {t} s earlier left same is takes =
+    subst (λ (l : List NamedType). TakesInForce s earlier l t left) same (subst (λ (x : NamedType). TakesInForce s earlier again x left) is takes)
 
 force-next : (s : Bool) (p : BoundParam) (ps : List BoundParam) (ts more : List NamedType) (t : NamedType) → TakesInForce s p.param_type ts t more → in_force s (p ∷ ps) ts ≡ under p t ∷ in_force s ps more
 force-next true p ps ts more t h = rw h refl

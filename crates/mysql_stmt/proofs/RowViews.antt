@@ -18,9 +18,9 @@ use Rattle.mysql_replies.specs.declared.column.Column.{Column}
 use Rattle.mysql_replies.specs.Column.{column_type, flags}
 use Rattle.mysql_stmt.specs.RowForm.{there, bin_row, text_row}
 use Rattle.mysql_stmt.specs.Bitmap.{cell}
-use Rattle.mysql_stmt.specs.RowView.{RowLeft, row_left, text_row_left, read_to, read_of, Gives, RefusesNext, bin_row_of, ref_cell, ref_unless, text_row_of}
+use Rattle.mysql_stmt.specs.RowView.{RowLeft, IsDone, row_left, text_row_left, read_to, read_of, Gives, RefusesNext, bin_row_of, ref_cell, ref_unless, text_row_of}
 use Rattle.mysql_stmt.specs.OneByOne.{Several, several_in, then_several}
-use Rattle.mysql_stmt.proofs.OneByOne.{none-before, one-more, same-end, same-tails}
+use Rattle.mysql_stmt.proofs.OneByOne.{none-before, none-left, one-more, same-end, same-tails}
 use Rattle.mysql_stmt.proofs.NullBits.{is-one}
 
 -- no value precedes this kind of fault
@@ -39,6 +39,9 @@ module _ {C : Type 0} (f : ℕ → C → Form Content) (place : ℕ) (c : C) (cs
   one-fault (fault.InvalidInput text) h = read-fails _ h
 
 -- no value is left
+pub no-value : {C : Type 0} (f : ℕ → C → Form Content) (place : ℕ) (cs : List C) (bytes : List ℕ) → length cs ≡ 0 → IsDone (row_left f place cs bytes)
+no-value f place cs bytes none = (none, (none-left f place cs bytes none).0)
+
 pub no-text : (f : ℕ → Unit {0} → Form Content) (left : ℕ) (bytes : List ℕ) → left ≡ 0 → ((several_in f 0 (replicate left tt) bytes).read ≡ []) × ((several_in f 0 (replicate left tt) bytes).end ≡ Ok bytes)
 unfolding several_in
 no-text f left bytes e = (rw e refl, rw e refl)

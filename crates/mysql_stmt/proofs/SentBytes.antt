@@ -1,6 +1,7 @@
 -- The sent bytes of parameters and attributes.
-use Rattle.std.proofs.Common.{◌≡◌, ℕ, ◌+◌, ◌*◌, Bool, true, false, not, if◌then◌else◌, List, [], ◌∷◌, ◌++◌, length, map, position, Some, is_some, cond, append_assoc, refl, ap, ◌∙◌, arith}
+use Rattle.std.proofs.Common.{◌≡◌, ℕ, ◌+◌, ◌*◌, Bool, true, false, not, if◌then◌else◌, List, [], ◌∷◌, ◌++◌, length, map, position, Option, Some, is_some, cond, append_assoc, refl, ap, ◌∙◌, arith}
 use Rattle.std.specs.List.{flat_map, position_or_len}
+use Rattle.std.specs.Prelude.{unwrap_or}
 use Rattle.std.proofs.lemmas.List.{append-nil, length-append, length-map}
 use Rattle.std.proofs.lemmas.List.Concat.{flat_map-append}
 use Rattle.std.proofs.lemmas.List.Folds.{flat_map-map}
@@ -10,8 +11,8 @@ use Rattle.mysql_values.specs.ParamType.{param_type, type_of}
 use Rattle.mysql_values.specs.ParamValue.{Plain, WithOffset, param_spelled}
 use Rattle.mysql_values.specs.Value.{Content, NULL, Bytes, Int, UInt, Float, Double, Date, Time, bin}
 use Rattle.mysql_values.specs.declared.param_type.ParamType.{ParamType}
-use Rattle.mysql_stmt.specs.ExecuteParam.{Param, Sent, SentAhead, AsSent, param_bytes, value_of}
-use Rattle.mysql_stmt.specs.SentParam.{bound_bytes, bytes_under, first_unspelled, is_spelled, is_spelled_under, sent_param, sent_params, type_bytes, value_bytes}
+use Rattle.mysql_stmt.specs.ExecuteParam.{Param, Sent, SentAhead, AsSent, param_bytes, sent, value_of}
+use Rattle.mysql_stmt.specs.SentParam.{bound_bytes, bytes_under, first_unspelled, is_left_out, is_spelled, is_spelled_under, sent_param, sent_params, type_bytes, value_bytes}
 use Rattle.mysql_stmt.specs.ExecuteRead.{TypedParam}
 use Rattle.mysql_stmt.specs.SentTypes.{NamedType}
 
@@ -34,29 +35,24 @@ plain-spelled (Sent (WithOffset date)) = refl
 plain-spelled SentAhead = refl
 plain-spelled (AsSent has_null_bit bytes) = refl
 
+-- only a byte string is left out
+left-out : (l : Bool) (v : Content) → (if is_left_out l (Plain v) then [] else bin v) ≡ sent l v
+left-out false v = refl
+left-out true NULL = refl
+left-out true (Bytes bytes) = refl
+left-out true (Int n) = refl
+left-out true (UInt n) = refl
+left-out true (Float bits) = refl
+left-out true (Double bits) = refl
+left-out true (Date date) = refl
+left-out true (Time time) = refl
+
 pub plain-bytes : (l : Bool) (p : Param) → bytes_under l (type_of (value_of p)) p ≡ param_bytes l p
-plain-bytes true (Sent (Plain NULL)) = refl
-plain-bytes true (Sent (Plain (Bytes bytes))) = refl
-plain-bytes true (Sent (Plain (Int n))) = refl
-plain-bytes true (Sent (Plain (UInt n))) = refl
-plain-bytes true (Sent (Plain (Float bits))) = refl
-plain-bytes true (Sent (Plain (Double bits))) = refl
-plain-bytes true (Sent (Plain (Date date))) = refl
-plain-bytes true (Sent (Plain (Time time))) = refl
-plain-bytes false (Sent (Plain NULL)) = refl
-plain-bytes false (Sent (Plain (Bytes bytes))) = refl
-plain-bytes false (Sent (Plain (Int n))) = refl
-plain-bytes false (Sent (Plain (UInt n))) = refl
-plain-bytes false (Sent (Plain (Float bits))) = refl
-plain-bytes false (Sent (Plain (Double bits))) = refl
-plain-bytes false (Sent (Plain (Date date))) = refl
-plain-bytes false (Sent (Plain (Time time))) = refl
+plain-bytes l (Sent (Plain v)) = ap (λ (spelled : Option (List ℕ)). if is_left_out l (Plain v) then [] else unwrap_or spelled []) (own-type v) ∙ left-out l v
 plain-bytes true (Sent (WithOffset date)) = refl
 plain-bytes false (Sent (WithOffset date)) = refl
-plain-bytes true SentAhead = refl
-plain-bytes false SentAhead = refl
-plain-bytes true (AsSent has_null_bit bytes) = refl
-plain-bytes false (AsSent has_null_bit bytes) = refl
+plain-bytes l SentAhead = refl
+plain-bytes l (AsSent has_null_bit bytes) = refl
 
 -- ---- types
 

@@ -1,5 +1,5 @@
 -- Rows in one block: its entries, one more entry, and the entry at a place.
-use Rattle.std.proofs.Common.{◌≡◌, ◌∙◌, sym, ap, subst, zero, suc, ℕ, ◌+◌, ◌-◌, ◌*◌, ◌<◌, ◌≤◌, ◌^◌, ◌++◌, List, [], ◌∷◌, Result, Ok, Err, Some, None, Option, Bool, true, false, length, drop, take, refl, arith, length-append, length-drop}
+use Rattle.std.proofs.Common.{◌≡◌, ◌∙◌, sym, ap, subst, zero, suc, ℕ, ◌+◌, ◌*◌, ◌<◌, ◌≤◌, ◌^◌, ◌++◌, List, [], ◌∷◌, Result, Ok, Err, Some, None, Option, Bool, true, false, length, drop, take, refl, arith, length-append, length-drop}
 use Rattle.std.specs.Prelude.{◌/◌, ◌%◌, slice_get, slice_index_or, nat_lt, map, if◌then◌else◌}
 use Rattle.std.proofs.lemmas.List.{take-append-le, drop-append-le, drop-drop}
 use Rattle.mysql_wire.specs.declared.fault.FaultOf.{FaultOf}

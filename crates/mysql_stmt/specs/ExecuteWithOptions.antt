@@ -1,10 +1,8 @@
 -- An execution of a prepared statement: the builder's settings, and the request.
-use Rattle.std.specs.Prelude.{◌≡◌, ◌<◌, ◌↔◌, IsTrue, ℕ, ◌+◌, bit_and, bit_or, nat_lt, Bool, true, false, List, [], length, Option, Some, None, is_some, if◌then◌else◌, ◌&&◌, ◌||◌, not}
+use Rattle.std.specs.Prelude.{◌≡◌, ◌<◌, ◌↔◌, IsTrue, ℕ, bit_and, bit_or, nat_lt, Bool, true, false, List, length, Option, Some, None, if◌then◌else◌, ◌&&◌, not}
 use Rattle.std.specs.Option.{option_copied, option_map}
 use Rattle.mysql_wire.specs.FlagMasks.{PARAMETER_COUNT_AVAILABLE}
 use Rattle.mysql_wire.specs.Flags.{CursorType}
-use Rattle.mysql_wire.specs.LenEnc.{lenenc_bytes}
-use Rattle.mysql_wire.specs.Writing.{saturated}
 use Rattle.mysql_stmt.specs.ExecuteHead as head
 use Rattle.mysql_stmt.specs.ExecuteParam.{Param}
 use Rattle.mysql_stmt.specs.Execution.{Execution, execution_bytes, has_some, listed as listed_params}
@@ -30,6 +28,9 @@ cursor_bits cursor.Scrollable = 4
 -- with another cursor; PARAMETER_COUNT_AVAILABLE is unchanged
 abbrev pub with_cursor : ℕ → Cursor → ℕ
 with_cursor flags cursor = bit_or (cursor_bits cursor) (bit_and flags PARAMETER_COUNT_AVAILABLE)
+
+abbrev pub opened : CursorType → Cursor → CursorType
+opened flags cursor = record { 0 = with_cursor flags.0 cursor; 1 = record {} }
 
 abbrev pub counted : ℕ → ℕ
 counted flags = bit_or flags PARAMETER_COUNT_AVAILABLE

@@ -1,5 +1,5 @@
 //! Parameters and attributes of an execution.
-#![tactic(auto, using(crate::proofs::SentBytes::plain))]
+#![tactic(auto, using(crate::proofs::SentBytes::plain), unfolding(mysql_wire::specs::Writing::saturated))]
 
 ghost use Rattle.std.specs.Prelude.{◌≡◌, ◌+◌, ◌++◌, ◌≤◌, length, drop};
 ghost use Rattle.mysql_wire.specs.Writing.{saturated};
@@ -214,7 +214,6 @@ impl AsExecuteParam for ValueRef<'_> {
     }
 
     #[inline(always)]
-    #[tactic(auto, unfolding(mysql_wire::specs::Writing::saturated))]
     fn sent_len(&self, as_long_data: bool) -> usize {
         match self {
             ValueRef::Bytes(_) if as_long_data => 0,
@@ -287,7 +286,6 @@ impl AsExecuteParam for Value {
     }
 
     #[inline(always)]
-    #[tactic(auto, unfolding(mysql_wire::specs::Writing::saturated))]
     fn sent_len(&self, as_long_data: bool) -> usize {
         // (a guard of the arm would be tested for each value)
         match self {

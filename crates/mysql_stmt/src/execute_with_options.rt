@@ -215,11 +215,7 @@ impl<'a, A> ComStmtExecuteOptionsBuilder<'a, A> {
 
     /// Opens this cursor instead of the current one.
     pub fn with_cursor(self, cursor: Cursor) -> Self
-        ensures stmt_id { result.stmt_id ≡ self.entry.stmt_id }
-        ensures flags { result.flags.0 ≡ request.with_cursor self.entry.flags.0 cursor }
-        ensures iteration_count { result.iteration_count ≡ self.entry.iteration_count }
-        ensures sends_types { result.sends_types ≡ self.entry.sends_types }
-        ensures attributes { option_copied result.attributes ≡ option_copied self.entry.attributes }
+        ensures { result ≡ record self.entry { flags = request.opened self.entry.flags cursor } }
     {
         let count = self
             .flags
@@ -233,11 +229,7 @@ impl<'a, A> ComStmtExecuteOptionsBuilder<'a, A> {
     /// Sends no types: the server uses the types that it was last sent for the statement. The parameters are
     /// encoded under the types of that execution.
     pub fn with_earlier_types(self) -> Self
-        ensures stmt_id { result.stmt_id ≡ self.entry.stmt_id }
-        ensures flags { result.flags.0 ≡ self.entry.flags.0 }
-        ensures iteration_count { result.iteration_count ≡ self.entry.iteration_count }
-        ensures sends_types { result.sends_types ≡ false }
-        ensures attributes { option_copied result.attributes ≡ option_copied self.entry.attributes }
+        ensures { result ≡ record self.entry { sends_types = false } }
     {
         ComStmtExecuteOptionsBuilder {
             sends_types: false,

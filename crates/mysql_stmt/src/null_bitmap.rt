@@ -1,6 +1,9 @@
 //! Bitmaps that say which values are NULL.
 
-ghost use Rattle.std.specs.Prelude.{false, ◌≡◌, ◌≢◌, ◌==◌, ◌+◌, ◌*◌, ◌/◌, ◌<◌, ◌≤◌, ◌^◌, ◌++◌, [], ◌∷◌, ℕ, List, Option, None, length, replicate, take, drop, IfOk, IsTrue, IsOk, ◌↔◌, OnOk, OnErr, if◌then◌else◌};
+ghost use Rattle.std.proofs.Common.{rules};
+ghost use Rattle.std.specs.Cmp.Lexicographic.{pointwise};
+ghost use Rattle.std.specs.Cmp.Rules.{comparing};
+ghost use Rattle.std.specs.Prelude.{nat_eq, false, ◌≡◌, ◌≢◌, ◌==◌, ◌+◌, ◌*◌, ◌/◌, ◌<◌, ◌≤◌, ◌^◌, ◌++◌, [], ◌∷◌, ℕ, List, Option, None, length, replicate, take, drop, IfOk, IsTrue, IsOk, ◌↔◌, OnOk, OnErr, if◌then◌else◌};
 ghost use Rattle.std.specs.Cow.{cow_slice_items};
 ghost use Rattle.mysql_wire.specs.Reading.{Answers, IsTail, HasBytes};
 ghost use Rattle.mysql_wire.specs.Form.{Form};
@@ -227,11 +230,6 @@ impl<T> Clone for NullBitmap<'_, T> {
 }
 
 impl<T> PartialEq for NullBitmap<'_, T> {
-    ghost use Rattle.std.specs.Prelude.{nat_eq};
-    ghost use Rattle.std.specs.Cmp.Lexicographic.{pointwise};
-    ghost use Rattle.std.proofs.Common.{rules};
-    ghost use Rattle.std.specs.Cmp.Rules.{comparing};
-
     ghost eq = { λ a b. pointwise nat_eq a.bytes b.bytes };
 
     ghost laws = { Prim.search (comparing, rules) };
@@ -242,9 +240,6 @@ impl<T> PartialEq for NullBitmap<'_, T> {
 }
 
 impl<T> Eq for NullBitmap<'_, T> {
-    ghost use Rattle.std.proofs.Common.{rules};
-    ghost use Rattle.std.specs.Cmp.Rules.{comparing};
-
     ghost laws = { Prim.search (comparing, rules) };
 }
 

@@ -1,4 +1,4 @@
-use Rattle.std.proofs.Common.{rules, ◌≡◌, ◌+◌, ◌-◌, ◌*◌, ◌++◌, ◌∷◌, [], ℕ, List, Some, None, Ok, length, subst, sym, ap, ◌∙◌, arith, length-append}
+use Rattle.std.proofs.Common.{rules, ◌≡◌, ◌+◌, ◌-◌, ◌*◌, ◌++◌, ℕ, List, Some, None, Ok, length, subst, sym, ap, ◌∙◌, arith}
 use Rattle.mysql_wire.specs.LittleEndian.{length-le_bytes}
 use Rattle.mysql_wire.specs.Writing.{le_bytes}
 use Rattle.mysql_stmt.specs.RowView.{RowLeft}

@@ -10,15 +10,13 @@ pub returns-in_err-put_unless-clause-refused : goal.returns-in_err-put_unless-cl
 returns-in_err-put_unless-clause-refused g c =
     let v = c.self.inside in
     let offset = g.S.SerializationSide.BIT_OFFSET in
+    let p = err_from_is_err_and c.from_residual.result c.from_residual.ensures.1 in
     let fault = c.in_err-put_unless.field-0.0 in
     let row = first-fault g.C.TypedColumn.type_of g.C.TypedColumn.unsigned v.nulls.bytes offset v.place c.in-Some.column.now c.in-Some.columns.now v.columns.now v.buf c.rest-rest.result c.is_null_at-is_null.result c.is_null_at-is_null.ensures.value c.in-Some.ensures.cases.0 c.rest-rest.ensures fault c.in_err-put_unless.ensures.0 in
-    let p = err_from_is_err_and c.from_residual.result c.from_residual.ensures.1 in
     rw (p.1, p.2) (subst (RefusesNext fault) c.self.view_is row)
 
 pub invariant_of-self : goal.invariant_of-self
-invariant_of-self g c =
-    let more = c.in-Some.ensures.cases.1 in
-    bits-after g.S.SerializationSide.BIT_OFFSET _ _ _ _ _ c.self.invariant (omega (arith, more))
+invariant_of-self g c = bits-after g.S.SerializationSide.BIT_OFFSET _ _ _ _ _ c.self.invariant (omega (arith, c.in-Some.ensures.cases.1))
 
 pub returns-clause-value : goal.returns-clause-value
 returns-clause-value g c =

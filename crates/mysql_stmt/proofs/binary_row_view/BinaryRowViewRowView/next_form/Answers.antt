@@ -4,29 +4,26 @@ use Rattle.mysql_wire.specs.Reading.{IsTail}
 use Rattle.mysql_stmt.specs.StoredRow.{ReadsAs}
 use Rattle.mysql_stmt.specs.RowView.{RowLeft, Gives, IsDone, RefusesNext, ref_cell, ref_unless, row_left}
 use Rattle.mysql_stmt.proofs.NullBits.{bits-after}
-use Rattle.mysql_stmt.proofs.OneByOne.{none-left}
-use Rattle.mysql_stmt.proofs.RowViews.{first-value, first-fault}
+use Rattle.mysql_stmt.proofs.RowViews.{first-value, first-fault, no-value}
 use Rattle.mysql_stmt.proofs.binary_row_view.BinaryRowViewRowView.next_form.Goals as goal
 
 pub returns-in_default : goal.returns-in_default
 returns-in_default g c =
-    let f = ref_cell g.C.TypedColumn.type_of g.C.TypedColumn.unsigned c.self.inside.nulls.bytes g.S.SerializationSide.BIT_OFFSET in
-    let none : length c.self.inside.columns.now ≡ 0 = search rules in
-    record { value = (subst IsDone c.self.view_is (none, (none-left f c.self.inside.place c.self.inside.columns.now c.self.inside.buf none).0), refl) }
+    let v = c.self.inside in
+    let none : length v.columns.now ≡ 0 = search rules in
+    record { value = (subst IsDone c.self.view_is (no-value (ref_cell g.C.TypedColumn.type_of g.C.TypedColumn.unsigned v.nulls.bytes g.S.SerializationSide.BIT_OFFSET) v.place v.columns.now v.buf none), refl) }
 
 pub returns-in_err-form : goal.returns-in_err-form
 returns-in_err-form g c =
     let v = c.self.inside in
     let offset = g.S.SerializationSide.BIT_OFFSET in
+    let p = err_from_is_err_and c.from_residual.result c.from_residual.ensures.1 in
     let fault = c.in_err-form.field-0.0 in
     let row = first-fault g.C.TypedColumn.type_of g.C.TypedColumn.unsigned v.nulls.bytes offset v.place c.in-Some.column.now c.in-Some.columns.now v.columns.now v.buf c.rest-rest.result c.is_null_at-is_null.result c.is_null_at-is_null.ensures.value c.in-Some.ensures.cases.0 c.rest-rest.ensures fault c.in_err-form.ensures.value in
-    let p = err_from_is_err_and c.from_residual.result c.from_residual.ensures.1 in
     record { value = rw (p.1, p.2) (subst (RefusesNext fault) c.self.view_is row, refl) }
 
 pub invariant_of-self : goal.invariant_of-self
-invariant_of-self g c =
-    let more = c.in-Some.ensures.cases.1 in
-    bits-after g.S.SerializationSide.BIT_OFFSET _ _ _ _ _ c.self.invariant (omega (arith, more))
+invariant_of-self g c = bits-after g.S.SerializationSide.BIT_OFFSET _ _ _ _ _ c.self.invariant (omega (arith, c.in-Some.ensures.cases.1))
 
 pub returns : goal.returns
 returns g c =

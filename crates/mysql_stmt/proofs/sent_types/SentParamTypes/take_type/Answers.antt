@@ -1,4 +1,4 @@
-use Rattle.std.proofs.Common.{◌≡◌, ◌≢◌, ◌∙◌, [], sym, arith}
+use Rattle.std.proofs.Common.{◌≢◌, ◌∙◌, sym, arith}
 use Rattle.mysql_stmt.proofs.SentTypes.{never, none-in, takes}
 use Rattle.mysql_stmt.proofs.sent_types.SentParamTypes.take_type.Goals as goal
 
