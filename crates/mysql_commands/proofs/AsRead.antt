@@ -4,11 +4,12 @@ use Rattle.std.proofs.Common.{◌≡◌, ℕ, zero, suc, ◌+◌, ◌*◌, ◌<�
 use Rattle.std.proofs.lemmas.List.{append-nil}
 use Rattle.std.proofs.Math.Nat.{pow-suc}
 use Rattle.std.specs.Int.{byte_at, bytes_low_first}
+use Rattle.mysql_wire.specs.Codec.{Codec}
 use Rattle.mysql_wire.specs.Constant.{const_byte}
 use Rattle.mysql_wire.specs.ConstantValue.{coded}
 use Rattle.mysql_wire.specs.CountedBytes.{u8_string, u8_string_bytes, counted_bytes, counted_bytes_of}
 use Rattle.mysql_wire.specs.Flags.{flag_word}
-use Rattle.mysql_wire.specs.Form.{all_left, bytes, number, le_value}
+use Rattle.mysql_wire.specs.Form.{Form, ◌>>=◌, give, block, all_left, bytes, number, le_value}
 use Rattle.mysql_wire.specs.Int.{raw}
 use Rattle.mysql_wire.specs.LittleEndian.{value-le_bytes, length-le_bytes}
 use Rattle.mysql_wire.specs.Null.{null_string, null_bytes, before_zero, HasNoZero}
@@ -31,14 +32,6 @@ bytes-before (b ∷ front) rest h = (h.0, bytes-before front rest h.1)
 
 pub bytes-left : (a before mid : List ℕ) → AreBytes before → a ++ mid ≡ before → AreBytes mid
 bytes-left a before mid h e = bytes-after a mid (subst AreBytes (sym e) h)
-
--- a part that is written as it was read, and the bytes after it
-pub record Took (part before mid : List ℕ) : Type 0 where
-  pub parts : part ++ mid ≡ before
-  pub left : AreBytes mid
-
-pub took : (part before mid : List ℕ) → part ++ mid ≡ before → AreBytes before → Took part before mid
-took part before mid e h = record { parts = e; left = bytes-left part before mid h e }
 
 -- numbers of the same width are equal if their values are
 one-number : (a b : List ℕ) → AreBytes a → AreBytes b → length a ≡ length b → le_value a ≡ le_value b → a ≡ b
@@ -74,11 +67,45 @@ value-below (x ∷ c) h =
 pub then-exact : (a b before mid rest : List ℕ) → a ++ mid ≡ before → b ++ rest ≡ mid → (a ++ b) ++ rest ≡ before
 then-exact a b before mid rest e f = append_assoc a b rest ∙ ap (λ (l : List ℕ). a ++ l) f ∙ e
 
-pub last-exact : (rest mid : List ℕ) → mid ≡ rest → [] ++ rest ≡ mid
-last-exact rest mid e = sym e
+pub in-block : (n : ℕ) (written inside before rest : List ℕ) → AreBytes before → (bytes n).Spells inside before rest → (AreBytes inside → written ++ [] ≡ inside) → written ++ rest ≡ before
+unfolding bytes
+in-block n written inside before rest h s e =
+    let small : AreBytes inside = bytes-before inside rest (subst AreBytes s.1 h) in
+    ap (λ (l : List ℕ). l ++ rest) (sym (append-nil written) ∙ e small) ∙ sym s.1
 
-pub block-exact : (a inside before rest : List ℕ) → a ++ [] ≡ inside → before ≡ inside ++ rest → a ++ rest ≡ before
-block-exact a inside before rest e is = ap (λ (l : List ℕ). l ++ rest) (sym (append-nil a) ∙ e) ∙ sym is
+-- a form whose parts are written as they were read: the bytes of the parts of what was read, which are those that were read
+pub record PartsAsRead (A : Type 0) (f : Form A) : Type 0 where
+  pub bytes : (v : A) (before rest : List ℕ) → f.Spells v before rest → List ℕ
+  pub exact : (v : A) (before rest : List ℕ) → AreBytes before → (s : f.Spells v before rest) → bytes v before rest s ++ rest ≡ before
+
+-- one part
+abbrev pub part : {A : Type 0} {f : Form A} (written : A → List ℕ) → Exact f written → PartsAsRead A f
+part written exact = record { bytes = λ v before rest s. written v; exact = exact }
+
+-- a part, and then others
+abbrev pub parts : {A B : Type 0} {f : Form A} {g : A → Form B} → PartsAsRead A f → ((x : A) → PartsAsRead B (g x)) → PartsAsRead B (f >>= g)
+parts first next = record {
+  bytes = λ v before rest s. first.bytes s.0 before s.1 s.2 ++ (next s.0).bytes v s.1 rest s.3;
+  exact = λ v before rest h s.
+      let front = first.exact s.0 before s.1 h s.2 in
+      then-exact _ _ before s.1 rest front ((next s.0).exact v s.1 rest (bytes-left _ before s.1 h front) s.3);
+}
+
+-- no other part
+abbrev pub no_part : {A : Type 0} (x : A) → PartsAsRead A (give x)
+no_part x = record { bytes = λ v before rest s. []; exact = λ v before rest h s. sym s.1 }
+
+-- parts in a block
+abbrev pub in_block : {A : Type 0} {f : Form A} (n : ℕ) → PartsAsRead A f → PartsAsRead A (block n f)
+in_block n inside = record {
+  bytes = λ v before rest s. inside.bytes v s.0 [] s.2;
+  exact = λ v before rest h s. in-block n _ s.0 before rest h s.1 (λ small. inside.exact v s.0 [] small s.2);
+}
+
+-- a packet whose bytes are those of its parts
+pub as-read : {C A : Type 0} (codec : Codec C A) (c : C) (read : PartsAsRead A (codec.form c))
+    → ((v : A) (before rest : List ℕ) (s : (codec.form c).Spells v before rest) → codec.bytes v ≡ read.bytes v before rest s) → Exact (codec.form c) codec.bytes
+as-read codec c read same v before rest h s = rw (same v before rest s) (read.exact v before rest h s)
 
 -- ---- leaves
 
@@ -158,3 +185,23 @@ u8_string-exact content before rest h s =
     let below : s.2.2.0 < 256 ^ 1 = number-below 1 s.2.2.0 before s.1 h s.2.2.2 in
     let all : take 255 content ≡ content = take-all 255 content (omega (arith, below, value, is)) in
     rw (all, ← is) (then-exact (le_bytes 1 s.2.0.0) content before s.1 rest header (sym s.3.1))
+
+-- ---- parts that are leaves
+
+abbrev pub const_part : {T : Type 0} (value : ℕ) → PartsAsRead (ConstU8 T value) (const_byte value)
+const_part value = part (λ v. value ∷ []) (const-exact value)
+
+abbrev pub raw_part : {R : Type 0} (width : ℕ) → PartsAsRead (RawInt R ℕ) (raw (number width))
+raw_part {R} width = part (λ n. le_bytes width n.0) (raw-exact R width)
+
+abbrev pub flags_part : {N U : Type 0} (width : ℕ) → PartsAsRead (Const (FlagWord N ℕ) U) (flag_word width)
+flags_part {N} {U} width = part (λ v. le_bytes width v.0.0) (flags-exact N U width)
+
+abbrev pub null_part : PartsAsRead (List ℕ) null_string
+null_part = part null_bytes null-exact
+
+abbrev pub left_part : PartsAsRead (List ℕ) all_left
+left_part = part (λ content. content) left-exact
+
+abbrev pub u8_string_part : PartsAsRead (List ℕ) u8_string
+u8_string_part = part u8_string_bytes u8_string-exact

@@ -18,12 +18,11 @@ use Rattle.mysql_commands.specs.After.{after_form, byte_left, code_bytes}
 use Rattle.mysql_commands.specs.WithRawBytes.{as_sent_form}
 use Rattle.mysql_commands.specs.Command.{command, command_at, command_named, command_bytes}
 use Rattle.mysql_commands.specs.Query.{query, sends_attributes}
-use Rattle.mysql_stmt.specs.Attributes.{Attribute}
 use Rattle.mysql_commands.specs.QueryAttributes.{query_attributes}
 use Rattle.mysql_commands.specs.declared.with_raw_bytes.WithRawBytes.{WithRawBytes}
 use Rattle.mysql_commands.specs.declared.command.Command.{Command}
 use Rattle.mysql_commands.specs.AsRead.{AreBytes, Exact}
-use Rattle.mysql_commands.proofs.AsRead.{bytes-left, then-exact, last-exact, const-exact, number-exact, raw-exact, left-exact}
+use Rattle.mysql_commands.proofs.AsRead.{as-read, part, parts, no_part, const_part, left_part, bytes-left, then-exact, number-exact, raw-exact, left-exact}
 use Rattle.mysql_commands.proofs.PacketsAsRead.{field_list-exact, bulk_execute-exact, long_data-exact, table_dump-exact, unknown-exact, close-exact, stmt_reset-exact, stmt_fetch-exact, set_option-exact, stmt_execute-exact, binlog_dump-exact, register_slave-exact}
 
 -- ---- what is written as it was sent
@@ -31,20 +30,15 @@ use Rattle.mysql_commands.proofs.PacketsAsRead.{field_list-exact, bulk_execute-e
 pub sent-exact : {T : Type 0} (f : Form T) (p : WithRawBytes T) (before rest : List ℕ) → (as_sent_form f).Spells p before rest → p.bytes ++ rest ≡ before
 sent-exact f p before rest s = sym s.1
 
-attributes-exact : (flag : Bool) (given : Option (WithRawBytes (List Attribute))) (before rest : List ℕ) → (when flag (as_sent_form query_attributes)).Spells given before rest
-    → optional_bytes (λ p. p.bytes) given ++ rest ≡ before
-attributes-exact true given before rest s = rw (← s.1) (sent-exact query_attributes s.0 before rest s.2)
-attributes-exact false given before rest s = rw s.0 (sym s.1)
+attributes-exact : (flag : Bool) → Exact (when flag (as_sent_form query_attributes)) (optional_bytes (λ p. p.bytes))
+attributes-exact true given before rest h s = rw (← s.1) (sent-exact query_attributes s.0 before rest s.2)
+attributes-exact false given before rest h s = rw s.0 (sym s.1)
 
 pub query-exact : (c : CapabilityFlags) → Exact (query.form c) query.bytes
 unfolding query
-query-exact c v before rest h s =
-    let e0 = const-exact 0x03 s.0 before s.1 h s.2 in
-    let h0 : AreBytes s.1 = bytes-left (0x03 ∷ []) before s.1 h e0 in
-    let e1 = attributes-exact (sends_attributes c) s.3.0 s.1 s.3.1 s.3.2 in
-    let h1 : AreBytes s.3.1 = bytes-left (optional_bytes (λ (p : WithRawBytes (List Attribute)). p.bytes) s.3.0) s.1 s.3.1 h0 e1 in
-    let e2 = left-exact s.3.3.0 s.3.1 s.3.3.1 h1 s.3.3.2 in
-    rw s.3.3.3.0 (then-exact (0x03 ∷ []) ((optional_bytes (λ (p : WithRawBytes (List Attribute)). p.bytes) s.3.0) ++ (s.3.3.0 ++ [])) before s.1 rest e0 (then-exact (optional_bytes (λ (p : WithRawBytes (List Attribute)). p.bytes) s.3.0) (s.3.3.0 ++ []) s.1 s.3.1 rest e1 (then-exact s.3.3.0 [] s.3.1 s.3.3.1 rest e2 (last-exact rest s.3.3.1 s.3.3.3.1))))
+query-exact c =
+    as-read query c (parts (const_part 0x03) (λ header. parts (part (optional_bytes (λ p. p.bytes)) (attributes-exact (sends_attributes c))) (λ attributes. parts left_part (λ text. no_part _))))
+    (λ v before rest s. rw s.3.3.3.0 refl)
 
 -- ---- after a command's byte
 

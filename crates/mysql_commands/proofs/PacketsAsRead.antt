@@ -1,9 +1,5 @@
 -- Command packets are written as they were read.
-use Rattle.std.proofs.Common.{[], ◌∷◌, ◌++◌, subst}
-use Rattle.mysql_wire.specs.CountedBytes.{u8_string_bytes}
-use Rattle.mysql_wire.specs.Form.{bytes}
-use Rattle.mysql_wire.specs.Null.{null_bytes}
-use Rattle.mysql_wire.specs.Writing.{le_bytes}
+use Rattle.std.proofs.Common.{refl}
 use Rattle.mysql_stmt.specs.Close.{close}
 use Rattle.mysql_stmt.specs.ExecuteHead.{execute_head}
 use Rattle.mysql_stmt.specs.LongData.{long_data}
@@ -17,130 +13,70 @@ use Rattle.mysql_commands.specs.FieldList.{field_list}
 use Rattle.mysql_commands.specs.SetOption.{set_option}
 use Rattle.mysql_commands.specs.StmtExecute.{stmt_execute}
 use Rattle.mysql_commands.specs.Unknown.{unknown}
-use Rattle.mysql_commands.specs.AsRead.{AreBytes, Exact}
-use Rattle.mysql_commands.proofs.AsRead.{bytes-before, bytes-left, took, then-exact, last-exact, block-exact, const-exact, raw-exact, flags-exact, null-exact, left-exact, u8_string-exact}
+use Rattle.mysql_commands.specs.AsRead.{Exact}
+use Rattle.mysql_commands.proofs.AsRead.{as-read, part, parts, no_part, in_block, const_part, raw_part, flags_part, null_part, left_part, u8_string_part}
 
 pub field_list-exact : Exact (field_list.form tt) field_list.bytes
 unfolding field_list
-field_list-exact v before rest h s =
-    let e0_s = took (0x04 ∷ []) before s.1 (const-exact 0x04 s.0 before s.1 h s.2) h in
-    let e1_s = took (null_bytes s.3.0) s.1 s.3.1 (null-exact s.3.0 s.1 s.3.1 e0_s.left s.3.2) e0_s.left in
-    let e2_s = took s.3.3.0 s.3.1 s.3.3.1 (left-exact s.3.3.0 s.3.1 s.3.3.1 e1_s.left s.3.3.2) e1_s.left in
-    rw s.3.3.3.0 (then-exact (0x04 ∷ []) ((null_bytes s.3.0) ++ (s.3.3.0 ++ [])) before s.1 rest e0_s.parts (then-exact (null_bytes s.3.0) (s.3.3.0 ++ []) s.1 s.3.1 rest e1_s.parts (then-exact s.3.3.0 ([]) s.3.1 s.3.3.1 rest e2_s.parts (last-exact rest s.3.3.1 s.3.3.3.1))))
+field_list-exact = as-read field_list tt (parts (const_part 0x04) (λ header. parts null_part (λ table. parts left_part (λ wildcard. no_part _))))
+    (λ v before rest s. rw s.3.3.3.0 refl)
 
 pub bulk_execute-exact : Exact (bulk_execute.form tt) bulk_execute.bytes
 unfolding bulk_execute
-bulk_execute-exact v before rest h s =
-    let e0_s = took (0xfa ∷ []) before s.1 (const-exact 0xfa s.0 before s.1 h s.2) h in
-    let e1_s = took (le_bytes 4 s.3.0.0) s.1 s.3.1 (raw-exact _ 4 s.3.0 s.1 s.3.1 e0_s.left s.3.2) e0_s.left in
-    let e2_s = took (le_bytes 2 s.3.3.0.0.0) s.3.1 s.3.3.1 (flags-exact _ _ 2 s.3.3.0 s.3.1 s.3.3.1 e1_s.left s.3.3.2) e1_s.left in
-    let e3_s = took s.3.3.3.0 s.3.3.1 s.3.3.3.1 (left-exact s.3.3.3.0 s.3.3.1 s.3.3.3.1 e2_s.left s.3.3.3.2) e2_s.left in
-    rw s.3.3.3.3.0 (then-exact (0xfa ∷ []) ((le_bytes 4 s.3.0.0) ++ ((le_bytes 2 s.3.3.0.0.0) ++ (s.3.3.3.0 ++ []))) before s.1 rest e0_s.parts (then-exact (le_bytes 4 s.3.0.0) ((le_bytes 2 s.3.3.0.0.0) ++ (s.3.3.3.0 ++ [])) s.1 s.3.1 rest e1_s.parts (then-exact (le_bytes 2 s.3.3.0.0.0) (s.3.3.3.0 ++ []) s.3.1 s.3.3.1 rest e2_s.parts (then-exact s.3.3.3.0 ([]) s.3.3.1 s.3.3.3.1 rest e3_s.parts (last-exact rest s.3.3.3.1 s.3.3.3.3.1)))))
+bulk_execute-exact = as-read bulk_execute tt (parts (const_part 0xfa) (λ header. parts (raw_part 4) (λ stmt_id. parts (flags_part 2) (λ flags. parts left_part (λ rows. no_part _)))))
+    (λ v before rest s. rw s.3.3.3.3.0 refl)
 
 pub long_data-exact : Exact (long_data.form tt) long_data.bytes
 unfolding long_data
-long_data-exact v before rest h s =
-    let e0_s = took (0x18 ∷ []) before s.1 (const-exact 0x18 s.0 before s.1 h s.2) h in
-    let e1_s = took (le_bytes 4 s.3.0.0) s.1 s.3.1 (raw-exact _ 4 s.3.0 s.1 s.3.1 e0_s.left s.3.2) e0_s.left in
-    let e2_s = took (le_bytes 2 s.3.3.0.0) s.3.1 s.3.3.1 (raw-exact _ 2 s.3.3.0 s.3.1 s.3.3.1 e1_s.left s.3.3.2) e1_s.left in
-    let e3_s = took s.3.3.3.0 s.3.3.1 s.3.3.3.1 (left-exact s.3.3.3.0 s.3.3.1 s.3.3.3.1 e2_s.left s.3.3.3.2) e2_s.left in
-    rw s.3.3.3.3.0 (then-exact (0x18 ∷ []) ((le_bytes 4 s.3.0.0) ++ ((le_bytes 2 s.3.3.0.0) ++ (s.3.3.3.0 ++ []))) before s.1 rest e0_s.parts (then-exact (le_bytes 4 s.3.0.0) ((le_bytes 2 s.3.3.0.0) ++ (s.3.3.3.0 ++ [])) s.1 s.3.1 rest e1_s.parts (then-exact (le_bytes 2 s.3.3.0.0) (s.3.3.3.0 ++ []) s.3.1 s.3.3.1 rest e2_s.parts (then-exact s.3.3.3.0 ([]) s.3.3.1 s.3.3.3.1 rest e3_s.parts (last-exact rest s.3.3.3.1 s.3.3.3.3.1)))))
+long_data-exact = as-read long_data tt (parts (const_part 0x18) (λ header. parts (raw_part 4) (λ stmt_id. parts (raw_part 2) (λ index. parts left_part (λ content. no_part _)))))
+    (λ v before rest s. rw s.3.3.3.3.0 refl)
 
 pub table_dump-exact : Exact (table_dump.form tt) table_dump.bytes
 unfolding table_dump
-table_dump-exact v before rest h s =
-    let e0_s = took (0x13 ∷ []) before s.1 (const-exact 0x13 s.0 before s.1 h s.2) h in
-    let e1_s = took (u8_string_bytes s.3.0) s.1 s.3.1 (u8_string-exact s.3.0 s.1 s.3.1 e0_s.left s.3.2) e0_s.left in
-    let e2_s = took (u8_string_bytes s.3.3.0) s.3.1 s.3.3.1 (u8_string-exact s.3.3.0 s.3.1 s.3.3.1 e1_s.left s.3.3.2) e1_s.left in
-    rw s.3.3.3.0 (then-exact (0x13 ∷ []) ((u8_string_bytes s.3.0) ++ ((u8_string_bytes s.3.3.0) ++ [])) before s.1 rest e0_s.parts (then-exact (u8_string_bytes s.3.0) ((u8_string_bytes s.3.3.0) ++ []) s.1 s.3.1 rest e1_s.parts (then-exact (u8_string_bytes s.3.3.0) ([]) s.3.1 s.3.3.1 rest e2_s.parts (last-exact rest s.3.3.1 s.3.3.3.1))))
+table_dump-exact = as-read table_dump tt (parts (const_part 0x13) (λ header. parts u8_string_part (λ database. parts u8_string_part (λ table. no_part _))))
+    (λ v before rest s. rw s.3.3.3.0 refl)
 
 pub unknown-exact : Exact (unknown.form tt) unknown.bytes
 unfolding unknown
-unknown-exact v before rest h s =
-    let e0_s = took (le_bytes 1 s.0.0) before s.1 (raw-exact _ 1 s.0 before s.1 h s.2) h in
-    let e1_s = took s.3.0 s.1 s.3.1 (left-exact s.3.0 s.1 s.3.1 e0_s.left s.3.2) e0_s.left in
-    rw s.3.3.0 (then-exact (le_bytes 1 s.0.0) (s.3.0 ++ []) before s.1 rest e0_s.parts (then-exact s.3.0 ([]) s.1 s.3.1 rest e1_s.parts (last-exact rest s.3.1 s.3.3.1)))
+unknown-exact = as-read unknown tt (parts (raw_part 1) (λ code. parts left_part (λ content. no_part _)))
+    (λ v before rest s. rw s.3.3.0 refl)
 
 pub close-exact : Exact (close.form tt) close.bytes
-unfolding close bytes
-close-exact v before rest h s =
-    let small : AreBytes s.0 = bytes-before s.0 rest (subst AreBytes s.1.1 h) in
-    let e0_s_2 = took (0x19 ∷ []) s.0 s.2.1 (const-exact 0x19 s.2.0 s.0 s.2.1 small s.2.2) small in
-    let e1_s_2 = took (le_bytes 4 s.2.3.0.0) s.2.1 s.2.3.1 (raw-exact _ 4 s.2.3.0 s.2.1 s.2.3.1 e0_s_2.left s.2.3.2) e0_s_2.left in
-    block-exact (close.bytes v) s.0 before rest (rw s.2.3.3.0 (then-exact (0x19 ∷ []) ((le_bytes 4 s.2.3.0.0) ++ []) s.0 s.2.1 [] e0_s_2.parts (then-exact (le_bytes 4 s.2.3.0.0) ([]) s.2.1 s.2.3.1 [] e1_s_2.parts (last-exact [] s.2.3.1 s.2.3.3.1)))) s.1.1
+unfolding close
+close-exact = as-read close tt (in_block 5 (parts (const_part 0x19) (λ header. parts (raw_part 4) (λ stmt_id. no_part _))))
+    (λ v before rest s. rw s.2.3.3.0 refl)
 
 pub stmt_reset-exact : Exact (stmt_reset.form tt) stmt_reset.bytes
-unfolding stmt_reset bytes
-stmt_reset-exact v before rest h s =
-    let small : AreBytes s.0 = bytes-before s.0 rest (subst AreBytes s.1.1 h) in
-    let e0_s_2 = took (0x1a ∷ []) s.0 s.2.1 (const-exact 0x1a s.2.0 s.0 s.2.1 small s.2.2) small in
-    let e1_s_2 = took (le_bytes 4 s.2.3.0.0) s.2.1 s.2.3.1 (raw-exact _ 4 s.2.3.0 s.2.1 s.2.3.1 e0_s_2.left s.2.3.2) e0_s_2.left in
-    block-exact (stmt_reset.bytes v) s.0 before rest (rw s.2.3.3.0 (then-exact (0x1a ∷ []) ((le_bytes 4 s.2.3.0.0) ++ []) s.0 s.2.1 [] e0_s_2.parts (then-exact (le_bytes 4 s.2.3.0.0) ([]) s.2.1 s.2.3.1 [] e1_s_2.parts (last-exact [] s.2.3.1 s.2.3.3.1)))) s.1.1
+unfolding stmt_reset
+stmt_reset-exact = as-read stmt_reset tt (in_block 5 (parts (const_part 0x1a) (λ header. parts (raw_part 4) (λ stmt_id. no_part _))))
+    (λ v before rest s. rw s.2.3.3.0 refl)
 
 pub stmt_fetch-exact : Exact (stmt_fetch.form tt) stmt_fetch.bytes
-unfolding stmt_fetch bytes
-stmt_fetch-exact v before rest h s =
-    let small : AreBytes s.0 = bytes-before s.0 rest (subst AreBytes s.1.1 h) in
-    let e0_s_2 = took (0x1c ∷ []) s.0 s.2.1 (const-exact 0x1c s.2.0 s.0 s.2.1 small s.2.2) small in
-    let e1_s_2 = took (le_bytes 4 s.2.3.0.0) s.2.1 s.2.3.1 (raw-exact _ 4 s.2.3.0 s.2.1 s.2.3.1 e0_s_2.left s.2.3.2) e0_s_2.left in
-    let e2_s_2 = took (le_bytes 4 s.2.3.3.0.0) s.2.3.1 s.2.3.3.1 (raw-exact _ 4 s.2.3.3.0 s.2.3.1 s.2.3.3.1 e1_s_2.left s.2.3.3.2) e1_s_2.left in
-    block-exact (stmt_fetch.bytes v) s.0 before rest (rw s.2.3.3.3.0 (then-exact (0x1c ∷ []) ((le_bytes 4 s.2.3.0.0) ++ ((le_bytes 4 s.2.3.3.0.0) ++ [])) s.0 s.2.1 [] e0_s_2.parts (then-exact (le_bytes 4 s.2.3.0.0) ((le_bytes 4 s.2.3.3.0.0) ++ []) s.2.1 s.2.3.1 [] e1_s_2.parts (then-exact (le_bytes 4 s.2.3.3.0.0) ([]) s.2.3.1 s.2.3.3.1 [] e2_s_2.parts (last-exact [] s.2.3.3.1 s.2.3.3.3.1))))) s.1.1
+unfolding stmt_fetch
+stmt_fetch-exact = as-read stmt_fetch tt (in_block 9 (parts (const_part 0x1c) (λ header. parts (raw_part 4) (λ stmt_id. parts (raw_part 4) (λ rows. no_part _)))))
+    (λ v before rest s. rw s.2.3.3.3.0 refl)
 
 pub set_option-exact : Exact (set_option.form tt) set_option.bytes
-unfolding set_option bytes
-set_option-exact v before rest h s =
-    let small : AreBytes s.0 = bytes-before s.0 rest (subst AreBytes s.1.1 h) in
-    let e0_s_2 = took (0x1b ∷ []) s.0 s.2.1 (const-exact 0x1b s.2.0 s.0 s.2.1 small s.2.2) small in
-    let e1_s_2 = took (le_bytes 2 s.2.3.0.0) s.2.1 s.2.3.1 (raw-exact _ 2 s.2.3.0 s.2.1 s.2.3.1 e0_s_2.left s.2.3.2) e0_s_2.left in
-    block-exact (set_option.bytes v) s.0 before rest (rw s.2.3.3.0 (then-exact (0x1b ∷ []) ((le_bytes 2 s.2.3.0.0) ++ []) s.0 s.2.1 [] e0_s_2.parts (then-exact (le_bytes 2 s.2.3.0.0) ([]) s.2.1 s.2.3.1 [] e1_s_2.parts (last-exact [] s.2.3.1 s.2.3.3.1)))) s.1.1
+unfolding set_option
+set_option-exact = as-read set_option tt (in_block 3 (parts (const_part 0x1b) (λ header. parts (raw_part 2) (λ code. no_part _))))
+    (λ v before rest s. rw s.2.3.3.0 refl)
 
 pub execute_head-exact : Exact (execute_head.form tt) execute_head.bytes
-unfolding execute_head bytes
-execute_head-exact v before rest h s =
-    let small : AreBytes s.0 = bytes-before s.0 rest (subst AreBytes s.1.1 h) in
-    let e0_s_2 = took (0x17 ∷ []) s.0 s.2.1 (const-exact 0x17 s.2.0 s.0 s.2.1 small s.2.2) small in
-    let e1_s_2 = took (le_bytes 4 s.2.3.0.0) s.2.1 s.2.3.1 (raw-exact _ 4 s.2.3.0 s.2.1 s.2.3.1 e0_s_2.left s.2.3.2) e0_s_2.left in
-    let e2_s_2 = took (le_bytes 1 s.2.3.3.0.0.0) s.2.3.1 s.2.3.3.1 (flags-exact _ _ 1 s.2.3.3.0 s.2.3.1 s.2.3.3.1 e1_s_2.left s.2.3.3.2) e1_s_2.left in
-    let e3_s_2 = took (le_bytes 4 s.2.3.3.3.0.0) s.2.3.3.1 s.2.3.3.3.1 (raw-exact _ 4 s.2.3.3.3.0 s.2.3.3.1 s.2.3.3.3.1 e2_s_2.left s.2.3.3.3.2) e2_s_2.left in
-    block-exact (execute_head.bytes v) s.0 before rest (rw s.2.3.3.3.3.0 (then-exact (0x17 ∷ []) ((le_bytes 4 s.2.3.0.0) ++ ((le_bytes 1 s.2.3.3.0.0.0) ++ ((le_bytes 4 s.2.3.3.3.0.0) ++ []))) s.0 s.2.1 [] e0_s_2.parts (then-exact (le_bytes 4 s.2.3.0.0) ((le_bytes 1 s.2.3.3.0.0.0) ++ ((le_bytes 4 s.2.3.3.3.0.0) ++ [])) s.2.1 s.2.3.1 [] e1_s_2.parts (then-exact (le_bytes 1 s.2.3.3.0.0.0) ((le_bytes 4 s.2.3.3.3.0.0) ++ []) s.2.3.1 s.2.3.3.1 [] e2_s_2.parts (then-exact (le_bytes 4 s.2.3.3.3.0.0) ([]) s.2.3.3.1 s.2.3.3.3.1 [] e3_s_2.parts (last-exact [] s.2.3.3.3.1 s.2.3.3.3.3.1)))))) s.1.1
+unfolding execute_head
+execute_head-exact = as-read execute_head tt (in_block 10 (parts (const_part 0x17) (λ header. parts (raw_part 4) (λ stmt_id. parts (flags_part 1) (λ flags. parts (raw_part 4) (λ count. no_part _))))))
+    (λ v before rest s. rw s.2.3.3.3.3.0 refl)
 
 pub stmt_execute-exact : Exact (stmt_execute.form tt) stmt_execute.bytes
 unfolding stmt_execute
-stmt_execute-exact v before rest h s =
-    let e0_s = took (execute_head.bytes s.0) before s.1 (execute_head-exact s.0 before s.1 h s.2) h in
-    let e1_s = took s.3.0 s.1 s.3.1 (left-exact s.3.0 s.1 s.3.1 e0_s.left s.3.2) e0_s.left in
-    rw s.3.3.0 (then-exact (execute_head.bytes s.0) (s.3.0 ++ []) before s.1 rest e0_s.parts (then-exact s.3.0 ([]) s.1 s.3.1 rest e1_s.parts (last-exact rest s.3.1 s.3.3.1)))
+stmt_execute-exact = as-read stmt_execute tt (parts (part execute_head.bytes execute_head-exact) (λ head. parts left_part (λ params. no_part _)))
+    (λ v before rest s. rw s.3.3.0 refl)
 
 pub binlog_dump-exact : Exact (binlog_dump.form tt) binlog_dump.bytes
-unfolding binlog_dump bytes
-binlog_dump-exact v before rest h s =
-    let small : AreBytes s.2.0 = bytes-before s.2.0 s.1 (subst AreBytes s.2.1.1 h) in
-    let e0_s_2_2 = took (0x12 ∷ []) s.2.0 s.2.2.1 (const-exact 0x12 s.2.2.0 s.2.0 s.2.2.1 small s.2.2.2) small in
-    let e1_s_2_2 = took (le_bytes 4 s.2.2.3.0.0) s.2.2.1 s.2.2.3.1 (raw-exact _ 4 s.2.2.3.0 s.2.2.1 s.2.2.3.1 e0_s_2_2.left s.2.2.3.2) e0_s_2_2.left in
-    let e2_s_2_2 = took (le_bytes 2 s.2.2.3.3.0.0.0) s.2.2.3.1 s.2.2.3.3.1 (flags-exact _ _ 2 s.2.2.3.3.0 s.2.2.3.1 s.2.2.3.3.1 e1_s_2_2.left s.2.2.3.3.2) e1_s_2_2.left in
-    let e3_s_2_2 = took (le_bytes 4 s.2.2.3.3.3.0.0) s.2.2.3.3.1 s.2.2.3.3.3.1 (raw-exact _ 4 s.2.2.3.3.3.0 s.2.2.3.3.1 s.2.2.3.3.3.1 e2_s_2_2.left s.2.2.3.3.3.2) e2_s_2_2.left in
-    let head = block-exact ((0x12 ∷ []) ++ ((le_bytes 4 s.2.2.3.0.0) ++ ((le_bytes 2 s.2.2.3.3.0.0.0) ++ ((le_bytes 4 s.2.2.3.3.3.0.0) ++ [])))) s.2.0 before s.1 (then-exact (0x12 ∷ []) ((le_bytes 4 s.2.2.3.0.0) ++ ((le_bytes 2 s.2.2.3.3.0.0.0) ++ ((le_bytes 4 s.2.2.3.3.3.0.0) ++ []))) s.2.0 s.2.2.1 [] e0_s_2_2.parts (then-exact (le_bytes 4 s.2.2.3.0.0) ((le_bytes 2 s.2.2.3.3.0.0.0) ++ ((le_bytes 4 s.2.2.3.3.3.0.0) ++ [])) s.2.2.1 s.2.2.3.1 [] e1_s_2_2.parts (then-exact (le_bytes 2 s.2.2.3.3.0.0.0) ((le_bytes 4 s.2.2.3.3.3.0.0) ++ []) s.2.2.3.1 s.2.2.3.3.1 [] e2_s_2_2.parts (then-exact (le_bytes 4 s.2.2.3.3.3.0.0) ([]) s.2.2.3.3.1 s.2.2.3.3.3.1 [] e3_s_2_2.parts (last-exact [] s.2.2.3.3.3.1 s.2.2.3.3.3.3.1))))) s.2.1.1 in
-    let later : AreBytes s.1 = bytes-left ((0x12 ∷ []) ++ ((le_bytes 4 s.2.2.3.0.0) ++ ((le_bytes 2 s.2.2.3.3.0.0.0) ++ ((le_bytes 4 s.2.2.3.3.3.0.0) ++ [])))) before s.1 h head in
-    let name = left-exact s.3.0 s.1 s.3.1 later s.3.2 in
-    rw (s.3.3.0, s.2.2.3.3.3.3.0) (then-exact ((0x12 ∷ []) ++ ((le_bytes 4 s.2.2.3.0.0) ++ ((le_bytes 2 s.2.2.3.3.0.0.0) ++ ((le_bytes 4 s.2.2.3.3.3.0.0) ++ [])))) (s.3.0 ++ []) before s.1 rest head (then-exact s.3.0 [] s.1 s.3.1 rest name (last-exact rest s.3.1 s.3.3.1)))
+unfolding binlog_dump
+binlog_dump-exact = as-read binlog_dump tt (parts (in_block 11 (parts (const_part 0x12) (λ header. parts (raw_part 4) (λ pos. parts (flags_part 2) (λ flags. parts (raw_part 4) (λ server_id. no_part _)))))) (λ head. parts left_part (λ filename. no_part _)))
+    (λ v before rest s. rw (s.3.3.0, s.2.2.3.3.3.3.0) refl)
 
 pub register_slave-exact : Exact (register_slave.form tt) register_slave.bytes
-unfolding register_slave register_slave_head register_slave_end bytes
-register_slave-exact v before rest h s =
-    let small : AreBytes s.2.0 = bytes-before s.2.0 s.1 (subst AreBytes s.2.1.1 h) in
-    let e0_s_2_2 = took (0x15 ∷ []) s.2.0 s.2.2.1 (const-exact 0x15 s.2.2.0 s.2.0 s.2.2.1 small s.2.2.2) small in
-    let e1_s_2_2 = took (le_bytes 4 s.2.2.3.0.0) s.2.2.1 s.2.2.3.1 (raw-exact _ 4 s.2.2.3.0 s.2.2.1 s.2.2.3.1 e0_s_2_2.left s.2.2.3.2) e0_s_2_2.left in
-    let head = block-exact ((0x15 ∷ []) ++ ((le_bytes 4 s.2.2.3.0.0) ++ [])) s.2.0 before s.1 (then-exact (0x15 ∷ []) ((le_bytes 4 s.2.2.3.0.0) ++ []) s.2.0 s.2.2.1 [] e0_s_2_2.parts (then-exact (le_bytes 4 s.2.2.3.0.0) ([]) s.2.2.1 s.2.2.3.1 [] e1_s_2_2.parts (last-exact [] s.2.2.3.1 s.2.2.3.3.1))) s.2.1.1 in
-    let g0 : AreBytes s.1 = bytes-left ((0x15 ∷ []) ++ ((le_bytes 4 s.2.2.3.0.0) ++ [])) before s.1 h head in
-    let host = u8_string-exact s.3.0 s.1 s.3.1 g0 s.3.2 in
-    let g1 : AreBytes s.3.1 = bytes-left (u8_string_bytes s.3.0) s.1 s.3.1 g0 host in
-    let user = u8_string-exact s.3.3.0 s.3.1 s.3.3.1 g1 s.3.3.2 in
-    let g2 : AreBytes s.3.3.1 = bytes-left (u8_string_bytes s.3.3.0) s.3.1 s.3.3.1 g1 user in
-    let password = u8_string-exact s.3.3.3.0 s.3.3.1 s.3.3.3.1 g2 s.3.3.3.2 in
-    let g3 : AreBytes s.3.3.3.1 = bytes-left (u8_string_bytes s.3.3.3.0) s.3.3.1 s.3.3.3.1 g2 password in
-    let small_end : AreBytes s.3.3.3.3.2.0 = bytes-before s.3.3.3.3.2.0 s.3.3.3.3.1 (subst AreBytes s.3.3.3.3.2.1.1 g3) in
-    let e0_s_3_3_3_3_2_2 = took (le_bytes 2 s.3.3.3.3.2.2.0.0) s.3.3.3.3.2.0 s.3.3.3.3.2.2.1 (raw-exact _ 2 s.3.3.3.3.2.2.0 s.3.3.3.3.2.0 s.3.3.3.3.2.2.1 small_end s.3.3.3.3.2.2.2) small_end in
-    let e1_s_3_3_3_3_2_2 = took (le_bytes 4 s.3.3.3.3.2.2.3.0.0) s.3.3.3.3.2.2.1 s.3.3.3.3.2.2.3.1 (raw-exact _ 4 s.3.3.3.3.2.2.3.0 s.3.3.3.3.2.2.1 s.3.3.3.3.2.2.3.1 e0_s_3_3_3_3_2_2.left s.3.3.3.3.2.2.3.2) e0_s_3_3_3_3_2_2.left in
-    let e2_s_3_3_3_3_2_2 = took (le_bytes 4 s.3.3.3.3.2.2.3.3.0.0) s.3.3.3.3.2.2.3.1 s.3.3.3.3.2.2.3.3.1 (raw-exact _ 4 s.3.3.3.3.2.2.3.3.0 s.3.3.3.3.2.2.3.1 s.3.3.3.3.2.2.3.3.1 e1_s_3_3_3_3_2_2.left s.3.3.3.3.2.2.3.3.2) e1_s_3_3_3_3_2_2.left in
-    let end = block-exact ((le_bytes 2 s.3.3.3.3.2.2.0.0) ++ ((le_bytes 4 s.3.3.3.3.2.2.3.0.0) ++ ((le_bytes 4 s.3.3.3.3.2.2.3.3.0.0) ++ []))) s.3.3.3.3.2.0 s.3.3.3.1 s.3.3.3.3.1 (then-exact (le_bytes 2 s.3.3.3.3.2.2.0.0) ((le_bytes 4 s.3.3.3.3.2.2.3.0.0) ++ ((le_bytes 4 s.3.3.3.3.2.2.3.3.0.0) ++ [])) s.3.3.3.3.2.0 s.3.3.3.3.2.2.1 [] e0_s_3_3_3_3_2_2.parts (then-exact (le_bytes 4 s.3.3.3.3.2.2.3.0.0) ((le_bytes 4 s.3.3.3.3.2.2.3.3.0.0) ++ []) s.3.3.3.3.2.2.1 s.3.3.3.3.2.2.3.1 [] e1_s_3_3_3_3_2_2.parts (then-exact (le_bytes 4 s.3.3.3.3.2.2.3.3.0.0) ([]) s.3.3.3.3.2.2.3.1 s.3.3.3.3.2.2.3.3.1 [] e2_s_3_3_3_3_2_2.parts (last-exact [] s.3.3.3.3.2.2.3.3.1 s.3.3.3.3.2.2.3.3.3.1)))) s.3.3.3.3.2.1.1 in
-    rw (s.3.3.3.3.3.0, s.2.2.3.3.0, s.3.3.3.3.2.2.3.3.3.0) (then-exact ((0x15 ∷ []) ++ ((le_bytes 4 s.2.2.3.0.0) ++ [])) ((u8_string_bytes s.3.0) ++ ((u8_string_bytes s.3.3.0) ++ ((u8_string_bytes s.3.3.3.0) ++ (((le_bytes 2 s.3.3.3.3.2.2.0.0) ++ ((le_bytes 4 s.3.3.3.3.2.2.3.0.0) ++ ((le_bytes 4 s.3.3.3.3.2.2.3.3.0.0) ++ []))) ++ [])))) before s.1 rest head (then-exact (u8_string_bytes s.3.0) ((u8_string_bytes s.3.3.0) ++ ((u8_string_bytes s.3.3.3.0) ++ (((le_bytes 2 s.3.3.3.3.2.2.0.0) ++ ((le_bytes 4 s.3.3.3.3.2.2.3.0.0) ++ ((le_bytes 4 s.3.3.3.3.2.2.3.3.0.0) ++ []))) ++ []))) s.1 s.3.1 rest host (then-exact (u8_string_bytes s.3.3.0) ((u8_string_bytes s.3.3.3.0) ++ (((le_bytes 2 s.3.3.3.3.2.2.0.0) ++ ((le_bytes 4 s.3.3.3.3.2.2.3.0.0) ++ ((le_bytes 4 s.3.3.3.3.2.2.3.3.0.0) ++ []))) ++ [])) s.3.1 s.3.3.1 rest user (then-exact (u8_string_bytes s.3.3.3.0) (((le_bytes 2 s.3.3.3.3.2.2.0.0) ++ ((le_bytes 4 s.3.3.3.3.2.2.3.0.0) ++ ((le_bytes 4 s.3.3.3.3.2.2.3.3.0.0) ++ []))) ++ []) s.3.3.1 s.3.3.3.1 rest password (then-exact ((le_bytes 2 s.3.3.3.3.2.2.0.0) ++ ((le_bytes 4 s.3.3.3.3.2.2.3.0.0) ++ ((le_bytes 4 s.3.3.3.3.2.2.3.3.0.0) ++ []))) [] s.3.3.3.1 s.3.3.3.3.1 rest end (last-exact rest s.3.3.3.3.1 s.3.3.3.3.3.1))))))
+unfolding register_slave register_slave_head register_slave_end
+register_slave-exact = as-read register_slave tt (parts (in_block 5 (parts (const_part 0x15) (λ header. parts (raw_part 4) (λ server_id. no_part _)))) (λ head. parts u8_string_part (λ host. parts u8_string_part (λ user. parts u8_string_part (λ password. parts (in_block 10 (parts (raw_part 2) (λ port. parts (raw_part 4) (λ rank. parts (raw_part 4) (λ master_id. no_part _))))) (λ end. no_part _))))))
+    (λ v before rest s. rw (s.3.3.3.3.3.0, s.2.2.3.3.0, s.3.3.3.3.2.2.3.3.3.0) refl)

@@ -6,7 +6,6 @@ use Rattle.mysql_wire.specs.Again.{lenenc-again}
 use Rattle.mysql_wire.specs.Constant.{const_byte}
 use Rattle.mysql_wire.specs.Each.{each}
 use Rattle.mysql_wire.specs.Flags.{CapabilityFlags}
-use Rattle.mysql_wire.specs.Form.{either, give, bytes}
 use Rattle.mysql_wire.specs.Int.{raw_int}
 use Rattle.mysql_wire.specs.LenEnc.{lenenc_bytes}
 use Rattle.mysql_wire.specs.ServerCommand.{server_command_code}
@@ -20,7 +19,6 @@ use Rattle.mysql_stmt.specs.ComQuery.{count_bytes, set_bytes, some_bytes, query_
 use Rattle.mysql_stmt.specs.ComQuery as sent
 use Rattle.mysql_stmt.specs.ExecuteParam.{value_of}
 use Rattle.mysql_stmt.specs.ExecuteParams.{where_some}
-use Rattle.mysql_stmt.specs.ExecuteRead.{TypedParam}
 use Rattle.mysql_stmt.specs.NullMarks.{bitmap_of}
 use Rattle.mysql_stmt.specs.ReadAgain.{SentFits, attribute_read, type_read}
 use Rattle.mysql_stmt.specs.SentParam.{attribute_type, list_of, sent_attributes, type_bytes, value_bytes}
