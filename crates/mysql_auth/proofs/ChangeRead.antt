@@ -35,43 +35,18 @@ module _ (given : Codec CapabilityFlags (Option (List Attribute))) (c : Capabili
       step (le_u16.reads bytes) _ attributes_after _ (λ number b1.
       step ((named_plugin.form c).reads b1) _ attributes_after _ (λ named b2. refl))
 
-  data-read : (p : ComChangeUserMoreData) (found : Option (List Attribute)) (bytes mid rest : List ℕ) → (before_attributes c).reads bytes ≡ Ok (p, mid)
+  pub data-read : (p : ComChangeUserMoreData) (found : Option (List Attribute)) (bytes mid rest : List ℕ) → (before_attributes c).reads bytes ≡ Ok (p, mid)
       → (given.form c).reads mid ≡ Ok (found, rest) → (data_of.form c).reads bytes ≡ Ok (with_connect_attributes found p, rest)
   data-read p found bytes mid rest e h = data-parts bytes ∙ rw (e, h) refl
 
-  data-front_fault : (takes_memory : Bool) (e : FaultOf) (bytes : List ℕ) → Faults false e ((before_attributes c).reads bytes) → Faults takes_memory e ((data_of.form c).reads bytes)
+  pub data-front_fault : (takes_memory : Bool) (e : FaultOf) (bytes : List ℕ) → Faults false e ((before_attributes c).reads bytes) → Faults takes_memory e ((data_of.form c).reads bytes)
   data-front_fault takes_memory e bytes h = rw (data-parts bytes) (front-fault takes_memory e ((before_attributes c).reads bytes) attributes_after h)
 
-  data-last_fault : (takes_memory : Bool) (e : FaultOf) (p : ComChangeUserMoreData) (bytes mid : List ℕ) → (before_attributes c).reads bytes ≡ Ok (p, mid)
+  pub data-last_fault : (takes_memory : Bool) (e : FaultOf) (p : ComChangeUserMoreData) (bytes mid : List ℕ) → (before_attributes c).reads bytes ≡ Ok (p, mid)
       → Faults takes_memory e ((given.form c).reads mid) → Faults takes_memory e ((data_of.form c).reads bytes)
   data-last_fault takes_memory e p bytes mid same h = rw (data-parts bytes, same) (last-fault takes_memory e ((given.form c).reads mid) _ h)
 
 module _ (c : CapabilityFlags) where
-  -- as they were sent
-  pub sent_data-read : (p : ComChangeUserMoreData) (found : Option (List Attribute)) (bytes mid rest : List ℕ) → (before_attributes c).reads bytes ≡ Ok (p, mid)
-      → (pairs_as_sent.form c).reads mid ≡ Ok (found, rest) → (more_data_as_sent.form c).reads bytes ≡ Ok (with_connect_attributes found p, rest)
-  unfolding more_data_as_sent
-  sent_data-read = data-read pairs_as_sent c
-
-  pub sent_data-front_fault : (takes_memory : Bool) (e : FaultOf) (bytes : List ℕ) → Faults false e ((before_attributes c).reads bytes) → Faults takes_memory e ((more_data_as_sent.form c).reads bytes)
-  unfolding more_data_as_sent
-  sent_data-front_fault = data-front_fault pairs_as_sent c
-
-  pub sent_data-last_fault : (e : FaultOf) (p : ComChangeUserMoreData) (bytes mid : List ℕ) → (before_attributes c).reads bytes ≡ Ok (p, mid)
-      → Faults false e ((pairs_as_sent.form c).reads mid) → Faults false e ((more_data_as_sent.form c).reads bytes)
-  unfolding more_data_as_sent
-  sent_data-last_fault = data-last_fault pairs_as_sent c false
-
-  -- each key once
-  pub more-read : (p : ComChangeUserMoreData) (found : Option (List Attribute)) (bytes mid rest : List ℕ) → (before_attributes c).reads bytes ≡ Ok (p, mid)
-      → (sent_attributes.form c).reads mid ≡ Ok (found, rest) → (more_data.form c).reads bytes ≡ Ok (with_connect_attributes found p, rest)
-  unfolding more_data
-  more-read = data-read sent_attributes c
-
-  pub more-front_fault : (takes_memory : Bool) (e : FaultOf) (bytes : List ℕ) → Faults false e ((before_attributes c).reads bytes) → Faults takes_memory e ((more_data.form c).reads bytes)
-  unfolding more_data
-  more-front_fault = data-front_fault sent_attributes c
-
   pub more-attributes_fault : (e : FaultOf) (p : ComChangeUserMoreData) (bytes mid : List ℕ) → (before_attributes c).reads bytes ≡ Ok (p, mid)
       → Faults (counts_any ((sent_room (sends_attributes c)).reads mid)) e ((sent_attributes.form c).reads mid)
       → Faults (counts_any ((in_more_data c).reads bytes)) e ((more_data.form c).reads bytes)
@@ -95,9 +70,9 @@ module _ (c : CapabilityFlags) where
       ∙ after-front more_with_each_key_once ((before_attributes c).reads bytes) _ _ after-once
       ∙ sym (data-parts sent_attributes c bytes)
 
-pub ruleset more_data_parts = (sent_data-read, sent_data-front_fault, sent_data-last_fault)
+pub ruleset more_data_parts = (data-read, data-front_fault, data-last_fault)
 
-pub ruleset more_data_read = (more-read, more-front_fault, more-attributes_fault)
+pub ruleset more_data_read = (data-read, data-front_fault, more-attributes_fault)
 
 -- ---- the change of user, whose more data is read so
 
@@ -115,43 +90,18 @@ module _ (last : Codec CapabilityFlags (Option ComChangeUserMoreData)) (c : Capa
       step (u8_string.reads b2) _ more_after _ (λ answer b3.
       step (null_string.reads b3) _ more_after _ (λ database b4. refl))))
 
-  whole-read : (p : ComChangeUser) (more : Option ComChangeUserMoreData) (bytes mid rest : List ℕ) → before_more_data.reads bytes ≡ Ok (p, mid)
+  pub whole-read : (p : ComChangeUser) (more : Option ComChangeUserMoreData) (bytes mid rest : List ℕ) → before_more_data.reads bytes ≡ Ok (p, mid)
       → (last.form c).reads mid ≡ Ok (more, rest) → (whole_of.form c).reads bytes ≡ Ok (with_more_data more p, rest)
   whole-read p more bytes mid rest e h = whole-parts bytes ∙ rw (e, h) refl
 
-  whole-front_fault : (takes_memory : Bool) (e : FaultOf) (bytes : List ℕ) → Faults false e (before_more_data.reads bytes) → Faults takes_memory e ((whole_of.form c).reads bytes)
+  pub whole-front_fault : (takes_memory : Bool) (e : FaultOf) (bytes : List ℕ) → Faults false e (before_more_data.reads bytes) → Faults takes_memory e ((whole_of.form c).reads bytes)
   whole-front_fault takes_memory e bytes h = rw (whole-parts bytes) (front-fault takes_memory e (before_more_data.reads bytes) more_after h)
 
-  whole-last_fault : (takes_memory : Bool) (e : FaultOf) (p : ComChangeUser) (bytes mid : List ℕ) → before_more_data.reads bytes ≡ Ok (p, mid)
+  pub whole-last_fault : (takes_memory : Bool) (e : FaultOf) (p : ComChangeUser) (bytes mid : List ℕ) → before_more_data.reads bytes ≡ Ok (p, mid)
       → Faults takes_memory e ((last.form c).reads mid) → Faults takes_memory e ((whole_of.form c).reads bytes)
   whole-last_fault takes_memory e p bytes mid same h = rw (whole-parts bytes, same) (last-fault takes_memory e ((last.form c).reads mid) _ h)
 
 module _ (c : CapabilityFlags) where
-  -- as it was sent
-  pub sent_change-read : (p : ComChangeUser) (more : Option ComChangeUserMoreData) (bytes mid rest : List ℕ) → before_more_data.reads bytes ≡ Ok (p, mid)
-      → (last_part_as_sent.form c).reads mid ≡ Ok (more, rest) → (change_user_as_sent.form c).reads bytes ≡ Ok (with_more_data more p, rest)
-  unfolding change_user_as_sent
-  sent_change-read = whole-read last_part_as_sent c
-
-  pub sent_change-front_fault : (takes_memory : Bool) (e : FaultOf) (bytes : List ℕ) → Faults false e (before_more_data.reads bytes) → Faults takes_memory e ((change_user_as_sent.form c).reads bytes)
-  unfolding change_user_as_sent
-  sent_change-front_fault = whole-front_fault last_part_as_sent c
-
-  pub sent_change-last_fault : (e : FaultOf) (p : ComChangeUser) (bytes mid : List ℕ) → before_more_data.reads bytes ≡ Ok (p, mid)
-      → Faults false e ((last_part_as_sent.form c).reads mid) → Faults false e ((change_user_as_sent.form c).reads bytes)
-  unfolding change_user_as_sent
-  sent_change-last_fault = whole-last_fault last_part_as_sent c false
-
-  -- each key once
-  pub change-read : (p : ComChangeUser) (more : Option ComChangeUserMoreData) (bytes mid rest : List ℕ) → before_more_data.reads bytes ≡ Ok (p, mid)
-      → (last_part.form c).reads mid ≡ Ok (more, rest) → (change_user.form c).reads bytes ≡ Ok (with_more_data more p, rest)
-  unfolding change_user
-  change-read = whole-read last_part c
-
-  pub change-front_fault : (takes_memory : Bool) (e : FaultOf) (bytes : List ℕ) → Faults false e (before_more_data.reads bytes) → Faults takes_memory e ((change_user.form c).reads bytes)
-  unfolding change_user
-  change-front_fault = whole-front_fault last_part c
-
   pub change-more_fault : (e : FaultOf) (p : ComChangeUser) (bytes mid : List ℕ) → before_more_data.reads bytes ≡ Ok (p, mid)
       → Faults (counts_any ((in_last_part c).reads mid)) e ((last_part.form c).reads mid)
       → Faults (counts_any ((in_change_user c).reads bytes)) e ((change_user.form c).reads bytes)
@@ -181,8 +131,8 @@ module _ (c : CapabilityFlags) where
       ∙ after-front with_each_key_once (before_more_data.reads bytes) _ _ whole-once
       ∙ sym (whole-parts last_part c bytes)
 
-pub ruleset change_parts = (sent_change-read, sent_change-front_fault, sent_change-last_fault)
+pub ruleset change_parts = (whole-read, whole-front_fault, whole-last_fault)
 
-pub ruleset changes_read = (change-read, change-front_fault, change-more_fault)
+pub ruleset changes_read = (whole-read, whole-front_fault, change-more_fault)
 
 pub ruleset changes_once = (more_data-once, change_user-once)

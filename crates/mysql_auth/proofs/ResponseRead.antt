@@ -41,50 +41,21 @@ module _ (given : SslRequest → Codec (Unit {0}) (Option (List Attribute))) whe
       step (((database head).form tt).reads b3) _ last_after _ (λ db b4.
       step (((plugin head).form tt).reads b4) _ last_after _ (λ named b5. refl)))))
 
-  whole-read : (p : HandshakeResponse) (found : Option (List Attribute)) (level : Option (RawInt ℕ ℕ)) (bytes mid later rest : List ℕ) → before_attributes.reads bytes ≡ Ok (p, mid)
+  pub whole-read : (p : HandshakeResponse) (found : Option (List Attribute)) (level : Option (RawInt ℕ ℕ)) (bytes mid later rest : List ℕ) → before_attributes.reads bytes ≡ Ok (p, mid)
       → ((given p.head).form tt).reads mid ≡ Ok (found, later) → ((sent_zstd_level p.head).form tt).reads later ≡ Ok (level, rest)
       → (whole_of.form tt).reads bytes ≡ Ok (with_last found level p, rest)
   whole-read p found level bytes mid later rest e h l = whole-parts bytes ∙ rw (e, h, l) refl
 
-  whole-front_fault : (takes_memory : Bool) (e : FaultOf) (bytes : List ℕ) → Faults false e (before_attributes.reads bytes) → Faults takes_memory e ((whole_of.form tt).reads bytes)
+  pub whole-front_fault : (takes_memory : Bool) (e : FaultOf) (bytes : List ℕ) → Faults false e (before_attributes.reads bytes) → Faults takes_memory e ((whole_of.form tt).reads bytes)
   whole-front_fault takes_memory e bytes h = rw (whole-parts bytes) (front-fault takes_memory e (before_attributes.reads bytes) last_after h)
 
-  whole-last_fault : (takes_memory : Bool) (e : FaultOf) (p : HandshakeResponse) (bytes mid : List ℕ) → before_attributes.reads bytes ≡ Ok (p, mid)
+  pub whole-last_fault : (takes_memory : Bool) (e : FaultOf) (p : HandshakeResponse) (bytes mid : List ℕ) → before_attributes.reads bytes ≡ Ok (p, mid)
       → Faults takes_memory e (((given p.head).form tt).reads mid) → Faults takes_memory e ((whole_of.form tt).reads bytes)
   whole-last_fault takes_memory e p bytes mid same h = rw (whole-parts bytes, same) (last-fault takes_memory e (((given p.head).form tt).reads mid) _ h)
 
--- ---- as it was sent
-
-pub sent_response-read : (p : HandshakeResponse) (found : Option (List Attribute)) (level : Option (RawInt ℕ ℕ)) (bytes mid later rest : List ℕ) → before_attributes.reads bytes ≡ Ok (p, mid)
-    → ((pairs_as_sent p.head).form tt).reads mid ≡ Ok (found, later) → ((sent_zstd_level p.head).form tt).reads later ≡ Ok (level, rest)
-    → (handshake_response_as_sent.form tt).reads bytes ≡ Ok (with_last found level p, rest)
-unfolding handshake_response_as_sent
-sent_response-read = whole-read pairs_as_sent
-
-pub sent_response-front_fault : (takes_memory : Bool) (e : FaultOf) (bytes : List ℕ) → Faults false e (before_attributes.reads bytes)
-    → Faults takes_memory e ((handshake_response_as_sent.form tt).reads bytes)
-unfolding handshake_response_as_sent
-sent_response-front_fault = whole-front_fault pairs_as_sent
-
-pub sent_response-last_fault : (e : FaultOf) (p : HandshakeResponse) (bytes mid : List ℕ) → before_attributes.reads bytes ≡ Ok (p, mid)
-    → Faults false e (((pairs_as_sent p.head).form tt).reads mid) → Faults false e ((handshake_response_as_sent.form tt).reads bytes)
-unfolding handshake_response_as_sent
-sent_response-last_fault = whole-last_fault pairs_as_sent false
-
-pub ruleset response_parts = (sent_response-read, sent_response-front_fault, sent_response-last_fault)
+pub ruleset response_parts = (whole-read, whole-front_fault, whole-last_fault)
 
 -- ---- each key once
-
-pub response-read : (p : HandshakeResponse) (found : Option (List Attribute)) (level : Option (RawInt ℕ ℕ)) (bytes mid later rest : List ℕ) → before_attributes.reads bytes ≡ Ok (p, mid)
-    → ((sent_attributes p.head).form tt).reads mid ≡ Ok (found, later) → ((sent_zstd_level p.head).form tt).reads later ≡ Ok (level, rest)
-    → (handshake_response.form tt).reads bytes ≡ Ok (with_last found level p, rest)
-unfolding handshake_response
-response-read = whole-read sent_attributes
-
-pub response-front_fault : (takes_memory : Bool) (e : FaultOf) (bytes : List ℕ) → Faults false e (before_attributes.reads bytes)
-    → Faults takes_memory e ((handshake_response.form tt).reads bytes)
-unfolding handshake_response
-response-front_fault = whole-front_fault sent_attributes
 
 pub attributes-fault : (e : FaultOf) (p : HandshakeResponse) (bytes mid : List ℕ) → before_attributes.reads bytes ≡ Ok (p, mid)
     → Faults (counts_any ((sent_room (sends_attributes p.head)).reads mid)) e (((sent_attributes p.head).form tt).reads mid)
@@ -92,7 +63,7 @@ pub attributes-fault : (e : FaultOf) (p : HandshakeResponse) (bytes mid : List �
 unfolding handshake_response
 attributes-fault e p bytes mid same h = rw same (whole-last_fault sent_attributes (counts_any ((sent_room (sends_attributes p.head)).reads mid)) e p bytes mid same h)
 
-pub ruleset responses_read = (response-read, response-front_fault, attributes-fault)
+pub ruleset responses_read = (whole-read, whole-front_fault, attributes-fault)
 
 -- ---- both agree, except for repeated keys
 

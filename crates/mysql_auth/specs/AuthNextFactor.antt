@@ -1,5 +1,5 @@
 -- The request for the next authentication factor.
-use Rattle.std.specs.Prelude.{◌≡◌, ℕ, List}
+use Rattle.std.specs.Prelude.{ℕ, List}
 use Rattle.mysql_wire.specs.Codec.{Codec}
 use Rattle.mysql_auth.specs.declared.faults.InvalidAuthNextFactorHeader.{InvalidAuthNextFactorHeader}
 use Rattle.mysql_auth.specs.PluginRequest.{PluginRequest, request_of, plugin_request}

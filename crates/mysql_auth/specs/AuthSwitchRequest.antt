@@ -1,5 +1,5 @@
 -- The switch to another plugin.
-use Rattle.std.specs.Prelude.{◌≡◌, ℕ, List}
+use Rattle.std.specs.Prelude.{ℕ, List}
 use Rattle.mysql_wire.specs.Codec.{Codec}
 use Rattle.mysql_auth.specs.declared.faults.InvalidAuthSwitchRequestHeader.{InvalidAuthSwitchRequestHeader}
 use Rattle.mysql_auth.specs.PluginRequest.{PluginRequest, request_of, plugin_request}

@@ -214,7 +214,7 @@ impl<'de> MyDeserialize<'de> for ComChangeUser<'de> {
 
     ghost form = { spec.change_user.form };
 
-    #[tactic(auto, using(crate::proofs::ChangeRead::changes_read))]
+    #[tactic(auto, using(crate::proofs::ChangeRead::changes_read), unfolding(crate::specs::ComChangeUser::change_user))]
     fn deserialize<'s>(agreed: Self::Ctx, buf: &mut ParseBuf<'de>) -> Result<Self, FaultOf<'s>> {
         let mut rest = buf.rest();
         let change = ComChangeUserRef::read_before_more_data(&mut rest)?;

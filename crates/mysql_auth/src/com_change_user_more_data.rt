@@ -176,7 +176,7 @@ impl<'de> MyDeserialize<'de> for ComChangeUserMoreData<'de> {
 
     ghost form = { spec.more_data.form };
 
-    #[tactic(auto, using(crate::proofs::ChangeRead::more_data_read))]
+    #[tactic(auto, using(crate::proofs::ChangeRead::more_data_read), unfolding(crate::specs::ComChangeUser::more_data))]
     fn deserialize<'s>(agreed: Self::Ctx, buf: &mut ParseBuf<'de>) -> Result<Self, FaultOf<'s>> {
         let mut rest = buf.rest();
         let more = ComChangeUserMoreDataRef::read_before_attributes(agreed, &mut rest)?;

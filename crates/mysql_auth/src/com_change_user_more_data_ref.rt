@@ -186,7 +186,7 @@ impl<'de> MyDeserialize<'de> for ComChangeUserMoreDataRef<'de> {
 
     ghost form = { spec.more_data_as_sent.form };
 
-    #[tactic(auto, using(crate::proofs::ChangeRead::more_data_parts))]
+    #[tactic(auto, using(crate::proofs::ChangeRead::more_data_parts), unfolding(crate::specs::ComChangeUser::more_data_as_sent))]
     fn deserialize<'s>(agreed: Self::Ctx, buf: &mut ParseBuf<'de>) -> Result<Self, FaultOf<'s>> {
         let mut rest = buf.rest();
         let mut more = ComChangeUserMoreDataRef::read_before_attributes(agreed, &mut rest)?;

@@ -185,7 +185,7 @@ impl<'de> MyDeserialize<'de> for ComChangeUserRef<'de> {
 
     ghost form = { spec.change_user_as_sent.form };
 
-    #[tactic(auto, using(crate::proofs::ChangeRead::change_parts))]
+    #[tactic(auto, using(crate::proofs::ChangeRead::change_parts), unfolding(crate::specs::ComChangeUser::change_user_as_sent))]
     fn deserialize<'s>(agreed: Self::Ctx, buf: &mut ParseBuf<'de>) -> Result<Self, FaultOf<'s>> {
         let mut rest = buf.rest();
         let mut change = ComChangeUserRef::read_before_more_data(&mut rest)?;

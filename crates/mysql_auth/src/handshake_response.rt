@@ -391,7 +391,7 @@ impl<'de> MyDeserialize<'de> for HandshakeResponse<'de> {
 
     ghost form = { spec.handshake_response.form };
 
-    #[tactic(auto, using(crate::proofs::ResponseRead::responses_read))]
+    #[tactic(auto, using(crate::proofs::ResponseRead::responses_read), unfolding(crate::specs::HandshakeResponse::handshake_response))]
     fn deserialize<'s>(_ctx: (), buf: &mut ParseBuf<'de>) -> Result<Self, FaultOf<'s>> {
         let mut rest = buf.rest();
         let response = HandshakeResponseRef::read_before_attributes(&mut rest)?;

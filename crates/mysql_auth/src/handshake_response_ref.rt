@@ -333,7 +333,7 @@ impl<'de> MyDeserialize<'de> for HandshakeResponseRef<'de> {
 
     ghost form = { spec.handshake_response_as_sent.form };
 
-    #[tactic(auto, using(crate::proofs::ResponseRead::response_parts))]
+    #[tactic(auto, using(crate::proofs::ResponseRead::response_parts), unfolding(crate::specs::HandshakeResponse::handshake_response_as_sent))]
     fn deserialize<'s>(_ctx: (), buf: &mut ParseBuf<'de>) -> Result<Self, FaultOf<'s>> {
         let mut rest = buf.rest();
         let mut response = HandshakeResponseRef::read_before_attributes(&mut rest)?;
