@@ -91,28 +91,6 @@ fn read_as_sent<'s, 'a>(
     Ok(params)
 }
 
-/// The builder of an execution like the one with this head.
-fn builder_of<'a>(
-    head: &ComStmtExecuteHead,
-    sends_types: bool,
-    has_attributes: bool,
-    attributes: &'a [TypedExecuteParam<'a>],
-) -> ComStmtExecuteOptionsBuilder<'a, TypedExecuteParam<'a>> {
-    let plain = ComStmtExecuteOptionsBuilder::<'_, TypedExecuteParam<'_>>::from_head(head);
-    let attributes = if has_attributes {
-        Some(attributes)
-    } else {
-        None
-    };
-    ComStmtExecuteOptionsBuilder {
-        stmt_id: plain.stmt_id,
-        flags: plain.flags,
-        iteration_count: plain.iteration_count,
-        sends_types,
-        attributes,
-    }
-}
-
 /// Writes an execution of these parameters: `written=same`, or what is written.
 fn write_again(
     out: &mut Out,
@@ -141,7 +119,11 @@ fn write_as_sent<'s>(
     let sends_types = view.sends_types();
     let params = read_as_sent(out, &mut view, &mut attributes)?;
     let has_attributes = capabilities.contains(CapabilityFlags::CLIENT_QUERY_ATTRIBUTES);
-    let builder = builder_of(head, sends_types, has_attributes, &attributes);
+    let builder = ComStmtExecuteOptionsBuilder {
+        sends_types,
+        attributes: has_attributes.then_some(attributes.as_slice()),
+        ..ComStmtExecuteOptionsBuilder::from_head(head)
+    };
     write_again(out, builder, &params, bytes);
     Ok(())
 }
