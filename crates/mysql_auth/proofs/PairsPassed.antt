@@ -3,7 +3,7 @@ use Rattle.std.proofs.Common.{◌≡◌, ◌≢◌, ℕ, List, [], ◌∷◌, �
 use Rattle.std.specs.Result.{result_ok}
 use Rattle.mysql_wire.proofs.AllRead as all_read
 use Rattle.mysql_wire.proofs.Counted.{with_front}
-use Rattle.mysql_wire.proofs.ReadAll.{one-more, no-more, one-fails}
+use Rattle.mysql_wire.proofs.ReadAll.{one-more, no-more, one-fails-as}
 use Rattle.mysql_wire.specs.declared.fault.FaultOf.{FaultOf}
 use Rattle.mysql_wire.specs.declared.fault.FaultOf.TheVariants as fault
 use Rattle.mysql_wire.specs.declared.fault.FaultKind.{FaultKind}
@@ -13,7 +13,7 @@ use Rattle.mysql_wire.specs.Reading.{Reading, Answers, Faults, then_read, done-v
 use Rattle.mysql_auth.specs.AttributeBytes.{pairs_room}
 use Rattle.mysql_auth.specs.Attributes.{Attribute, merged, pairs}
 use Rattle.mysql_auth.specs.ConnectAttributesRef.{ArePairs, NextPair, pairs_in, pairs_read}
-use Rattle.mysql_auth.proofs.PairsRead.{f, opened, pair-shorter}
+use Rattle.mysql_auth.proofs.PairsRead.{f, pair-shorter}
 
 -- ---- a loop that reads all of them
 
@@ -42,10 +42,7 @@ pub passed-all : (rest bytes : List ℕ) → rest ≡ [] → Passed rest bytes �
 passed-all rest bytes none so_far = whole so_far.before _ (no-more f so_far.before rest _ so_far.same none)
 
 pub passed-fault : (e : FaultOf) (rest bytes : List ℕ) → rest ≢ [] → Faults false e (f.reads rest) → Passed rest bytes → Faults false e ((many f).reads bytes)
-passed-fault fault.Memory rest bytes some h so_far = absurd cc
-passed-fault fault.UnexpectedEof rest bytes some h so_far = one-fails f so_far.before rest _ so_far.same false fault.UnexpectedEof some h
-passed-fault (fault.InvalidData text) rest bytes some h so_far = one-fails f so_far.before rest _ so_far.same false (fault.InvalidData text) some h
-passed-fault (fault.InvalidInput text) rest bytes some h so_far = one-fails f so_far.before rest _ so_far.same false (fault.InvalidInput text) some h
+passed-fault e rest bytes some h so_far = one-fails-as f so_far.before rest _ so_far.same false false e some (λ m. m) h
 
 -- ---- the first one and the others
 

@@ -7,18 +7,18 @@ use Rattle.std.specs.List.{list_any}
 use Rattle.std.specs.Prelude.{nat_eq}
 use Rattle.indexmap.specs.IndexMap.{insert_entry, insert_all}
 use Rattle.mysql_wire.specs.declared.fault.FaultOf.{FaultOf}
-use Rattle.mysql_wire.specs.declared.fault.FaultOf.TheVariants as fault
 use Rattle.mysql_wire.specs.declared.fault.FaultKind.{FaultKind}
 use Rattle.mysql_wire.specs.Reading.{Reading, IsTail, then_read, Faults}
 use Rattle.mysql_wire.specs.Form.{Form, bytes, number}
 use Rattle.mysql_wire.specs.Int.{raw, byte}
 use Rattle.mysql_wire.specs.LenEnc.{lenenc, lenenc_from, lenenc_string}
-use Rattle.mysql_wire.specs.Many.{many, value_and_more}
-use Rattle.mysql_wire.specs.Many.Laws.{many-next}
+use Rattle.mysql_wire.specs.Many.{many}
 use Rattle.mysql_wire.specs.Seq.{is_any}
 use Rattle.mysql_auth.specs.AttributeBytes.{pairs_room}
 use Rattle.mysql_auth.specs.Attributes.{Attribute, attribute}
 use Rattle.mysql_auth.proofs.Merging.{new-last}
+use Rattle.mysql_wire.proofs.ReadAll.{opened}
+use Rattle.mysql_wire.proofs.Refused.{fault-same}
 
 abbrev same : List ℕ → List ℕ → Bool
 same = pointwise nat_eq
@@ -57,11 +57,6 @@ pair-shorter p bytes rest e = omega (arith, pair-takes-two p bytes rest e)
 abbrev pub f : Form Attribute
 f = attribute.form tt
 
-pub opened : (bytes : List ℕ) → bytes ≢ [] → (many f).reads bytes ≡ then_read (f.reads bytes) (value_and_more (length bytes) (many f).reads)
-unfolding many
-opened [] some = absurd (some refl)
-opened (b ∷ bs) some = many-next f b bs
-
 regroup : (entries : List Attribute) (p : Attribute) (read : Reading (List Attribute))
     → put_after entries (then_read read (λ pairs rest. Ok (p ∷ pairs, rest))) ≡ put_after (insert_entry same entries p.0 p.1) read
 regroup entries p (Ok x) = refl
@@ -70,7 +65,7 @@ regroup entries p (Err e) = refl
 -- one pair, and those after it
 pub one-pair : (entries : List Attribute) (p : Attribute) (bytes after : List ℕ) → bytes ≢ [] → f.reads bytes ≡ Ok (p, after)
     → put_after (insert_entry same entries p.0 p.1) ((many f).reads after) ≡ put_after entries ((many f).reads bytes)
-one-pair entries p bytes after some e = sym (rw (opened bytes some, e, lt-ltb _ _ (pair-shorter p bytes after e)) (regroup entries p ((many f).reads after)))
+one-pair entries p bytes after some e = sym (rw (opened f bytes some, e, lt-ltb _ _ (pair-shorter p bytes after e)) (regroup entries p ((many f).reads after)))
 
 -- no byte is left
 pub no-pair : (entries : List Attribute) → put_after entries ((many f).reads []) ≡ Ok (entries, [])
@@ -78,14 +73,11 @@ unfolding many
 no-pair entries = refl
 
 pair-fails : (entries : List Attribute) (bytes : List ℕ) (e : FaultKind) → bytes ≢ [] → f.reads bytes ≡ Err e → put_after entries ((many f).reads bytes) ≡ Err e
-pair-fails entries bytes e some h = rw (opened bytes some, h) refl
+pair-fails entries bytes e some h = rw (opened f bytes some, h) refl
 
 -- the first pair with a fault
 pub pair-faults : (entries : List Attribute) (bytes : List ℕ) (takes_memory : Bool) (e : FaultOf) → bytes ≢ [] → Faults false e (f.reads bytes) → Faults takes_memory e (put_after entries ((many f).reads bytes))
-pair-faults entries bytes takes_memory fault.Memory some h = absurd cc
-pair-faults entries bytes takes_memory fault.UnexpectedEof some h = pair-fails entries bytes _ some h
-pair-faults entries bytes takes_memory (fault.InvalidData text) some h = pair-fails entries bytes _ some h
-pair-faults entries bytes takes_memory (fault.InvalidInput text) some h = pair-fails entries bytes _ some h
+pair-faults entries bytes takes_memory e some h = fault-same takes_memory e (f.reads bytes) (put_after entries ((many f).reads bytes)) (λ k h. pair-fails entries bytes k some h) h
 
 -- if bytes are left, there were some before
 pub any-left : (bytes whole : List ℕ) → bytes ≢ [] → length bytes ≤ length whole → is_any (length whole) ≡ true

@@ -1,61 +1,19 @@
 -- Values that are skipped, and then read one by one.
-use Rattle.std.proofs.Common.{◌≡◌, ℕ, suc, zero, ◌+◌, ◌-◌, ◌<◌, ◌≤◌, List, [], ◌∷◌, ◌++◌, take, drop, length, Ok, Err, false, refl, sym, ap, subst, ◌∙◌, arith}
+use Rattle.std.proofs.Common.{◌≡◌, ℕ, suc, zero, ◌+◌, ◌-◌, ◌≤◌, List, [], ◌∷◌, ◌++◌, take, drop, length, Ok, Err, false, refl, sym, ap, subst, ◌∙◌, arith}
 use Rattle.std.proofs.lemmas.List.{length-append, length-drop, take-append-drop}
 use Rattle.std.proofs.Math.Seq.{drop-append_seam}
 use Rattle.mysql_wire.specs.declared.fault.FaultOf.{FaultOf}
-use Rattle.mysql_wire.specs.declared.fault.FaultOf.TheVariants as fault
 use Rattle.mysql_wire.specs.declared.fault.FaultKind.{FaultKind}
-use Rattle.mysql_wire.specs.declared.fault.FaultKind.TheVariants as kind
 use Rattle.mysql_wire.specs.Form.{Form}
 use Rattle.mysql_wire.specs.Reading.{Reading, Faults, IsTail, then_read, then_read-ok, done-value, done-rest}
 use Rattle.mysql_wire.specs.Seq.{counted}
+use Rattle.mysql_wire.proofs.Passed.{passed-fault}
+use Rattle.mysql_wire.proofs.Refused.{kind-in}
 use Rattle.mysql_repl.specs.InPlace.{items_read, items_in, passed, AreThere, StandIn}
-
--- ---- skipped values
-
-pushed : {A : Type 0} (x : A) (r : Reading (List A)) → passed (then_read r (λ xs rest. Ok (x ∷ xs, rest))) ≡ passed r
-pushed x (Ok y) = refl
-pushed x (Err e) = refl
-
-abbrev pub left_to_pass : {A : Type 0} → Form A → ℕ → List ℕ → Reading (Unit {0})
-left_to_pass f count bytes = passed ((counted count f).reads bytes)
-
-one-passed : {A : Type 0} (f : Form A) (count : ℕ) (bytes : List ℕ) (x : A) (mid : List ℕ) → f.reads bytes ≡ Ok (x, mid) → left_to_pass f (suc count) bytes ≡ left_to_pass f count mid
-unfolding counted
-one-passed f count bytes x mid h = rw h (pushed x ((counted count f).reads mid))
-
-none-passed : {A : Type 0} (f : Form A) (count : ℕ) (bytes : List ℕ) (e : FaultKind) → f.reads bytes ≡ Err e → left_to_pass f (suc count) bytes ≡ Err e
-unfolding counted
-none-passed f count bytes e h = rw h refl
-
-all-passed : {A : Type 0} (f : Form A) (bytes : List ℕ) → left_to_pass f 0 bytes ≡ Ok (tt, bytes)
-unfolding counted
-all-passed f bytes = refl
-
-pub skip-next : {A : Type 0} (f : Form A) (count i : ℕ) (bytes mid : List ℕ) (x : A) (all : Reading (Unit {0})) → i < count → f.reads bytes ≡ Ok (x, mid)
-    → left_to_pass f (count - i) bytes ≡ all → left_to_pass f (count - (i + 1)) mid ≡ all
-skip-next f count i bytes mid x all lt h r =
-    let e : count - i ≡ suc (count - (i + 1)) = omega (arith, lt) in
-    sym (one-passed f (count - (i + 1)) bytes x mid h) ∙ sym (ap (λ (n : ℕ). left_to_pass f n bytes) e) ∙ r
-
-refused-at : {A : Type 0} (f : Form A) (count i : ℕ) (bytes : List ℕ) (e : FaultKind) (all : Reading (Unit {0})) → i < count → f.reads bytes ≡ Err e → left_to_pass f (count - i) bytes ≡ all → all ≡ Err e
-refused-at f count i bytes e all lt h r =
-    let s : count - i ≡ suc (count - (i + 1)) = omega (arith, lt) in
-    sym r ∙ ap (λ (n : ℕ). left_to_pass f n bytes) s ∙ none-passed f (count - (i + 1)) bytes e h
-
-pub skip-fails : {A : Type 0} (f : Form A) (count i : ℕ) (bytes : List ℕ) (e : FaultOf) (all : Reading (Unit {0})) → i < count → Faults false e (f.reads bytes)
-    → left_to_pass f (count - i) bytes ≡ all → Faults false e all
-skip-fails f count i bytes fault.Memory all lt h r = absurd cc
-skip-fails f count i bytes fault.UnexpectedEof all lt h r = refused-at f count i bytes _ all lt h r
-skip-fails f count i bytes (fault.InvalidData text) all lt h r = refused-at f count i bytes _ all lt h r
-skip-fails f count i bytes (fault.InvalidInput text) all lt h r = refused-at f count i bytes _ all lt h r
-
-pub skip-done : {A : Type 0} (f : Form A) (count i : ℕ) (bytes : List ℕ) (all : Reading (Unit {0})) → count - i ≡ 0 → left_to_pass f (count - i) bytes ≡ all → all ≡ Ok (tt, bytes)
-skip-done f count i bytes all none r = sym r ∙ ap (λ (n : ℕ). left_to_pass f n bytes) none ∙ all-passed f bytes
 
 -- ---- their places
 
-passed-read : {A : Type 0} (f : Form A) (count : ℕ) (bytes rest : List ℕ) → left_to_pass f count bytes ≡ Ok (tt, rest) → (xs : List A) × ((counted count f).reads bytes ≡ Ok (xs, rest))
+passed-read : {A : Type 0} (f : Form A) (count : ℕ) (bytes rest : List ℕ) → passed ((counted count f).reads bytes) ≡ Ok (tt, rest) → (xs : List A) × ((counted count f).reads bytes ≡ Ok (xs, rest))
 passed-read f count bytes rest e =
     let r = then_read-ok ((counted count f).reads bytes) (λ x rest. Ok (tt, rest)) (tt, rest) e in
     let same : r.1 ≡ rest = done-rest tt tt r.1 rest r.3 in
@@ -79,24 +37,8 @@ there f count n bytes rest e is =
     let d = tail-dropped rest bytes n ((counted count f).front (items_in f count bytes) bytes rest read) is in
     (d.0, read ∙ ap (λ (l : List ℕ). Ok (items_in f count bytes, l)) (sym d.1))
 
-kind-of : {A : Type 0} (k d : FaultKind) → ◌≡◌ {A = Reading A} (Err k) (Err d) → k ≡ d
-kind-of k d h = cc
-
-as-kind : {A : Type 0} (k d : FaultKind) → k ≡ d → ◌≡◌ {A = Reading A} (Err k) (Err d)
-as-kind k d e = ap (λ (x : FaultKind). Err x) e
-
-fault-of : {A : Type 0} (r : Reading A) (e : FaultOf) → Faults false e (passed r) → Faults false e r
-fault-of (Err k) fault.Memory h = absurd cc
-fault-of (Err k) fault.UnexpectedEof h = as-kind k kind.UnexpectedEof (kind-of k kind.UnexpectedEof h)
-fault-of (Err k) (fault.InvalidData text) h = as-kind k kind.InvalidData (kind-of k kind.InvalidData h)
-fault-of (Err k) (fault.InvalidInput text) h = as-kind k kind.InvalidInput (kind-of k kind.InvalidInput h)
-fault-of (Ok x) fault.Memory h = absurd cc
-fault-of (Ok x) fault.UnexpectedEof h = absurd cc
-fault-of (Ok x) (fault.InvalidData text) h = absurd cc
-fault-of (Ok x) (fault.InvalidInput text) h = absurd cc
-
 pub past-fault : {A : Type 0} (f : Form A) (count : ℕ) (bytes : List ℕ) (e : FaultOf) → Faults false e (passed ((counted count f).reads bytes)) → Faults false e ((counted count f).reads bytes)
-past-fault f count bytes e h = fault-of ((counted count f).reads bytes) e h
+past-fault f count bytes e h = passed-fault ((counted count f).reads bytes) e h
 
 -- ---- one by one
 
@@ -156,10 +98,7 @@ not-there {A} f n len bytes k h e =
     absurd cc
 
 never-fails : {A : Type 0} (f : Form A) (n len : ℕ) (bytes : List ℕ) (e : FaultOf) → AreThere f (suc n) len bytes → Faults false e (f.reads bytes) → ⊥
-never-fails f n len bytes fault.Memory h r = absurd cc
-never-fails f n len bytes fault.UnexpectedEof h r = not-there f n len bytes _ h r
-never-fails f n len bytes (fault.InvalidData text) h r = not-there f n len bytes _ h r
-never-fails f n len bytes (fault.InvalidInput text) h r = not-there f n len bytes _ h r
+never-fails f n len bytes e h r = let k = kind-in e (f.reads bytes) r in not-there f n len bytes k.0 h k.1
 
 -- if there are values, the first one is no fault
 pub none-refused : {A : Type 0} (f : Form A) (count len : ℕ) (bytes : List ℕ) (e : FaultOf) → (count ≡ 0 → ⊥) → AreThere f count len bytes → Faults false e (f.reads bytes) → ⊥

@@ -1,7 +1,6 @@
 -- Variables are read in order, and are those that the whole content spells.
 use Rattle.std.proofs.Common.{◌≡◌, ◌≢◌, ℕ, ◌<◌, List, [], ◌∷◌, ◌++◌, length, Option, None, Result, Ok, Err, false, refl, sym, ◌∙◌}
 use Rattle.mysql_wire.specs.declared.fault.FaultOf.{FaultOf}
-use Rattle.mysql_wire.specs.declared.fault.FaultOf.TheVariants as fault
 use Rattle.mysql_wire.specs.declared.fault.FaultKind.{FaultKind}
 use Rattle.mysql_wire.specs.declared.fault.FaultKind.TheVariants as kind
 use Rattle.std.specs.Result.{result_ok}
@@ -10,7 +9,8 @@ use Rattle.mysql_wire.specs.Form.{Form}
 use Rattle.mysql_wire.specs.Many.{many}
 use Rattle.mysql_wire.proofs.AllRead as all_read
 use Rattle.mysql_wire.proofs.Counted.{with_front}
-use Rattle.mysql_wire.proofs.ReadAll.{one-more, no-more, takes-none, tail-shorter}
+use Rattle.mysql_wire.proofs.ReadAll.{one-more, no-more, opened, takes-none, tail-shorter}
+use Rattle.mysql_wire.proofs.Refused.{fault-same}
 use Rattle.mysql_session.specs.declared.system_variable.SystemVariable.{SystemVariable}
 use Rattle.mysql_session.specs.SystemVariable.{system_variable}
 use Rattle.mysql_session.specs.SystemVariables.{system_variables}
@@ -69,19 +69,13 @@ all-read rest bytes s e = whole s.0 (all.reads bytes) (no-more one s.0 rest (all
 
 fails-with : (rest bytes : List ℕ) (k : FaultKind) → SoFar rest bytes → rest ≢ [] → one.reads rest ≡ Err k → all.reads bytes ≡ Err k
 fails-with rest bytes k s some h =
-    let e : with_front s.0 (all.reads rest) ≡ Err k = rw (all_read.opened one variables_read (λ x. refl) rest some, h) refl in
+    let e : with_front s.0 (all.reads rest) ≡ Err k = rw (opened one rest some, h) refl in
     sym s.1 ∙ e
-
-one-fails : (rest bytes : List ℕ) (e : FaultOf) → SoFar rest bytes → rest ≢ [] → Faults {A = SystemVariable} false e (one.reads rest) → Faults {A = List SystemVariable} false e (all.reads bytes)
-one-fails rest bytes fault.Memory s some h = absurd cc
-one-fails rest bytes fault.UnexpectedEof s some h = fails-with rest bytes _ s some h
-one-fails rest bytes (fault.InvalidData text) s some h = fails-with rest bytes _ s some h
-one-fails rest bytes (fault.InvalidInput text) s some h = fails-with rest bytes _ s some h
 
 pub fault-read : (rest bytes : List ℕ) (e : FaultOf) → SoFar rest bytes → rest ≢ [] → Faults {A = SystemVariable} false e (one.reads rest)
     → Faults {A = List SystemVariable} false e ((system_variables.form tt).reads bytes)
 unfolding system_variables
-fault-read rest bytes e s some h = one-fails rest bytes e s some h
+fault-read rest bytes e s some h = fault-same false e (one.reads rest) (all.reads bytes) (λ k h. fails-with rest bytes k s some h) h
 
 pub empty-read : (rest bytes after : List ℕ) (v : SystemVariable) → SoFar rest bytes → rest ≢ [] → length after ≡ length rest → one.reads rest ≡ Ok (v, after)
     → (system_variables.form tt).reads bytes ≡ Err kind.InvalidData

@@ -4,7 +4,8 @@ use Rattle.mysql_wire.specs.Each.{each}
 use Rattle.mysql_wire.specs.Reading.{Reading, Faults, done-rest, then_read}
 use Rattle.mysql_wire.specs.declared.fault.FaultKind.{FaultKind}
 use Rattle.mysql_wire.specs.declared.fault.FaultOf.{FaultOf}
-use Rattle.mysql_wire.specs.declared.fault.FaultOf.TheVariants as fault
+use Rattle.mysql_wire.proofs.Passed.{same-kind}
+use Rattle.mysql_wire.proofs.Refused.{fault-same}
 use Rattle.mysql_values.specs.ParamValue.{ParamContent}
 use Rattle.mysql_stmt.specs.Bitmap.{cell}
 use Rattle.mysql_stmt.proofs.NullBits.{is-one}
@@ -41,26 +42,16 @@ module _ (nulls : List ℕ) (place : ℕ) (t : NamedType) (ts types : List Named
 
   -- its fault is that of all
   pub first-refused : (e : FaultOf) → Faults false e ((value_of is_null t.param_type).reads bytes) → Faults false e ((values nulls place types).reads bytes)
-  first-refused fault.Memory r = absurd cc
-  first-refused fault.UnexpectedEof r = first-fails _ r
-  first-refused (fault.InvalidData text) r = first-fails _ r
-  first-refused (fault.InvalidInput text) r = first-fails _ r
+  first-refused e r = fault-same false e ((value_of is_null t.param_type).reads bytes) ((values nulls place types).reads bytes) first-fails r
 
 -- ---- a loop over all of them
 
 -- after reading past the same bytes, the fault is the same
-same-kind : (r : Reading (List Attribute)) (k : FaultKind) → passed r ≡ Err k → r ≡ Err k
-same-kind (Ok x) k e = absurd cc
-same-kind (Err d) k e = let same : d ≡ k = cc in ap (λ (x : FaultKind). Err x) same
-
 same-fault : (all left : Reading (List Attribute)) (k : FaultKind) → passed all ≡ passed left → left ≡ Err k → all ≡ Err k
 same-fault all left k same e = same-kind all k (same ∙ ap (λ (r : Reading (List Attribute)). passed r) e)
 
 pub past-fault : (all left : Reading (List Attribute)) (e : FaultOf) → passed all ≡ passed left → Faults false e left → Faults false e all
-past-fault all left fault.Memory same r = absurd cc
-past-fault all left fault.UnexpectedEof same r = same-fault all left _ same r
-past-fault all left (fault.InvalidData text) same r = same-fault all left _ same r
-past-fault all left (fault.InvalidInput text) same r = same-fault all left _ same r
+past-fault all left e same r = fault-same false e left all (λ k r. same-fault all left k same r) r
 
 -- if nothing is left, everything was read
 read-to : (all : Reading (List Attribute)) (rest : List ℕ) → passed all ≡ Ok (tt, rest) → all ≡ Ok (attributes_read all, rest)

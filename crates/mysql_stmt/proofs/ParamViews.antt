@@ -3,10 +3,10 @@ use Rattle.std.proofs.Common.{◌≡◌, ◌≢◌, ◌∙◌, sym, ap, subst, s
 use Rattle.std.proofs.lemmas.List.{length-replicate}
 use Rattle.mysql_wire.specs.Flags.{CapabilityFlags}
 use Rattle.mysql_wire.specs.declared.fault.FaultOf.{FaultOf}
-use Rattle.mysql_wire.specs.declared.fault.FaultOf.TheVariants as fault
 use Rattle.mysql_wire.specs.declared.fault.FaultKind.{FaultKind}
 use Rattle.mysql_wire.specs.Reading.{Reading, Faults, IsTail, then_read}
 use Rattle.mysql_wire.specs.Each.{each}
+use Rattle.mysql_wire.proofs.Refused.{fault-same, kind-in}
 use Rattle.mysql_values.specs.declared.param_type.ParamType.{ParamType}
 use Rattle.mysql_stmt.specs.BindFront.{BindFront}
 use Rattle.mysql_stmt.specs.Bitmap.{cell}
@@ -125,10 +125,9 @@ module _ (nulls : List ℕ) (place : ℕ) (s : Bool) (p : BoundParam) (ps : List
 
     -- the fault of a parameter is that of the view
     pub refuses : (e : FaultOf) → Faults false e ((param_form p.is_sent_ahead is_null t.param_type).reads at) → RefusesParam e before_all
-    refuses fault.Memory r = absurd (cc)
-    refuses fault.UnexpectedEof r = fails _ r
-    refuses (fault.InvalidData text) r = fails _ r
-    refuses (fault.InvalidInput text) r = fails _ r
+    refuses e r =
+        let read = (param_form p.is_sent_ahead is_null t.param_type).reads at in
+        ((fails _ (kind-in e read r).1).0, fault-same false e read (params_of before_all) (λ k h. (fails k h).1) r)
 
 -- ---- the invariant of a reader
 
@@ -145,10 +144,7 @@ module _ (c : CapabilityFlags) (flags : ℕ) (params : List BoundParam) (bytes :
 
   -- a fault before the values is the execution's
   pub front-fault : (e : FaultOf) → Faults false e ((execution_front c flags (length params)).reads bytes) → Faults false e ((execution c flags params).reads bytes)
-  front-fault fault.Memory h = absurd (cc)
-  front-fault fault.UnexpectedEof h = refused-so _ h
-  front-fault (fault.InvalidData text) h = refused-so _ h
-  front-fault (fault.InvalidInput text) h = refused-so _ h
+  front-fault e h = fault-same false e ((execution_front c flags (length params)).reads bytes) ((execution c flags params).reads bytes) refused-so h
 
 -- the same for a statement with a given number of parameters
 pub read-counted : (c : CapabilityFlags) (flags : ℕ) (params : List BoundParam) (bytes : List ℕ) (count : ℕ) → length params ≡ count → (f : BindFront) (after : List ℕ)

@@ -3,7 +3,6 @@ use Rattle.std.proofs.Common.{◌≡◌, ◌∙◌, sym, ap, subst, zero, suc, �
 use Rattle.std.specs.Prelude.{replicate}
 use Rattle.std.proofs.lemmas.List.{length-replicate}
 use Rattle.mysql_wire.specs.declared.fault.FaultOf.{FaultOf}
-use Rattle.mysql_wire.specs.declared.fault.FaultOf.TheVariants as fault
 use Rattle.mysql_wire.specs.declared.fault.FaultKind.{FaultKind}
 use Rattle.mysql_wire.specs.declared.codes.column_type.ColumnType.{ColumnType}
 use Rattle.mysql_wire.specs.FlagMasks.{UNSIGNED_FLAG}
@@ -12,6 +11,7 @@ use Rattle.mysql_wire.specs.Reading.{Reading, Faults, then_read}
 use Rattle.mysql_wire.specs.Form.{Form}
 use Rattle.mysql_wire.specs.Each.{each}
 use Rattle.mysql_wire.specs.Seq.{counted}
+use Rattle.mysql_wire.proofs.Refused.{fault-same, kind-in}
 use Rattle.mysql_values.specs.Value.{Content}
 use Rattle.mysql_values.specs.ValueDeserializer.{text_value}
 use Rattle.mysql_replies.specs.declared.column.Column.{Column}
@@ -33,10 +33,9 @@ module _ {C : Type 0} (f : ℕ → C → Form Content) (place : ℕ) (c : C) (cs
 
   -- the fault of a value is that of the row
   pub one-fault : (e : FaultOf) → Faults false e ((f place c).reads bytes) → RefusesNext e (row_left f place (c ∷ cs) bytes)
-  one-fault fault.Memory h = absurd (cc)
-  one-fault fault.UnexpectedEof h = read-fails _ h
-  one-fault (fault.InvalidData text) h = read-fails _ h
-  one-fault (fault.InvalidInput text) h = read-fails _ h
+  one-fault e h =
+      let read = (f place c).reads bytes in
+      ((read-fails _ (kind-in e read h).1).0, fault-same false e read (read_of (row_left f place (c ∷ cs) bytes)) (λ k h. (read-fails k h).1) h)
 
 -- no value is left
 pub no-value : {C : Type 0} (f : ℕ → C → Form Content) (place : ℕ) (cs : List C) (bytes : List ℕ) → length cs ≡ 0 → IsDone (row_left f place cs bytes)

@@ -1,62 +1,15 @@
 -- Types are read one by one.
-use Rattle.std.proofs.Common.{◌≡◌, ◌≢◌, ◌∙◌, sym, ap, subst, suc, ℕ, zero, ◌-◌, ◌+◌, ◌<◌, ◌≤◌, List, [], ◌∷◌, ◌++◌, append_assoc, get_or, set, drop, Ok, Err, Bool, false, length, refl, arith}
+use Rattle.std.proofs.Common.{◌≡◌, ◌≢◌, ◌∙◌, sym, ap, subst, suc, ℕ, zero, ◌-◌, ◌+◌, ◌<◌, ◌≤◌, List, [], ◌∷◌, ◌++◌, append_assoc, get_or, set, drop, Ok, Bool, false, length, refl, arith}
 use Rattle.std.proofs.lemmas.List.{drop_more, get_or_at, set_at, length-append}
 use Rattle.mysql_wire.specs.declared.fault.FaultOf.{FaultOf}
-use Rattle.mysql_wire.specs.declared.fault.FaultOf.TheVariants as fault
-use Rattle.mysql_wire.specs.declared.fault.FaultKind.{FaultKind}
-use Rattle.mysql_wire.specs.Reading.{Reading, Faults, then_read, then_read-ok, done-rest, done-value}
+use Rattle.mysql_wire.specs.Reading.{Faults, then_read, then_read-ok, done-rest, done-value}
 use Rattle.mysql_wire.specs.Seq.{counted}
+use Rattle.mysql_wire.proofs.Passed.{passed-fault}
+use Rattle.mysql_wire.proofs.Refused.{no-fault}
 use Rattle.mysql_stmt.specs.declared.execute_view.BoundParam.{BoundParam}
 use Rattle.mysql_stmt.specs.SentTypes.{NamedType, HasTypes, passed_types, sent_type, under_types, types, types_in}
 
-abbrev passed : {A : Type 0} → Reading A → Reading (Unit {0})
-passed r = then_read r (λ x rest. Ok (tt, rest))
-
-pushed : (t : NamedType) (r : Reading (List NamedType)) → passed (then_read r (λ ts rest. Ok (t ∷ ts, rest))) ≡ passed r
-pushed t (Ok x) = refl
-pushed t (Err e) = refl
-
 module _ (has_names : Bool) where
-  -- one type is passed, and those after it
-  one-passed : (count : ℕ) (bytes : List ℕ) (t : NamedType) (mid : List ℕ) → (sent_type has_names).reads bytes ≡ Ok (t, mid)
-      → (passed_types has_names (suc count)).reads bytes ≡ (passed_types has_names count).reads mid
-  unfolding counted
-  one-passed count bytes t mid h = rw h (pushed t ((types has_names count).reads mid))
-
-  none-passed : (count : ℕ) (bytes : List ℕ) (e : FaultKind) → (sent_type has_names).reads bytes ≡ Err e → (passed_types has_names (suc count)).reads bytes ≡ Err e
-  unfolding counted
-  none-passed count bytes e h = rw h refl
-
-  all-passed : (bytes : List ℕ) → (passed_types has_names 0).reads bytes ≡ Ok (tt, bytes)
-  unfolding counted
-  all-passed bytes = refl
-
-  -- ---- types that are passed, in a loop
-
-  abbrev pub left_to_pass : ℕ → List ℕ → Reading (Unit {0})
-  left_to_pass count bytes = (passed_types has_names count).reads bytes
-
-  pub skip-next : (count i : ℕ) (bytes mid : List ℕ) (t : NamedType) (all : Reading (Unit {0})) → i < count → (sent_type has_names).reads bytes ≡ Ok (t, mid)
-      → left_to_pass (count - i) bytes ≡ all → left_to_pass (count - (i + 1)) mid ≡ all
-  skip-next count i bytes mid t all lt h r =
-      let e : count - i ≡ suc (count - (i + 1)) = omega (arith, lt) in
-      sym (one-passed (count - (i + 1)) bytes t mid h) ∙ sym (ap (λ (n : ℕ). left_to_pass n bytes) e) ∙ r
-
-  refused-at : (count i : ℕ) (bytes : List ℕ) (e : FaultKind) (all : Reading (Unit {0})) → i < count → (sent_type has_names).reads bytes ≡ Err e → left_to_pass (count - i) bytes ≡ all → all ≡ Err e
-  refused-at count i bytes e all lt h r =
-      let s : count - i ≡ suc (count - (i + 1)) = omega (arith, lt) in
-      sym r ∙ ap (λ (n : ℕ). left_to_pass n bytes) s ∙ none-passed (count - (i + 1)) bytes e h
-
-  pub skip-fails : (count i : ℕ) (bytes : List ℕ) (e : FaultOf) (all : Reading (Unit {0})) → i < count → Faults false e ((sent_type has_names).reads bytes)
-      → left_to_pass (count - i) bytes ≡ all → Faults false e all
-  skip-fails count i bytes fault.Memory all lt h r = absurd (cc)
-  skip-fails count i bytes fault.UnexpectedEof all lt h r = refused-at count i bytes _ all lt h r
-  skip-fails count i bytes (fault.InvalidData text) all lt h r = refused-at count i bytes _ all lt h r
-  skip-fails count i bytes (fault.InvalidInput text) all lt h r = refused-at count i bytes _ all lt h r
-
-  pub skip-done : (count i : ℕ) (bytes : List ℕ) (all : Reading (Unit {0})) → count - i ≡ 0 → left_to_pass (count - i) bytes ≡ all → all ≡ Ok (tt, bytes)
-  skip-done count i bytes all e r = sym r ∙ ap (λ (n : ℕ). left_to_pass n bytes) e ∙ all-passed bytes
-
   -- ---- types that are present
 
   -- types that are passed are present
@@ -71,15 +24,8 @@ module _ (has_names : Bool) where
   has-them count bytes rest e = (types_in has_names count bytes, rest, e)
 
   -- the fault of passing them is that of reading them
-  kind-same : (count : ℕ) (bytes : List ℕ) (e : FaultKind) → (r : Reading (List NamedType)) → (types has_names count).reads bytes ≡ r → passed r ≡ Err e → r ≡ Err e
-  kind-same count bytes e (Ok x) is h = absurd cc
-  kind-same count bytes e (Err d) is h = let same : d ≡ e = cc in ap (λ (k : FaultKind). Err k) same
-
   pub passing-fails : (count : ℕ) (bytes : List ℕ) (e : FaultOf) → Faults false e ((passed_types has_names count).reads bytes) → Faults false e ((types has_names count).reads bytes)
-  passing-fails count bytes fault.Memory h = absurd cc
-  passing-fails count bytes fault.UnexpectedEof h = kind-same count bytes _ _ refl h
-  passing-fails count bytes (fault.InvalidData text) h = kind-same count bytes _ _ refl h
-  passing-fails count bytes (fault.InvalidInput text) h = kind-same count bytes _ _ refl h
+  passing-fails count bytes e h = passed-fault ((types has_names count).reads bytes) e h
 
   -- the requested number
   read-length : (count : ℕ) (bytes : List ℕ) (ts : List NamedType) (rest : List ℕ) → (types has_names count).reads bytes ≡ Ok (ts, rest) → length ts ≡ count
@@ -134,12 +80,6 @@ module _ (has_names : Bool) where
   pub takes : (left : ℕ) (bytes at : List ℕ) (t : NamedType) (mid : List ℕ) → HasTypes has_names left bytes → left ≢ 0 → at ≡ bytes → (sent_type has_names).reads at ≡ Ok (t, mid) → Taken left bytes t mid
   takes zero bytes at t mid has some is read = absurd (some refl)
   takes (suc count) bytes at t mid has some is read = taken-first count bytes t mid has (subst (λ (l : List ℕ). (sent_type has_names).reads l ≡ Ok (t, mid)) is read)
-
-  no-fault : (e : FaultOf) (r : Reading NamedType) (x : NamedType) (rest : List ℕ) → r ≡ Ok (x, rest) → Faults false e r → ⊥
-  no-fault fault.Memory r x rest h f = absurd (cc)
-  no-fault fault.UnexpectedEof r x rest h f = absurd (cc)
-  no-fault (fault.InvalidData text) r x rest h f = absurd (cc)
-  no-fault (fault.InvalidInput text) r x rest h f = absurd (cc)
 
   -- a type that is present is no fault
   pub never : (left : ℕ) (bytes at : List ℕ) (e : FaultOf) → HasTypes has_names left bytes → left ≢ 0 → at ≡ bytes → Faults false e ((sent_type has_names).reads at) → ⊥

@@ -3,11 +3,11 @@ use Rattle.std.proofs.Common.{◌≡◌, ◌∙◌, sym, ap, subst, zero, suc, �
 use Rattle.std.specs.Prelude.{◌/◌, ◌%◌, slice_get, slice_index_or, nat_lt, map, if◌then◌else◌}
 use Rattle.std.proofs.lemmas.List.{take-append-le, drop-append-le, drop-drop}
 use Rattle.mysql_wire.specs.declared.fault.FaultOf.{FaultOf}
-use Rattle.mysql_wire.specs.declared.fault.FaultOf.TheVariants as fault
 use Rattle.mysql_wire.specs.declared.fault.FaultKind.{FaultKind}
 use Rattle.mysql_wire.specs.declared.fault.FaultKind.TheVariants as fault_kind
 use Rattle.mysql_wire.specs.Form.{bytes, le_value, number}
 use Rattle.mysql_wire.specs.Reading.{Reading, Faults, then_read, done-value, done-rest}
+use Rattle.mysql_wire.proofs.Refused.{fault-same, no-fault}
 use Rattle.mysql_values.specs.Value.{Content}
 use Rattle.mysql_stmt.specs.declared.stored_form.StoredForm.{StoredForm}
 use Rattle.mysql_stmt.specs.declared.stored_form.StoredForm.TheVariants as stored
@@ -32,14 +32,12 @@ code-again stored.Date = refl
 code-again stored.Time = refl
 
 -- a fault follows the values, whatever they are
+kind-same : (vs ws : List Content) (end : Result (List ℕ) FaultKind) (k : FaultKind) → read_to vs end ≡ Err k → read_to ws end ≡ Err k
+kind-same vs ws (Ok rest) k h = absurd cc
+kind-same vs ws (Err d) k h = h
+
 pub same-fault : (e : FaultOf) (vs ws : List Content) (here there : Result (List ℕ) FaultKind) → here ≡ there → Faults false e (read_to vs here) → Faults false e (read_to ws there)
-same-fault fault.Memory vs ws here there same h = absurd (cc)
-same-fault fault.UnexpectedEof vs ws (Ok rest) there same h = absurd (cc)
-same-fault fault.UnexpectedEof vs ws (Err k) there same h = rw (← same) h
-same-fault (fault.InvalidData text) vs ws (Ok rest) there same h = absurd (cc)
-same-fault (fault.InvalidData text) vs ws (Err k) there same h = rw (← same) h
-same-fault (fault.InvalidInput text) vs ws (Ok rest) there same h = absurd (cc)
-same-fault (fault.InvalidInput text) vs ws (Err k) there same h = rw (← same) h
+same-fault e vs ws here there same h = rw (← same) (fault-same false e (read_to vs here) (read_to ws here) (kind-same vs ws here) h)
 
 -- ---- the entries
 
@@ -132,12 +130,6 @@ cut-number false front rest n after h = (sym (done-value (le_value front) n rest
 number-is : (width : ℕ) (bytes after : List ℕ) (n : ℕ) → (number width).reads bytes ≡ Ok (n, after) → (n ≡ le_value (take width bytes)) × (after ≡ drop width bytes)
 unfolding number bytes
 number-is width bytes after n h = cut-number (nat_lt (length bytes) width) (take width bytes) (drop width bytes) n after h
-
-no-fault : (e : FaultOf) (r : Reading Content) (x : Content) (rest : List ℕ) → r ≡ Ok (x, rest) → Faults false e r → ⊥
-no-fault fault.Memory r x rest is h = cc
-no-fault fault.UnexpectedEof r x rest is h = cc
-no-fault (fault.InvalidData text) r x rest is h = cc
-no-fault (fault.InvalidInput text) r x rest is h = cc
 
 -- bytes that begin with an entry, as it is read
 pub entry-is : (i : ℕ) (block bytes after : List ℕ) (entry : ℕ) → bytes ≡ drop (8 * i) block → (number 8).reads bytes ≡ Ok (entry, after) → entry ≡ first_entry (drop (8 * i) block)

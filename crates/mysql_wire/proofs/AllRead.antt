@@ -1,22 +1,16 @@
 -- Values that all of the bytes spell: if they are read, the first one is read, and so are the others.
 use Rattle.std.proofs.Common.{◌≡◌, ◌≢◌, ℕ, List, [], ◌∷◌, length, Ok, Err, Bool, true, false, if◌then◌else◌, nat_lt, refl, sym, ap, ◌∙◌}
 use Rattle.mysql_wire.specs.declared.fault.FaultOf.{FaultOf}
-use Rattle.mysql_wire.specs.declared.fault.FaultOf.TheVariants as fault
 use Rattle.mysql_wire.specs.declared.fault.FaultKind.{FaultKind}
 use Rattle.mysql_wire.specs.declared.fault.FaultKind.TheVariants as kind
 use Rattle.mysql_wire.specs.Form.{Form}
-use Rattle.mysql_wire.specs.Many.{many, value_and_more}
-use Rattle.mysql_wire.specs.Many.Laws.{many-next}
+use Rattle.mysql_wire.specs.Many.{many}
 use Rattle.mysql_wire.specs.Reading.{Reading, Faults, then_read, done-value, done-rest}
+use Rattle.mysql_wire.proofs.ReadAll.{opened}
+use Rattle.mysql_wire.proofs.Refused.{kind-in}
 
 -- of one form, and of the result of reading all of them
 module _ {A : Type 0} (one : Form A) (items : Reading (List A) → List A) (gives : (x : List A × List ℕ) → items (Ok x) ≡ x.0) where
-  -- what is read if bytes are left
-  pub opened : (bytes : List ℕ) → bytes ≢ [] → (many one).reads bytes ≡ then_read (one.reads bytes) (value_and_more (length bytes) (many one).reads)
-  unfolding many
-  opened [] ne = absurd (ne refl)
-  opened (b ∷ bs) ne = many-next one b bs
-
   abbrev pub Whole : Reading (List A) → Type 0
   Whole read = read ≡ Ok (items read, [])
 
@@ -43,17 +37,14 @@ module _ {A : Type 0} (one : Form A) (items : Reading (List A) → List A) (give
 
   pub goes-on : (bytes after : List ℕ) (v : A) → bytes ≢ [] → Whole ((many one).reads bytes) → one.reads bytes ≡ Ok (v, after) → Goes v ((many one).reads bytes) ((many one).reads after)
   goes-on bytes after v some w e =
-      guarded v (nat_lt (length after) (length bytes)) ((many one).reads bytes) ((many one).reads after) (rw (opened bytes some, e) refl) w
+      guarded v (nat_lt (length after) (length bytes)) ((many one).reads bytes) ((many one).reads after) (rw (opened one bytes some, e) refl) w
 
   -- none of them is refused
   pub refused : (bytes : List ℕ) (k : FaultKind) → bytes ≢ [] → Whole ((many one).reads bytes) → one.reads bytes ≡ Err k → ⊥
   refused bytes k some w h =
-      let e : (many one).reads bytes ≡ Err k = rw (opened bytes some, h) refl in
+      let e : (many one).reads bytes ≡ Err k = rw (opened one bytes some, h) refl in
       let same : ◌≡◌ {A = Reading (List A)} (Err k) (Ok (items ((many one).reads bytes), [])) = sym e ∙ w in
       absurd cc
 
   pub none-refused : (bytes : List ℕ) (e : FaultOf) → bytes ≢ [] → Whole ((many one).reads bytes) → Faults {A = A} false e (one.reads bytes) → ⊥
-  none-refused bytes fault.Memory some w h = absurd cc
-  none-refused bytes fault.UnexpectedEof some w h = refused bytes _ some w h
-  none-refused bytes (fault.InvalidData text) some w h = refused bytes _ some w h
-  none-refused bytes (fault.InvalidInput text) some w h = refused bytes _ some w h
+  none-refused bytes e some w h = let k = kind-in e (one.reads bytes) h in refused bytes k.0 some w k.1

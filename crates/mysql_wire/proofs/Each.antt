@@ -2,11 +2,11 @@
 use Rattle.std.proofs.Common.{◌≡◌, ℕ, ◌+◌, ◌<◌, ◌≤◌, List, [], ◌∷◌, ◌++◌, length, drop, get_or, Ok, Err, Bool, true, refl, sym, ap, ◌∙◌}
 use Rattle.std.proofs.lemmas.List.{append-nil, drop_more, drop_all}
 use Rattle.mysql_wire.specs.declared.fault.FaultOf.{FaultOf}
-use Rattle.mysql_wire.specs.declared.fault.FaultOf.TheVariants as fault
 use Rattle.mysql_wire.specs.Reading.{Reading, Faults, then_read}
 use Rattle.mysql_wire.specs.Form.{Form}
 use Rattle.mysql_wire.proofs.Counted.{with_front, regroup}
 use Rattle.mysql_wire.specs.Each.{each}
+use Rattle.mysql_wire.proofs.Refused.{fault-goes}
 
 module _ {A C : Type 0} (f : ℕ → C → Form A) (front : List A) (cs : List C) (i : ℕ) (bytes : List ℕ) (total : Reading (List A)) (so_far : with_front front ((each f i (drop i cs)).reads bytes) ≡ total) where
   pub next-one : (d : C) (x : A) (after : List ℕ) → i < length cs → (f i (get_or cs i d)).reads bytes ≡ Ok (x, after) → with_front (front ++ x ∷ []) ((each f (i + 1) (drop (i + 1) cs)).reads after) ≡ total
@@ -23,10 +23,7 @@ module _ {A C : Type 0} (f : ℕ → C → Form A) (front : List A) (cs : List C
       sym so_far ∙ one
 
   pub one-fails : (d : C) (b : Bool) (e : FaultOf) → i < length cs → Faults b e ((f i (get_or cs i d)).reads bytes) → Faults true e total
-  one-fails d b fault.Memory lt h = refl
-  one-fails d b fault.UnexpectedEof lt h = fails-with d _ lt h
-  one-fails d b (fault.InvalidData text) lt h = fails-with d _ lt h
-  one-fails d b (fault.InvalidInput text) lt h = fails-with d _ lt h
+  one-fails d b e lt h = fault-goes b true e ((f i (get_or cs i d)).reads bytes) total (λ _. refl) (λ k h. fails-with d k lt h) h
 
   pub none-left : length cs ≤ i → total ≡ Ok (front, bytes)
   unfolding each
@@ -36,7 +33,4 @@ module _ {A C : Type 0} (f : ℕ → C → Form A) (front : List A) (cs : List C
 
 -- a value made from what is read
 pub mapped-fails : {A B : Type 0} (make : A → B) (b : Bool) (e : FaultOf) (r : Reading A) → Faults b e r → Faults b e (then_read r (λ x rest. Ok (make x, rest)))
-mapped-fails make b fault.Memory r h = h
-mapped-fails make b fault.UnexpectedEof r h = rw h refl
-mapped-fails make b (fault.InvalidData text) r h = rw h refl
-mapped-fails make b (fault.InvalidInput text) r h = rw h refl
+mapped-fails make b e r h = fault-goes b b e r (then_read r (λ x rest. Ok (make x, rest))) (λ m. m) (λ k h. rw h refl) h

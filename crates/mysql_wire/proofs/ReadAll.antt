@@ -3,19 +3,19 @@ use Rattle.std.proofs.Common.{◌≡◌, ◌≢◌, ℕ, ◌+◌, ◌<◌, List,
 use Rattle.std.proofs.lemmas.Bool.{lt-ltb, le-ltb}
 use Rattle.std.proofs.lemmas.List.{append-nil, length-append}
 use Rattle.mysql_wire.specs.declared.fault.FaultOf.{FaultOf}
-use Rattle.mysql_wire.specs.declared.fault.FaultOf.TheVariants as fault
 use Rattle.mysql_wire.specs.declared.fault.FaultKind.TheVariants as kind
 use Rattle.mysql_wire.specs.Reading.{Reading, IsTail, then_read, Faults}
 use Rattle.mysql_wire.specs.Form.{Form}
 use Rattle.mysql_wire.specs.Many.{many, many_asks, value_and_more}
 use Rattle.mysql_wire.specs.Many.Laws.{many-next}
 use Rattle.mysql_wire.proofs.Counted.{with_front, regroup, asks-more}
+use Rattle.mysql_wire.proofs.Refused.{fault-goes}
 
 pub tail-shorter : (tail bytes : List ℕ) → IsTail tail bytes → length tail ≢ length bytes → length tail < length bytes
 tail-shorter tail bytes t ne = let e : length bytes ≡ length t.front + length tail = ap length t.parts ∙ length-append t.front tail in omega (arith, e, ne)
 
 -- what is read if bytes are left
-opened : {A : Type 0} (f : Form A) (bytes : List ℕ) → bytes ≢ [] → (many f).reads bytes ≡ then_read (f.reads bytes) (value_and_more (length bytes) (many f).reads)
+pub opened : {A : Type 0} (f : Form A) (bytes : List ℕ) → bytes ≢ [] → (many f).reads bytes ≡ then_read (f.reads bytes) (value_and_more (length bytes) (many f).reads)
 unfolding many
 opened f [] ne = absurd (ne refl)
 opened f (b ∷ bs) ne = many-next f b bs
@@ -49,10 +49,7 @@ module _ {A : Type 0} (f : Form A) (front : List A) (bytes : List ℕ) (total : 
 
   -- the fault of a value, if the list may allocate whenever the value may
   pub one-fails-as : (b asks : Bool) (e : FaultOf) → bytes ≢ [] → (IsTrue b → IsTrue asks) → Faults b e (f.reads bytes) → Faults asks e total
-  one-fails-as b asks fault.Memory ne may h = may h
-  one-fails-as b asks fault.UnexpectedEof ne may h = fails-with _ ne h
-  one-fails-as b asks (fault.InvalidData text) ne may h = fails-with _ ne h
-  one-fails-as b asks (fault.InvalidInput text) ne may h = fails-with _ ne h
+  one-fails-as b asks e ne may h = fault-goes b asks e (f.reads bytes) total may (λ k h. fails-with k ne h) h
 
   pub one-fails : (b : Bool) (e : FaultOf) → bytes ≢ [] → Faults b e (f.reads bytes) → Faults true e total
   one-fails b e ne h = one-fails-as b true e ne (λ _. refl) h

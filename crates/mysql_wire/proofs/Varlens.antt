@@ -6,7 +6,7 @@ use Rattle.std.proofs.lemmas.List.{length-append, length-drop}
 use Rattle.std.proofs.lemmas.Nat.Bits.{bit_at_lowest, bit_at-suc, bit_at-trailing_ones}
 use Rattle.mysql_wire.specs.declared.fault.FaultKind.TheVariants as kind
 use Rattle.mysql_wire.specs.declared.fault.FaultOf.{FaultOf}
-use Rattle.mysql_wire.specs.declared.fault.FaultOf.TheVariants as fault
+use Rattle.mysql_wire.specs.declared.fault.FaultKind.{FaultKind}
 use Rattle.mysql_wire.specs.declared.int.RawInt.{RawInt}
 use Rattle.mysql_wire.specs.declared.little_endian.LeU64.{LeU64}
 use Rattle.mysql_wire.specs.Int.{raw, raw_int, le_u64}
@@ -14,6 +14,7 @@ use Rattle.mysql_wire.specs.Reading.{Reading, then_read, Faults, done-value, don
 use Rattle.mysql_wire.specs.Form.{number, le_value, bytes}
 use Rattle.mysql_wire.specs.Writing.{le_bytes}
 use Rattle.mysql_wire.specs.LittleEndian.{length-le_bytes, sum-value}
+use Rattle.mysql_wire.proofs.Refused.{fault-goes}
 use Rattle.mysql_wire.specs.Varlen.Again.{size_fits}
 use Rattle.mysql_wire.specs.Varlen.{varlen, varlen_bytes, varlen_size, low_ones, above_ones}
 
@@ -57,14 +58,12 @@ raw-number : (r : Reading ℕ) (v : RawInt LeU64 ℕ) (rest : List ℕ) → then
 raw-number (Ok x) v rest e = done-both x.0 v.0 x.1 rest (ap (λ (w : RawInt LeU64 ℕ). w.0) (done-value (raw_int x.0) v x.1 rest e)) (done-rest (raw_int x.0) v x.1 rest e)
 raw-number (Err d) v rest e = absurd cc
 
+raw-kind : (r : Reading ℕ) (k : FaultKind) → ◌≡◌ {A = Reading (RawInt LeU64 ℕ)} (then_read r (λ n rest. Ok (raw_int n, rest))) (Err k) → r ≡ Err k
+raw-kind (Ok x) k h = absurd cc
+raw-kind (Err d) k h = cc
+
 raw-faults : (b : Bool) (e : FaultOf) (r : Reading ℕ) → Faults {A = RawInt LeU64 ℕ} b e (then_read r (λ n rest. Ok (raw_int n, rest))) → Faults b e r
-raw-faults b fault.Memory r h = h
-raw-faults b fault.UnexpectedEof (Ok x) h = absurd cc
-raw-faults b fault.UnexpectedEof (Err d) h = cc
-raw-faults b (fault.InvalidData text) (Ok x) h = absurd cc
-raw-faults b (fault.InvalidData text) (Err d) h = cc
-raw-faults b (fault.InvalidInput text) (Ok x) h = absurd cc
-raw-faults b (fault.InvalidInput text) (Err d) h = cc
+raw-faults b e r h = fault-goes {A = RawInt LeU64 ℕ} b b e (then_read r (λ n rest. Ok (raw_int n, rest))) r (λ m. m) (raw-kind r) h
 
 -- what follows ff
 pub long_read : (bytes more rest : List ℕ) (v : RawInt LeU64 ℕ) → bytes ≡ 255 ∷ more → le_u64.reads more ≡ Ok (v, rest) → varlen.reads bytes ≡ Ok (v.0, rest)

@@ -1,6 +1,6 @@
 use Rattle.std.proofs.Common.{◌≡◌, ◌-◌}
 use Rattle.mysql_repl.specs.GnoInterval.{interval}
-use Rattle.mysql_repl.proofs.InPlace.{left_to_pass}
+use Rattle.mysql_wire.proofs.Passed.{left_to_pass}
 use Rattle.mysql_repl.proofs.intervals_ref.skip_intervals.Given as goal
 
 abbrev pub invariant-loop : goal.invariant-loop

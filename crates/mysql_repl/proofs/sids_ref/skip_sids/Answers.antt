@@ -1,7 +1,7 @@
 use Rattle.std.proofs.Common.{◌-◌, ◌≡◌, arith}
 use Rattle.std.proofs.lemmas.Result.{err_from_is_err_and}
 use Rattle.mysql_repl.specs.Sid.{sid_as}
-use Rattle.mysql_repl.proofs.InPlace.{skip-next, skip-fails, skip-done}
+use Rattle.mysql_wire.proofs.Passed.{skip-next, skip-fails, skip-done}
 use Rattle.mysql_repl.proofs.sids_ref.skip_sids.Goals as goal
 
 pub returns-in_err-_sid : goal.returns-in_err-_sid
