@@ -1,8 +1,7 @@
 -- A caller's own loop over a builder is a run over the rows.
-use Rattle.std.proofs.Common.{ℕ, false, true, List, [], ◌∷◌, ◌++◌, length, None, Some, Ok, Err, sym, ◌∙◌, ap, subst, append_assoc, inl, inr}
+use Rattle.std.proofs.Common.{ℕ, false, true, List, [], ◌∷◌, ◌++◌, None, Some, Ok, Err, sym, ◌∙◌, ap, subst, append_assoc, inl, inr}
 use Rattle.std.proofs.lemmas.List.{append-nil, append_cancel_right}
 use Rattle.std.specs.Global.{Vec}
-use Rattle.mysql_cuts.specs.Cut.{rows_in}
 use Rattle.mysql_values.specs.declared.value.Value.{Value}
 use Rattle.mysql_values.specs.Value.{Content}
 use Rattle.mysql_bulk.specs.declared.error.BulkExecuteRequestError.{BulkExecuteRequestError}
@@ -13,76 +12,63 @@ use Rattle.mysql_bulk.specs.CollectedRows.{Collects, EndsRefused}
 use Rattle.mysql_bulk.specs.Request.{BulkRequest}
 use Rattle.mysql_bulk.specs.Row.{contents_of_row}
 use Rattle.mysql_bulk.specs.WholeRun.{RunGives}
-use Rattle.mysql_bulk.proofs.WholeRun.{Running, running_none, running_more, running_sends, next_taken, fits_from, full, gives_all, gives_refused, copy_refused}
+use Rattle.mysql_bulk.proofs.WholeRun.{Running, running_none, running_more, running_sends, parts_left, full, gives_all, gives_refused, copy_refused}
 
--- a run up to this place, with some number of rows sent
+-- a run up to this place
 abbrev RunsTo : BuilderState → List (List Content) → List BulkRequest → BuilderState → List (List Content) → Type 0
-RunsTo s all requests b rest = (ends : List ℕ) × (sent : ℕ) × Running s all requests ends sent b rest
+RunsTo s all requests b rest = (cut : List (List (List Content))) × Running s all requests cut b rest
 
 -- one more row is waiting
 one_more : {s : BuilderState} {all : List (List Content)} {requests : List BulkRequest} {b : BuilderState} (row : List Content) (rest : List (List Content)) (u : BuilderState)
     → RunsTo s all requests b (row ∷ rest) → AddsCopy b row (Ok true) u → RunsTo s all requests u rest
-one_more {s} {all} {requests} row rest u r a =
-    let P : BuilderState → Type 0 = λ x. RunsTo s all requests x rest in
-    subst P (sym a.2) (r.0, r.1, running_more row rest r.2 a.0 a.1)
+one_more row rest u r a = rw a.2 (r.0, running_more row rest r.1 a.0 a.1)
 
 -- the request of the waiting rows is built, since the next row does not fit
 one_sent : {s : BuilderState} {all : List (List Content)} {requests : List BulkRequest} {b : BuilderState} (row : List Content) (rest : List (List Content)) (n v : BuilderState) (request : BulkRequest)
     → RunsTo s all requests b (row ∷ rest) → AddsCopy b row (Ok false) n → BuildsRequest n request v → RunsTo s all (requests ++ request ∷ []) v (row ∷ rest)
 one_sent {s} {all} {requests} {b} row rest n v request r a built =
     let B : BuilderState → Type 0 = λ x. BuildsRequest x request v in
-    let next = next_taken row rest r.2 a.0 in (
-      r.0 ++ length (rows_in r.2.cut ++ b.waiting) ∷ [],
-      length (rows_in r.2.cut ++ b.waiting),
-      running_sends v (row ∷ rest) request r.2 (subst B a.3 built) next (λ f. a.1 (fits_from row rest r.2 next.0 f)),
-    )
+    (r.0 ++ b.waiting ∷ [], running_sends v (row ∷ rest) request r.1 (subst B a.3 built) (a.2, a.0, a.1))
 
 collected : {s : BuilderState} {all : List (List Content)} (rows rest : List (List Content)) (b t : BuilderState) (before requests : List BulkRequest) → RunsTo s all before b (rows ++ rest) → Collects b rows requests t
     → RunsTo s all (before ++ requests) t rest
-collected {s} {all} [] rest b t before requests r c =
-    let P : List BulkRequest → BuilderState → Type 0 = λ q x. RunsTo s all q x rest in
-    subst (λ x. P (before ++ requests) x) (sym c.1) (subst (λ q. P q b) (sym (ap (λ (q : List BulkRequest). before ++ q) c.0 ∙ append-nil before)) r)
-collected {s} {all} (row ∷ rows) rest b t before requests r c = elim c [
+collected [] rest b t before requests r c = rw (c.0, c.1, append-nil) r
+collected (row ∷ rows) rest b t before requests r c = elim c [
   | inl at ↦ collected rows rest at.0 t before requests (one_more row (rows ++ rest) at.0 r at.1) at.2
   | inr at ↦
       let sent = one_sent row (rows ++ rest) at.0 at.1 at.3 r at.5 at.6 in
-      let later = collected rows rest at.2 t (before ++ at.3 ∷ []) at.4 (one_more row (rows ++ rest) at.2 sent at.7) at.9 in
-      let P : List BulkRequest → Type 0 = λ q. RunsTo s all q t rest in
-      subst P (append_assoc before (at.3 ∷ []) at.4 ∙ ap (λ (q : List BulkRequest). before ++ q) (sym at.8)) later
+      rw (at.8, ← append_assoc before (at.3 ∷ []) at.4) (collected rows rest at.2 t (before ++ at.3 ∷ []) at.4 (one_more row (rows ++ rest) at.2 sent at.7) at.9)
 ]
 
 -- from the start
 runs_to : (s t : BuilderState) (rows rest : List (List Content)) (requests : List BulkRequest) → IsConsistent s → Collects s rows requests t → RunsTo s (s.waiting ++ (rows ++ rest)) requests t rest
-runs_to s t rows rest requests c collects = collected rows rest s t [] requests ([], 0, running_none s (rows ++ rest) c) collects
+runs_to s t rows rest requests c collects = collected rows rest s t [] requests ([], running_none s (rows ++ rest) c) collects
 
 -- all rows were sent, the last of them by a request that is built after the loop
 pub all_collected : (s t u : BuilderState) (rows : List (List Content)) (requests : List BulkRequest) (last : BulkRequest) → IsConsistent s → Collects s rows requests t → BuildsRequest t last u
     → (ends : List ℕ) × RunGives s (s.waiting ++ rows) (requests ++ last ∷ []) ends None u
 all_collected s t u rows requests last c collects built =
-    let r = runs_to s t rows [] requests c collects in
-    let sent = running_sends u [] last r.2 built tt tt in
+    let sent = running_sends u [] last (runs_to s t rows [] requests c collects).1 built built.some in
     let P : List (List Content) → Type 0 = λ l. (ends : List ℕ) × RunGives s (s.waiting ++ l) (requests ++ last ∷ []) ends None u in
-    subst P (append-nil rows) (r.0 ++ length (rows_in r.2.cut ++ t.waiting) ∷ [], gives_all sent (ap (λ (b : BuilderState). b.waiting) built.left))
+    subst P (append-nil rows) (_, gives_all sent (ap (λ (b : BuilderState). b.waiting) built.left))
 
 -- a row was refused
 pub row_ends : (s t : BuilderState) (rows later : List (List Content)) (requests : List BulkRequest) (row : Vec Value) (e : BulkExecuteRequestError) → IsConsistent s → Collects s rows requests t → Adds t row (Err e) t
     → (ends : List ℕ) × RunGives s (s.waiting ++ (rows ++ contents_of_row row ∷ later)) requests ends (Some (refused.Request e)) t
-row_ends s t rows later requests row e c collects a =
-    let r = runs_to s t rows (contents_of_row row ∷ later) requests c collects in
-    (r.0, gives_refused row later e r.2 a)
+row_ends s t rows later requests row e c collects a = (_, gives_refused row later (runs_to s t rows (contents_of_row row ∷ later) requests c collects).1 e a)
 
 -- a copy of a row was refused
 pub copy_ends : (s t : BuilderState) (rows later : List (List Content)) (requests : List BulkRequest) (row : List Content) (e : BulkRowError) → IsConsistent s → Collects s rows requests t → AddsCopy t row (Err e) t
     → EndsRefused s rows requests row later e t
 copy_ends s t rows later requests row e c collects a =
-    let r = (runs_to s t rows (row ∷ later) requests c collects).2 in
+    let r = (runs_to s t rows (row ∷ later) requests c collects).1 in
     record {
-      cut = r.cut;
+      cut = _;
       none_empty = r.packed.none_empty;
-      all_rows = append_cancel_right (rows_in r.cut ++ t.waiting) (s.waiting ++ rows) (row ∷ later) (r.whole ∙ sym (append_assoc s.waiting rows (row ∷ later)));
+      all_rows = r.packed.same ∙ append_cancel_right r.before (s.waiting ++ rows) (row ∷ later) (r.whole ∙ sym (append_assoc s.waiting rows (row ∷ later)));
       requests_are = r.requests_are;
       full_parts = r.packed.full_so_far;
-      left = r.left;
+      left = parts_left r;
       full_from_front = full (row ∷ later) r;
-      refused = copy_refused row later e r a;
+      refused = copy_refused row later r e a;
     }

@@ -7,6 +7,7 @@ pub mod CopiedRow
 pub mod BuilderSteps
 pub mod RunSteps
 pub mod WholeRun
+pub mod RowsOfInput
 pub mod WholeRunOfVec
 pub mod RunLoop
 pub mod BuilderParams

@@ -6,19 +6,19 @@ use Rattle.std.specs.Global.{Vec, Global}
 use Rattle.std.specs.Iterator.{Yields, YieldsThen}
 use Rattle.std.specs.Vec.Iter.{into_iter_items, into_iter_len, into_iter_steps}
 use Rattle.std.specs.declared.vec.IntoIter.{IntoIter}
-use Rattle.mysql_cuts.specs.Cut.{rows_in, NextDoesNotFit, types_after}
+use Rattle.mysql_cuts.specs.Cut.{rows_in, ends_after}
+use Rattle.mysql_cuts.proofs.Packed.{joined_push}
 use Rattle.mysql_values.specs.declared.value.Value.{Value}
 use Rattle.mysql_values.specs.Value.{Content}
 use Rattle.mysql_bulk.specs.declared.error.BulkExecuteRequestBuilderError.TheVariants.{Request}
 use Rattle.mysql_bulk.specs.declared.error.BulkExecuteRequestError.TheVariants.{Memory}
 use Rattle.mysql_bulk.specs.declared.error.BulkExecuteRequestError.{BulkExecuteRequestError}
-use Rattle.mysql_bulk.specs.Builder.{BuilderState, Adds, IsConsistent}
-use Rattle.mysql_bulk.specs.WholeRunRefusal.{measure}
+use Rattle.mysql_bulk.specs.Builder.{BuilderState, Adds, IsConsistent, packing}
 use Rattle.mysql_bulk.specs.Request.{BulkRequest}
-use Rattle.mysql_bulk.specs.Row.{contents_of_row, contents_of_rows, first_length}
+use Rattle.mysql_bulk.specs.Row.{contents_of_row, contents_of_rows}
 use Rattle.mysql_bulk.specs.Run.{NextRowAfter, NextRow, AcceptsUntilFull}
 use Rattle.mysql_bulk.specs.WholeRun.{RequestIsDue, PutsRequest, RunGives}
-use Rattle.mysql_bulk.proofs.WholeRun.{Running, NextIsTaken, running_none, running_accepts, running_sends, next_long, next_taken, fits_from, gives_all, gives_memory, gives_refused}
+use Rattle.mysql_bulk.proofs.WholeRun.{Running, running_none, running_accepts, running_sends, ends_after-push, gives_all, gives_memory, gives_refused}
 
 abbrev pub Input : Type 0
 Input = IntoIter (Vec Value) Global
@@ -56,37 +56,42 @@ came c s taken last t y =
 
 -- the state of a run over all these rows: the carried row and those of the input are still to come
 pub record RunSoFar (s : BuilderState) (all : List (List Content)) (requests : List BulkRequest) (ends : List ℕ) (sent : ℕ) (b : BuilderState) (carried : Option (Vec Value)) (input : Input) : Type 0 where
-  pub running : Running s all requests ends sent b (contents_of_rows (held carried input))
+  pub cut : List (List (List Content))
+  pub running : Running s all requests cut b (contents_of_rows (held carried input))
+  pub ends_are : ends ≡ ends_after 0 cut
+  pub sent_is : sent ≡ length (rows_in cut)
 
 pub run_begins : (s : BuilderState) (rows : List (Vec Value)) (input : Input) (requests : List BulkRequest) (ends : List ℕ) → IsConsistent s → into_iter_items input ≡ rows → requests ≡ [] → ends ≡ []
     → RunSoFar s (s.waiting ++ contents_of_rows rows) requests ends 0 s None input
 run_begins s rows input requests ends c e q n =
-    let P : List (Vec Value) → Type 0 = λ r. RunSoFar s (s.waiting ++ contents_of_rows r) requests ends 0 s None input in
-    let Q : List BulkRequest → Type 0 = λ q. Running s (s.waiting ++ contents_of_rows (into_iter_items input)) q ends 0 s (contents_of_rows (into_iter_items input)) in
-    let E : List ℕ → Type 0 = λ n. Running s (s.waiting ++ contents_of_rows (into_iter_items input)) [] n 0 s (contents_of_rows (into_iter_items input)) in
-    subst P e (record { running = subst Q (sym q) (subst E (sym n) (running_none s (contents_of_rows (into_iter_items input)) c)) })
+    let P : List (Vec Value) → Type 0 = λ r. RunSoFar s (s.waiting ++ contents_of_rows r) [] [] 0 s None input in
+    rw (q, n) (subst P e (record { cut = []; running = running_none s (contents_of_rows (into_iter_items input)) c; ends_are = refl; sent_is = refl }))
 
 module _ {s : BuilderState} {all : List (List Content)} {requests : List BulkRequest} {ends : List ℕ} {sent : ℕ} {b : BuilderState} {carried : Option (Vec Value)} {input : Input} (w : RunSoFar s all requests ends sent b carried input) where
+  -- some of the rows to come
+  to_come : (taken : List (Vec Value)) (last : Option (Vec Value)) (left : Input) → held carried input ≡ taken ++ held last left
+      → Running s all requests w.cut b (contents_of_rows taken ++ contents_of_rows (held last left))
+  to_come taken last left e = subst (Running s all requests w.cut b) (ap contents_of_rows e ∙ map-append contents_of_row taken (held last left)) w.running
+
   -- rows were accepted
   pub run_accepts : (m : BuilderState) (last : Option (Vec Value)) (left : Input) → AcceptsUntilFull into_iter_steps b carried input (Ok last) m left → RunSoFar s all requests ends sent m last left
-  run_accepts m last left f =
-      let came_is = came carried input f.0 last left f.1 in
-      let seam : contents_of_rows (held carried input) ≡ contents_of_rows f.0 ++ contents_of_rows (held last left) = ap contents_of_rows came_is.0 ∙ map-append contents_of_row f.0 (held last left) in
-      let P : List (List Content) → Type 0 = Running s all requests ends sent b in
-      record { running = running_accepts m (contents_of_rows f.0) (contents_of_rows (held last left)) (subst P seam w.running) f.2 }
+  run_accepts m last left f = record {
+    cut = w.cut;
+    running = running_accepts m (contents_of_rows f.0) (contents_of_rows (held last left)) (to_come f.0 last left (came carried input f.0 last left f.1).0) f.2;
+    ends_are = w.ends_are;
+    sent_is = w.sent_is;
+  }
 
   -- the next row is refused
   pub ends_refused : (t : BuilderState) (left : Input) (e : BulkExecuteRequestError) → AcceptsUntilFull into_iter_steps b carried input (Err e) t left → RunGives s all requests ends (Some (Request e)) t
   ends_refused t left e f =
-      let came_is = came carried input f.0 (Some f.1) left f.2 in
       let rest = contents_of_rows (into_iter_items left) in
-      let seam : contents_of_rows (held carried input) ≡ contents_of_rows f.0 ++ contents_of_row f.1 ∷ rest = ap contents_of_rows came_is.0 ∙ map-append contents_of_row f.0 (held (Some f.1) left) in
-      let P : List (List Content) → Type 0 = Running s all requests ends sent b in
-      gives_refused f.1 rest e (running_accepts t (contents_of_rows f.0) (contents_of_row f.1 ∷ rest) (subst P seam w.running) f.3) f.4
+      let there = running_accepts t (contents_of_rows f.0) (contents_of_row f.1 ∷ rest) (to_come f.0 (Some f.1) left (came carried input f.0 (Some f.1) left f.2).0) f.3 in
+      rw w.ends_are (gives_refused f.1 rest there e f.4)
 
   -- all rows were sent
   pub ends_done : held carried input ≡ [] → b.waiting ≡ [] → RunGives s all requests ends None b
-  ends_done e m = let R : List (Vec Value) → Type 0 = λ h. Running s all requests ends sent b (contents_of_rows h) in gives_all (subst R e w.running) m
+  ends_done e m = let R : List (Vec Value) → Type 0 = λ h. Running s all requests w.cut b (contents_of_rows h) in rw w.ends_are (gives_all (subst R e w.running) m)
 
   request_is_due : b.waiting ≢ [] → (o : Option (Vec Value)) → IfSome o (λ row. Adds b row (Ok (Some row)) b) → (o ≡ None → held o input ≡ []) → RequestIsDue b (contents_of_rows (held o input))
   request_is_due n None a e = let D : List (Vec Value) → Type 0 = λ h. RequestIsDue b (contents_of_rows h) in subst D (sym (e refl)) n
@@ -95,42 +100,19 @@ module _ {s : BuilderState} {all : List (List Content)} {requests : List BulkReq
   -- there is no memory for the request that is due, and nothing changes
   pub ends_memory : (t : BuilderState) (more : List BulkRequest) (further : List ℕ) → b.waiting ≢ [] → IfSome carried (λ row. Adds b row (Ok (Some row)) b) → (carried ≡ None → held carried input ≡ [])
       → t ≡ b → more ≡ requests → further ≡ ends → RunGives s all more further (Some (Request Memory)) t
-  ends_memory t more further n a e x y z =
-      let P : BuilderState → Type 0 = λ u. RunGives s all more further (Some (Request Memory)) u in
-      let Q : List BulkRequest → Type 0 = λ q. RunGives s all q further (Some (Request Memory)) b in
-      let R : List ℕ → Type 0 = λ e. RunGives s all requests e (Some (Request Memory)) b in
-      subst P (sym x) (subst Q (sym y) (subst R (sym z) (gives_memory (contents_of_rows (held carried input)) w.running (request_is_due n carried a e))))
-
-  next_does_not_fit : IfSome carried (λ row. Adds b row (Ok (Some row)) b) → (carried ≡ None → held carried input ≡ [])
-      → NextDoesNotFit (measure s all) (types_after (measure s all) s.types_due w.running.cut) b.waiting (contents_of_rows (held carried input))
-  next_does_not_fit a e = at carried w.running a e
-    where
-      at : (o : Option (Vec Value)) (r : Running s all requests ends sent b (contents_of_rows (held o input))) → IfSome o (λ row. Adds b row (Ok (Some row)) b) → (o ≡ None → held o input ≡ [])
-          → NextDoesNotFit (measure s all) (types_after (measure s all) s.types_due r.cut) b.waiting (contents_of_rows (held o input))
-      at None r a e =
-          let N : List (Vec Value) → Type 0 = λ h. NextDoesNotFit (measure s all) (types_after (measure s all) s.types_due r.cut) b.waiting (contents_of_rows h) in
-          subst N (sym (e refl)) tt
-      at (Some row) r a e = λ f. a.1 (fits_from (contents_of_row row) (contents_of_rows (into_iter_items input)) r (next_long (contents_of_row row) (contents_of_rows (into_iter_items input)) r a.0.0) f)
-
-  next_is_taken : IfSome carried (λ row. Adds b row (Ok (Some row)) b) → (carried ≡ None → held carried input ≡ []) → NextIsTaken s.columns (first_length all) (contents_of_rows (held carried input))
-  next_is_taken a e = at carried w.running a e
-    where
-      at : (o : Option (Vec Value)) (r : Running s all requests ends sent b (contents_of_rows (held o input))) → IfSome o (λ row. Adds b row (Ok (Some row)) b) → (o ≡ None → held o input ≡ [])
-          → NextIsTaken s.columns (first_length all) (contents_of_rows (held o input))
-      at None r a e = let N : List (Vec Value) → Type 0 = λ h. NextIsTaken s.columns (first_length all) (contents_of_rows h) in subst N (sym (e refl)) tt
-      at (Some row) r a e = next_taken (contents_of_row row) (contents_of_rows (into_iter_items input)) r a.0
+  ends_memory t more further n a e x y z = rw (x, y, z, w.ends_are) (gives_memory (contents_of_rows (held carried input)) w.running (request_is_due n carried a e))
 
   -- the waiting rows were sent
   pub run_sends : (t : BuilderState) (more : List BulkRequest) (further : List ℕ) (end : ℕ) → IfSome carried (λ row. Adds b row (Ok (Some row)) b) → (carried ≡ None → held carried input ≡ [])
       → PutsRequest b requests more t → further ≡ ends ++ end ∷ [] → end ≡ sent + length b.waiting → RunSoFar s all more further end t carried input
   run_sends t more further end a e put named count =
-      let r = w.running in
-      let k = running_sends t (contents_of_rows (held carried input)) put.0 r put.2 (next_is_taken a e) (next_does_not_fit a e) in
-      let same : length (rows_in r.cut ++ b.waiting) ≡ end = length-append (rows_in r.cut) b.waiting ∙ ap (λ n. n + length b.waiting) (sym r.count) ∙ sym count in
-      let R : List BulkRequest → List ℕ → ℕ → Type 0 = λ q e n. Running s all q e n t (contents_of_rows (held carried input)) in
-      let a1 : R (requests ++ put.0 ∷ []) (ends ++ end ∷ []) end = subst (λ n. R (requests ++ put.0 ∷ []) (ends ++ n ∷ []) n) same k in
-      let a2 : R (requests ++ put.0 ∷ []) further end = subst (λ l. R (requests ++ put.0 ∷ []) l end) (sym named) a1 in
-      record { running = subst (λ q. R q further end) (sym put.1) a2 }
+      let total : end ≡ length (rows_in w.cut ++ b.waiting) = count ∙ ap (λ n. n + length b.waiting) w.sent_is ∙ sym (length-append (rows_in w.cut) b.waiting) in
+      record {
+        cut = w.cut ++ b.waiting ∷ [];
+        running = rw put.1 (running_sends t (contents_of_rows (held carried input)) put.0 w.running put.2 (request_is_due put.2.some carried a e));
+        ends_are = named ∙ ap (λ (l : List ℕ). l ++ end ∷ []) w.ends_are ∙ ap (λ n. ends_after 0 w.cut ++ n ∷ []) total ∙ sym (ends_after-push w.cut b.waiting);
+        sent_is = total ∙ ap length (sym (joined_push (packing s 0) w.cut b.waiting));
+      }
 
 -- at the end of the input, no row is left
 pub accepts_end : (b m : BuilderState) (carried last : Option (Vec Value)) (input left : Input) → AcceptsUntilFull into_iter_steps b carried input (Ok last) m left → last ≡ None → held last left ≡ []

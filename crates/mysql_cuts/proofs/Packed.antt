@@ -104,7 +104,7 @@ module _ {X : Type 0} (k : Packing X) where
   pub joined_push : (parts : List (List X)) (part : List X) → rows_in (parts ++ part ∷ []) ≡ rows_in parts ++ part
   joined_push parts part = flat_map-append (λ p. p) parts (part ∷ []) ∙ ap (λ (l : List X). rows_in parts ++ l) (append-nil part)
 
-  joined_seam : (parts : List (List X)) (part rest : List X) → rows_in parts ++ (part ++ rest) ≡ rows_in (parts ++ part ∷ []) ++ rest
+  pub joined_seam : (parts : List (List X)) (part rest : List X) → rows_in parts ++ (part ++ rest) ≡ rows_in (parts ++ part ∷ []) ++ rest
   joined_seam parts part rest = sym (append_assoc (rows_in parts) part rest) ∙ ap (λ (l : List X). l ++ rest) (sym (joined_push parts part))
 
   pub NoneEmpty-push : (parts : List (List X)) (part : List X) → NoneEmpty parts → part ≢ [] → NoneEmpty (parts ++ part ∷ [])
@@ -289,6 +289,10 @@ module _ {X : Type 0} (k : Packing X) where
   pub types_after_push : (types : Bool) (parts : List (List X)) (part : List X) → types_after k types (parts ++ part ∷ []) ≡ k.types_always
   types_after_push types [] part = refl
   types_after_push types (p ∷ parts) part = refl
+
+  pub types_later : (parts : List (List X)) → types_after k k.types_always parts ≡ k.types_always
+  types_later [] = refl
+  types_later (part ∷ parts) = refl
 
   -- there are at most as many parts as rows
   pub length-parts : (parts : List (List X)) → NoneEmpty parts → length parts ≤ length (rows_in parts)
