@@ -11,7 +11,7 @@ use Rattle.mysql_bulk.specs.declared.error.BulkExecuteRequestBuilderError.TheVar
 use Rattle.mysql_bulk.specs.Request.{BulkRequest}
 use Rattle.mysql_bulk.specs.Builder.{BuilderState, after_row, Adds, AddsRow, AddsParams, BuildsRequest}
 use Rattle.mysql_bulk.specs.Row.{contents_of_row, contents_of_rows}
-use Rattle.mysql_bulk.specs.Run.{Accepts, AcceptsUntilFull, RunState, NextRequest, answers}
+use Rattle.mysql_bulk.specs.Run.{Accepts, AcceptsUntilFull, NextRow, RunState, NextRequest, answers}
 use Rattle.mysql_bulk.specs.ParamsRun.{Names, GivesRowOfParams, StopsAtParams, AcceptsParamsUntilFull, NextRequestOfParams}
 use Rattle.mysql_bulk.proofs.RunSteps.{state, Taken, taken_more, taken_full, taken_refused, carried_more, carried_full, carried_refused, next_refuses, next_builds}
 
@@ -21,40 +21,36 @@ names_stay s t [] a = ap (λ (b : BuilderState). b.names) a
 names_stay s t (row ∷ rows) a = names_stay (after_row s row) t rows a.2
 
 module _ {S : Type 0} (steps : S → Option Params → S → Type 0) where
-  by_names : (s m : BuilderState) (rows left : S) → Taken (GivesRowOfParams steps s.names) s rows m left → m.names ≡ s.names
-  by_names s m rows left k = names_stay s m _ k.accepts
+  module _ {s m : BuilderState} {rows left : S} (k : Taken (GivesRowOfParams steps s.names) s (None, rows) m (None, left)) (params : Params) (rest : S) (came : steps left (Some params) rest) where
+    by_names : m.names ≡ s.names
+    by_names = names_stay s m _ k.accepts
 
-  gives_row : (s m : BuilderState) (rows left rest : S) (params : Params) (row : Vec Value) → Taken (GivesRowOfParams steps s.names) s rows m left → steps left (Some params) rest
-      → given_by.values_of params m.names ≡ Ok (contents_of_row row) → GivesRowOfParams steps s.names left (Some row) rest
-  gives_row s m rows left rest params row k came v =
-      let V : Names → Type 0 = λ n. given_by.values_of params n ≡ Ok (contents_of_row row) in
-      (params, came, subst V (by_names s m rows left k) v)
+    gives_row : (row : Vec Value) → given_by.values_of params m.names ≡ Ok (contents_of_row row) → NextRow (GivesRowOfParams steps s.names) (None, left) (Some row) (None, rest)
+    gives_row row v =
+        let V : Names → Type 0 = λ n. given_by.values_of params n ≡ Ok (contents_of_row row) in
+        (refl, (params, came, subst V by_names v))
 
-  pub params_more : (s m t : BuilderState) (rows left rest : S) (params : Params) → Taken (GivesRowOfParams steps s.names) s rows m left → steps left (Some params) rest → AddsParams m params (Ok None) t
-      → Taken (GivesRowOfParams steps s.names) s rows t rest
-  params_more s m t rows left rest params k came a = taken_more (GivesRowOfParams steps s.names) s m t rows left rest a.0 k (gives_row s m rows left rest params a.0 k came a.1) a.2
+    pub params_more : (t : BuilderState) → AddsParams m params (Ok None) t → Taken (GivesRowOfParams steps s.names) s (None, rows) t (None, rest)
+    params_more t a = taken_more (GivesRowOfParams steps s.names) k a.0 rest (gives_row a.0 a.1) t a.2
 
-  -- the next row does not fit with those that wait
-  pub params_full : (s m t : BuilderState) (rows left rest : S) (params : Params) (back : Vec Value) → Taken (GivesRowOfParams steps s.names) s rows m left → steps left (Some params) rest
-      → AddsParams m params (Ok (Some back)) t → AcceptsParamsUntilFull steps s.names s None rows (Ok (Some back)) t rest
-  params_full s m t rows left rest params back k came a = taken_full (GivesRowOfParams steps s.names) s m t rows left rest a.0 back k (gives_row s m rows left rest params a.0 k came a.1) a.2
+    -- the next row does not fit with those that wait
+    pub params_full : (t : BuilderState) (back : Vec Value) → AddsParams m params (Ok (Some back)) t → AcceptsParamsUntilFull steps s.names s None rows (Ok (Some back)) t rest
+    params_full t back a = taken_full (GivesRowOfParams steps s.names) k a.0 rest (gives_row a.0 a.1) t back a.2
 
-  -- the next parameters or their row are refused
-  pub params_refused : (s m t : BuilderState) (rows left rest : S) (params : Params) (e : BulkExecuteRequestBuilderError) → Taken (GivesRowOfParams steps s.names) s rows m left → steps left (Some params) rest
-      → AddsParams m params (Err e) t → AcceptsParamsUntilFull steps s.names s None rows (Err e) t rest
-  params_refused s m t rows left rest params (refused.Request e) k came a =
-      taken_refused (GivesRowOfParams steps s.names) s m t rows left rest a.0 e k (gives_row s m rows left rest params a.0 k came a.1) a.2
-  params_refused s m t rows left rest params (refused.Params e) k came a =
-      let R : Names → Type 0 = λ n. given_by.Refuses params n e in
-      record {
-        taken = k.taken;
-        before = left;
-        came = k.came;
-        params = params;
-        given = came;
-        refused = subst R (by_names s m rows left k) a.0;
-        accepts = subst (Accepts s _) (sym a.1) k.accepts;
-      }
+    -- the next parameters or their row are refused
+    pub params_refused : (t : BuilderState) (e : BulkExecuteRequestBuilderError) → AddsParams m params (Err e) t → AcceptsParamsUntilFull steps s.names s None rows (Err e) t rest
+    params_refused t (refused.Request e) a = taken_refused (GivesRowOfParams steps s.names) k a.0 rest (gives_row a.0 a.1) t e a.2
+    params_refused t (refused.Params e) a =
+        let R : Names → Type 0 = λ n. given_by.Refuses params n e in
+        record {
+          taken = k.taken;
+          before = left;
+          came = k.came;
+          params = params;
+          given = came;
+          refused = subst R by_names a.0;
+          accepts = subst (Accepts s _) (sym a.1) k.accepts;
+        }
 
   -- a carried row is accepted first
   pub params_carried : (s m t : BuilderState) (row : Vec Value) (rows left : S) (r : Result (Option (Vec Value)) BulkExecuteRequestBuilderError) → Adds s row (Ok None) m

@@ -1,5 +1,5 @@
 -- Runs of a builder over rows.
-use Rattle.std.proofs.Common.{◌≡◌, ◌≢◌, Bool, true, false, List, [], ◌∷◌, ◌++◌, Option, Some, None, Result, Ok, Err, refl, sym, subst, inr}
+use Rattle.std.proofs.Common.{◌≡◌, ◌≢◌, ◌+◌, ◌∙◌, ap, length, length-append, Bool, true, false, List, [], ◌∷◌, ◌++◌, Option, Some, None, Result, Ok, Err, refl, sym, subst, inr}
 use Rattle.std.proofs.lemmas.List.{map_push}
 use Rattle.std.proofs.iter.Next.{Yields-more}
 use Rattle.std.specs.Iterator.{Yields}
@@ -13,7 +13,7 @@ use Rattle.mysql_bulk.specs.Builder.{BuilderState}
 use Rattle.mysql_bulk.specs.Builder.{TakesRow, RowFits, after_row, Adds, Builds, BuildsRequest}
 use Rattle.mysql_bulk.specs.declared.error.BulkExecuteRequestBuilderError.TheVariants.{Request}
 use Rattle.mysql_bulk.specs.Request.{BulkRequest}
-use Rattle.mysql_bulk.specs.Run.{Accepts, NextRow, AcceptsUntilFull, RunState, AcceptedUntilFull, NextRequest, answers}
+use Rattle.mysql_bulk.specs.Run.{Accepts, NextRow, AcceptsUntilFull, RunState, AcceptedUntilFull, EndsEmpty, NextRequest, answers}
 use Rattle.std.specs.Prelude.{IfSome, MatchOption, is_none, is_some, not}
 
 -- one more row is accepted
@@ -26,6 +26,9 @@ Accepts-more s m t (r ∷ rows) row a n f e = (a.0, a.1, Accepts-more (after_row
 pub Accepts-append : (s m t : BuilderState) (rows others : List (List Content)) → Accepts s rows m → Accepts m others t → Accepts s (rows ++ others) t
 Accepts-append s m t [] others a b = subst (λ s. Accepts s others t) a b
 Accepts-append s m t (r ∷ rows) others a b = (a.0, a.1, Accepts-append (after_row s r) m t rows others a.2 b)
+
+pub one_longer : (s t : BuilderState) (row : List Content) → t ≡ after_row s row → length t.waiting ≡ length s.waiting + 1
+one_longer s t row e = ap (λ (b : BuilderState). length b.waiting) e ∙ length-append s.waiting (row ∷ [])
 
 -- a refusal leaves the state unchanged
 pub Adds-refused : (s t : BuilderState) (row : Vec Value) (e : BulkExecuteRequestError) → Adds s row (Err e) t → t ≡ s
@@ -63,48 +66,41 @@ none_built s t NoParams b = b
 none_built s t Memory b = absurd b
 
 module _ {S : Type 0} (steps : S → Option (Vec Value) → S → Type 0) where
-  -- some rows of the input were accepted
-  pub record Taken (s : BuilderState) (rows : S) (t : BuilderState) (left : S) : Type 0 where
+  -- some of the next rows were accepted, from one place of the input to another
+  pub record Taken (s : BuilderState) (start : Option (Vec Value) × S) (t : BuilderState) (place : Option (Vec Value) × S) : Type 0 where
     pub taken : List (Vec Value)
-    pub came : Yields (NextRow steps) (None, rows) taken (None, left)
+    pub came : Yields (NextRow steps) start taken place
     pub accepts : Accepts s (contents_of_rows taken) t
 
-  pub taken_none : (s : BuilderState) (rows : S) → Taken s rows s rows
-  taken_none s rows = record { taken = []; came = refl; accepts = refl }
+  pub taken_none : (s : BuilderState) (start : Option (Vec Value) × S) → Taken s start s start
+  taken_none s start = record { taken = []; came = refl; accepts = refl }
 
-  pub taken_more : (s m t : BuilderState) (rows left rest : S) (row : Vec Value) → Taken s rows m left → steps left (Some row) rest → Adds m row (Ok None) t → Taken s rows t rest
-  taken_more s m t rows left rest row k came a = record {
-    taken = k.taken ++ row ∷ [];
-    came = Yields-more (NextRow steps) (None, rows) k.taken (None, left) row (None, rest) k.came (refl, came);
-    accepts = subst (λ l. Accepts s l t) (sym (map_push contents_of_row k.taken row)) (Accepts-more s m t (contents_of_rows k.taken) (contents_of_row row) k.accepts a.0 a.1 a.2);
-  }
+  module _ {s m : BuilderState} {start place : Option (Vec Value) × S} (k : Taken s start m place) (row : Vec Value) (rest : S) (next : NextRow steps place (Some row) (None, rest)) where
+    -- the next row is accepted too
+    pub taken_more : (t : BuilderState) → Adds m row (Ok None) t → Taken s start t (None, rest)
+    taken_more t a = record {
+      taken = k.taken ++ row ∷ [];
+      came = Yields-more (NextRow steps) start k.taken place row (None, rest) k.came next;
+      accepts = subst (λ l. Accepts s l t) (sym (map_push contents_of_row k.taken row)) (Accepts-more s m t (contents_of_rows k.taken) (contents_of_row row) k.accepts a.0 a.1 a.2);
+    }
 
-  -- the next row does not fit with those that wait
-  pub taken_full : (s m t : BuilderState) (rows left rest : S) (row back : Vec Value) → Taken s rows m left → steps left (Some row) rest → Adds m row (Ok (Some back)) t → AcceptsUntilFull steps s None rows (Ok (Some back)) t rest
-  taken_full s m t rows left rest row back k came a =
-      let P : BuilderState → Type 0 = λ u. AcceptsUntilFull steps s None rows (Ok (Some back)) u rest in
-      let C : Vec Value → Type 0 = λ r. NextRow steps (None, left) (Some r) (None, rest) in
-      let first : AcceptsUntilFull steps s None rows (Ok (Some back)) m rest = (
-        k.taken,
-        ((None, left), k.came, subst C (sym a.3) (refl, came)),
-        k.accepts,
-        (let A : Vec Value → Type 0 = λ r. Adds m r (Ok (Some r)) m in subst A (sym a.3) (a.0, a.1, a.2, refl, refl)),
-      ) in
-      subst P (sym a.4) first
+    -- it does not fit with those that wait
+    pub taken_full : (t : BuilderState) (back : Vec Value) → Adds m row (Ok (Some back)) t → AcceptsUntilFull steps s start.0 start.1 (Ok (Some back)) t rest
+    taken_full t back a = rw (a.3, a.4) (k.taken, (place, k.came, next), k.accepts, (a.0, a.1, a.2, refl, refl))
 
-  -- the next row is refused
-  pub taken_refused : (s m t : BuilderState) (rows left rest : S) (row : Vec Value) (e : BulkExecuteRequestError) → Taken s rows m left → steps left (Some row) rest → Adds m row (Err e) t → AcceptsUntilFull steps s None rows (Err e) t rest
-  taken_refused s m t rows left rest row e k came a =
-      let same = Adds-refused m t row e a in
-      let P : BuilderState → Type 0 = λ u. AcceptsUntilFull steps s None rows (Err e) u rest in
-      let A : BuilderState → Type 0 = λ u. Adds m row (Err e) u in
-      subst P (sym same) (k.taken, row, ((None, left), k.came, (refl, came)), k.accepts, subst A same a)
+    -- it is refused
+    pub taken_refused : (t : BuilderState) (e : BulkExecuteRequestError) → Adds m row (Err e) t → AcceptsUntilFull steps s start.0 start.1 (Err e) t rest
+    taken_refused t e a =
+        let same = Adds-refused m t row e a in
+        let P : BuilderState → Type 0 = λ u. AcceptsUntilFull steps s start.0 start.1 (Err e) u rest in
+        let A : BuilderState → Type 0 = λ u. Adds m row (Err e) u in
+        subst P (sym same) (k.taken, row, (place, k.came, next), k.accepts, subst A same a)
 
   -- no row is left
-  pub taken_end : (s m : BuilderState) (rows left rest : S) → Taken s rows m left → steps left None rest → AcceptsUntilFull steps s None rows (Ok None) m rest
-  taken_end s m rows left rest k came = (k.taken, ((None, left), k.came, (refl, came)), k.accepts, tt)
+  pub taken_end : {s m : BuilderState} {rows left : S} (rest : S) → Taken s (None, rows) m (None, left) → steps left None rest → AcceptsUntilFull steps s None rows (Ok None) m rest
+  taken_end {left = left} rest k came = (k.taken, ((None, left), k.came, (refl, came)), k.accepts, tt)
 
-  -- a carried row is accepted first
+  -- a carried row is accepted before others
   pub carried_more : (s m t : BuilderState) (row : Vec Value) (rows left : S) (r : Result (Option (Vec Value)) BulkExecuteRequestError) → Adds s row (Ok None) m → AcceptsUntilFull steps m None rows r t left → AcceptsUntilFull steps s (Some row) rows r t left
   carried_more s m t row rows left (Ok last) a f =
       let A : BuilderState → Type 0 = λ u. Accepts u (contents_of_rows f.0) t in
@@ -114,17 +110,10 @@ module _ {S : Type 0} (steps : S → Option (Vec Value) → S → Type 0) where
       (row ∷ f.0, f.1, (f.2.0, ((None, rows), (refl, refl, refl), f.2.1), f.2.2), (a.0, a.1, subst A a.2 f.3), f.4)
 
   pub carried_full : (s t : BuilderState) (row back : Vec Value) (rows : S) → Adds s row (Ok (Some back)) t → AcceptsUntilFull steps s (Some row) rows (Ok (Some back)) t rows
-  carried_full s t row back rows a =
-      let P : BuilderState → Type 0 = λ u. AcceptsUntilFull steps s (Some row) rows (Ok (Some back)) u rows in
-      let A : Vec Value → Type 0 = λ r. Adds s r (Ok (Some r)) s in
-      subst P (sym a.4) ([], ((Some row, rows), refl, (a.3, refl, refl)), refl, subst A (sym a.3) (a.0, a.1, a.2, refl, refl))
+  carried_full s t row back rows a = taken_full (taken_none s (Some row, rows)) row rows (refl, refl, refl) t back a
 
   pub carried_refused : (s t : BuilderState) (row : Vec Value) (e : BulkExecuteRequestError) (rows : S) → Adds s row (Err e) t → AcceptsUntilFull steps s (Some row) rows (Err e) t rows
-  carried_refused s t row e rows a =
-      let same = Adds-refused s t row e a in
-      let P : BuilderState → Type 0 = λ u. AcceptsUntilFull steps s (Some row) rows (Err e) u rows in
-      let A : BuilderState → Type 0 = λ u. Adds s row (Err e) u in
-      subst P (sym same) ([], row, ((Some row, rows), refl, (refl, refl, refl)), refl, subst A same a)
+  carried_refused s t row e rows a = taken_refused (taken_none s (Some row, rows)) row rows (refl, refl, refl) t e a
 
   -- ---- what a call of `next` leads to
 
@@ -140,19 +129,12 @@ module _ {S : Type 0} (steps : S → Option (Vec Value) → S → Type 0) where
       → NextRequest steps (state s carried rows e) (Some (Err (Request err))) (state t None left true)
   next_refuses s t carried rows left e err g a = record { going = g; taken = a.0; row = a.1; came = a.2; accepts = a.3; refused = a.4; carried = refl; ended = refl }
 
-  next_empty : (s m : BuilderState) (carried last : Option (Vec Value)) (rows left : S) (e : Bool) → e ≡ false → AcceptsUntilFull steps s carried rows (Ok last) m left → m.waiting ≡ []
-      → NextRequest steps (state s carried rows e) None (state m last left (is_none last))
-  next_empty s m carried None rows left e g a w =
-      inr (record { accepted = accepted_until s m m carried None rows left e (is_none {T = Vec Value} None) g a; carried = refl; waiting = w; ended = refl })
-  next_empty s m carried (Some row) rows left e g a w = absurd (a.3.2 w)
-
   -- rows were added, and then the request of those that wait was built, if any wait
   pub next_builds : (s m t : BuilderState) (carried last : Option (Vec Value)) (rows left : S) (e ended : Bool) (built : Option BulkRequest) → e ≡ false → AcceptsUntilFull steps s carried rows (Ok last) m left
       → is_none last ≡ ended → MatchOption built ((m.waiting ≡ []) × (t ≡ m)) (λ request. BuildsRequest m request t)
       → NextRequest steps (state s carried rows e) (answers built) (state t last left ended)
-  next_builds s m t carried last rows left e ended None g a l w =
-      let N : BuilderState → Bool → Type 0 = λ u b. NextRequest steps (state s carried rows e) None (state u last left b) in
-      subst (λ u. N u ended) (sym w.1) (subst (N m) l (next_empty s m carried last rows left e g a w.0))
-  next_builds s m t carried last rows left e ended (Some request) g a l w =
-      let N : Bool → Type 0 = λ b. NextRequest steps (state s carried rows e) (Some (Ok request)) (state t last left b) in
-      subst N l (record { full = m; accepted = accepted_until s m t carried last rows left e (is_none last) g a; builds = w; ended = refl })
+  next_builds s m t carried None rows left e ended None g a l w =
+      let E : BuilderState → Type 0 = λ u. EndsEmpty steps (state s carried rows e) (state u None left ended) in
+      inr (subst E (sym w.1) (record { accepted = accepted_until s m m carried None rows left e ended g a; carried = refl; waiting = w.0; ended = sym l }))
+  next_builds s m t carried (Some row) rows left e ended None g a l w = absurd (a.3.2 w.0)
+  next_builds s m t carried last rows left e ended (Some request) g a l w = record { full = m; accepted = accepted_until s m t carried last rows left e ended g a; builds = w; ended = sym l }
