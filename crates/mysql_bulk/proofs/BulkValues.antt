@@ -1,5 +1,5 @@
 -- Rows of values, DEFAULT and IGNORE, cell by cell.
-use Rattle.std.proofs.Common.{◌≡◌, ◌≢◌, ℕ, zero, suc, ◌+◌, ◌<◌, ◌&&◌, true, false, List, [], ◌∷◌, ◌++◌, length, map, drop, get_or, add-one, refl, sym, ◌∙◌, ap, arith}
+use Rattle.std.proofs.Common.{◌≡◌, ◌≢◌, ℕ, suc, ◌+◌, ◌<◌, ◌&&◌, true, false, List, [], ◌∷◌, ◌++◌, length, map, drop, drop-cons, get_or, add-one, refl, sym, ◌∙◌, ap, arith}
 use Rattle.std.proofs.lemmas.Bool.{and_parts, false_from_ne_true}
 use Rattle.std.proofs.lemmas.List.{length-map}
 use Rattle.mysql_values.specs.declared.param_type.ParamType.{ParamType}
@@ -19,24 +19,8 @@ not_as_long types row n = false_from_ne_true (spells_cells types (map cell_of ro
 -- one cell, and those after it
 pub spells_from : (types : List ParamType) (row : List BulkValue) (i : ℕ) (d : ParamType) (e : BulkValue) → length types ≡ length row → i < length row
     → spells_cells (drop i types) (map cell_of (drop i row)) ≡ (spells_cell (get_or types i d) (cell_of (get_or row i e)) && spells_cells (drop (i + 1) types) (map cell_of (drop (i + 1) row)))
-spells_from types row i d e same lt = rw add-one (from types row i d e same lt)
-  where
-    from : (types : List ParamType) (row : List BulkValue) (i : ℕ) (d : ParamType) (e : BulkValue) → length types ≡ length row → i < length row
-        → spells_cells (drop i types) (map cell_of (drop i row)) ≡ (spells_cell (get_or types i d) (cell_of (get_or row i e)) && spells_cells (drop (suc i) types) (map cell_of (drop (suc i) row)))
-    from [] [] i d e same lt = absurd (omega (arith, lt))
-    from [] (v ∷ row) i d e same lt = absurd (omega (arith, same))
-    from (t ∷ types) [] i d e same lt = absurd (omega (arith, same))
-    from (t ∷ types) (v ∷ row) zero d e same lt = refl
-    from (t ∷ types) (v ∷ row) (suc i) d e same lt = from types row i d e (omega (arith, same)) (omega (arith, lt))
+spells_from types row i d e same lt = rw (add-one, drop-cons types i d (omega arith), drop-cons row i e lt) refl
 
 pub bytes_from : (types : List ParamType) (row : List BulkValue) (i : ℕ) (d : ParamType) (e : BulkValue) → length types ≡ length row → i < length row
     → cells_bytes (drop i types) (map cell_of (drop i row)) ≡ cell_bytes (get_or types i d) (cell_of (get_or row i e)) ++ cells_bytes (drop (i + 1) types) (map cell_of (drop (i + 1) row))
-bytes_from types row i d e same lt = rw add-one (from types row i d e same lt)
-  where
-    from : (types : List ParamType) (row : List BulkValue) (i : ℕ) (d : ParamType) (e : BulkValue) → length types ≡ length row → i < length row
-        → cells_bytes (drop i types) (map cell_of (drop i row)) ≡ cell_bytes (get_or types i d) (cell_of (get_or row i e)) ++ cells_bytes (drop (suc i) types) (map cell_of (drop (suc i) row))
-    from [] [] i d e same lt = absurd (omega (arith, lt))
-    from [] (v ∷ row) i d e same lt = absurd (omega (arith, same))
-    from (t ∷ types) [] i d e same lt = absurd (omega (arith, same))
-    from (t ∷ types) (v ∷ row) zero d e same lt = refl
-    from (t ∷ types) (v ∷ row) (suc i) d e same lt = from types row i d e (omega (arith, same)) (omega (arith, lt))
+bytes_from types row i d e same lt = rw (add-one, drop-cons types i d (omega arith), drop-cons row i e lt) refl

@@ -1,5 +1,5 @@
 -- Rows that declared types can encode, and the types of their request.
-use Rattle.std.proofs.Common.{◌≡◌, ◌≢◌, ◌⊎◌, inl, inr, ℕ, zero, suc, Bool, true, false, ◌&&◌, List, [], ◌∷◌, ◌++◌, length, Option, Some, None, refl, sym, ◌∙◌, ap, arith, ◌+◌, ◌<◌, drop, get_or, add-one, ◌≤◌}
+use Rattle.std.proofs.Common.{◌≡◌, ◌≢◌, ◌⊎◌, inl, inr, ℕ, suc, Bool, true, false, ◌&&◌, List, [], ◌∷◌, ◌++◌, length, Option, Some, None, refl, sym, ◌∙◌, ap, arith, ◌+◌, ◌<◌, drop, drop-cons, get_or, add-one, ◌≤◌}
 use Rattle.std.proofs.lemmas.Grind.{common_steps}
 use Rattle.std.specs.Prelude.{All, map, IsTrue, not, position}
 use Rattle.std.specs.List.{position_or_len}
@@ -28,15 +28,7 @@ not_as_long content types row n = false_from_ne_true (spell_row types (map conte
 
 spell_from : {V : Type 0} (content : V → Content) (types : List ParamType) (row : List V) (i : ℕ) (d : ParamType) (e : V) → length types ≡ length row → i < length row
     → spell_row (drop i types) (map content (drop i row)) ≡ (can_encode (get_or types i d) (content (get_or row i e)) && spell_row (drop (i + 1) types) (map content (drop (i + 1) row)))
-spell_from {V} content types row i d e same lt = rw add-one (from types row i d e same lt)
-  where
-    from : (types : List ParamType) (row : List V) (i : ℕ) (d : ParamType) (e : V) → length types ≡ length row → i < length row
-        → spell_row (drop i types) (map content (drop i row)) ≡ (can_encode (get_or types i d) (content (get_or row i e)) && spell_row (drop (suc i) types) (map content (drop (suc i) row)))
-    from [] [] i d e same lt = absurd (omega (arith, lt))
-    from [] (v ∷ row) i d e same lt = absurd (omega (arith, same))
-    from (t ∷ types) [] i d e same lt = absurd (omega (arith, same))
-    from (t ∷ types) (v ∷ row) zero d e same lt = refl
-    from (t ∷ types) (v ∷ row) (suc i) d e same lt = from types row i d e (omega (arith, same)) (omega (arith, lt))
+spell_from content types row i d e same lt = rw (add-one, drop-cons types i d (omega arith), drop-cons row i e lt) refl
 
 -- one more value can be encoded
 pub spell_next : {V : Type 0} (content : V → Content) (types : List ParamType) (row : List V) (i : ℕ) (d : ParamType) (value : V) (b : Bool) → length types ≡ length row → i < length row → b ≡ can_encode (get_or types i d) (content value)

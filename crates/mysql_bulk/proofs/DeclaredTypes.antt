@@ -7,7 +7,7 @@ use Rattle.std.proofs.lemmas.List.{ext_get_or}
 use Rattle.std.proofs.lemmas.List.FromFn.{get_or-map-range_with_len, length-map-range_with_len}
 use Rattle.mysql_values.specs.SentType.{is_uint}
 use Rattle.mysql_values.specs.Value.{Content}
-use Rattle.mysql_values.specs.Value.{NULL, Bytes, Int, UInt, Float, Double, Date, Time}
+use Rattle.mysql_values.specs.Value.{NULL, Int, UInt}
 use Rattle.mysql_wire.specs.declared.codes.column_type.ColumnType.TheVariants as column
 use Rattle.mysql_values.specs.declared.param_type.ParamType.{ParamType}
 use Rattle.mysql_bulk.specs.Row.{EqualLengths}
@@ -16,43 +16,16 @@ use Rattle.mysql_bulk.specs.DeclaredTypes.{first_not_null, type_from, declared_t
 
 -- ---- a column
 
-bytes_stay : (values : List Content) → fold type_with (typed column.MYSQL_TYPE_VAR_STRING false) values ≡ typed column.MYSQL_TYPE_VAR_STRING false
-bytes_stay [] = refl
-bytes_stay (v ∷ values) = bytes_stay values
-
-floats_stay : (values : List Content) → fold type_with (typed column.MYSQL_TYPE_FLOAT false) values ≡ typed column.MYSQL_TYPE_FLOAT false
-floats_stay [] = refl
-floats_stay (v ∷ values) = floats_stay values
-
-doubles_stay : (values : List Content) → fold type_with (typed column.MYSQL_TYPE_DOUBLE false) values ≡ typed column.MYSQL_TYPE_DOUBLE false
-doubles_stay [] = refl
-doubles_stay (v ∷ values) = doubles_stay values
-
-dates_stay : (values : List Content) → fold type_with (typed column.MYSQL_TYPE_DATETIME false) values ≡ typed column.MYSQL_TYPE_DATETIME false
-dates_stay [] = refl
-dates_stay (v ∷ values) = dates_stay values
-
-times_stay : (values : List Content) → fold type_with (typed column.MYSQL_TYPE_TIME false) values ≡ typed column.MYSQL_TYPE_TIME false
-times_stay [] = refl
-times_stay (v ∷ values) = times_stay values
+-- a type that no value changes
+stays : (t : ParamType) → ((v : Content) → type_with t v ≡ t) → (values : List Content) → fold type_with t values ≡ t
+stays t same [] = refl
+stays t same (v ∷ values) = ap (λ (u : ParamType). fold type_with u values) (same v) ∙ stays t same values
 
 numbers_join : (u : Bool) (v : Content) → type_with (typed column.MYSQL_TYPE_LONGLONG u) v ≡ typed column.MYSQL_TYPE_LONGLONG (u || is_uint v)
 numbers_join true NULL = refl
-numbers_join true (Bytes b) = refl
-numbers_join true (Int n) = refl
-numbers_join true (UInt n) = refl
-numbers_join true (Float n) = refl
-numbers_join true (Double n) = refl
-numbers_join true (Date t) = refl
-numbers_join true (Time t) = refl
+numbers_join true v = refl
 numbers_join false NULL = refl
-numbers_join false (Bytes b) = refl
-numbers_join false (Int n) = refl
-numbers_join false (UInt n) = refl
-numbers_join false (Float n) = refl
-numbers_join false (Double n) = refl
-numbers_join false (Date t) = refl
-numbers_join false (Time t) = refl
+numbers_join false v = refl
 
 numbers_stay : (u : Bool) (values : List Content) → fold type_with (typed column.MYSQL_TYPE_LONGLONG u) values ≡ typed column.MYSQL_TYPE_LONGLONG (u || list_any is_uint values)
 numbers_stay true [] = refl
@@ -63,25 +36,15 @@ numbers_stay u (v ∷ values) =
 
 null_first : (value : Content) (values : List Content) → type_from value values ≡ type_from value (NULL ∷ values)
 null_first NULL values = refl
-null_first (Bytes b) values = refl
-null_first (Int n) values = refl
-null_first (UInt n) values = refl
-null_first (Float n) values = refl
-null_first (Double n) values = refl
-null_first (Date t) values = refl
-null_first (Time t) values = refl
+null_first value values = refl
 
 -- the type after all values of a column is its declared type
 pub type_of_column : (values : List Content) → fold type_with (type_of NULL) values ≡ declared_type values
 type_of_column [] = refl
 type_of_column (NULL ∷ values) = type_of_column values ∙ null_first (first_not_null values) values
-type_of_column (Bytes b ∷ values) = bytes_stay values
 type_of_column (Int n ∷ values) = numbers_stay false values
 type_of_column (UInt n ∷ values) = numbers_stay true values
-type_of_column (Float n ∷ values) = floats_stay values
-type_of_column (Double n ∷ values) = doubles_stay values
-type_of_column (Date t ∷ values) = dates_stay values
-type_of_column (Time t ∷ values) = times_stay values
+type_of_column (value ∷ values) = stays (type_of value) (λ v. refl) values
 
 -- ---- the columns of rows
 

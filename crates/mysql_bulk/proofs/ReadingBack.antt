@@ -19,7 +19,7 @@ use Rattle.mysql_cuts.specs.Cut.{rows_in}
 use Rattle.mysql_values.specs.declared.param_type.ParamType.{ParamType}
 use Rattle.mysql_values.specs.ReadingBack.{Agrees}
 use Rattle.mysql_values.specs.SentType.{is_uint}
-use Rattle.mysql_values.specs.Value.{Content, NULL, Bytes, Int, UInt, Float, Double, Date, Time, bin}
+use Rattle.mysql_values.specs.Value.{Content, NULL, Int, UInt, bin}
 use Rattle.mysql_bulk.specs.Builder.{BuilderState, IsRequest}
 use Rattle.mysql_values.specs.ValueKind.{kind_of, is_longlong}
 use Rattle.mysql_bulk.specs.ColumnTypes.{is_declarable_type, is_declarable, TakesTypes, types_of_rows}
@@ -49,13 +49,7 @@ param_value-again column v a rest =
 -- a value that matches its column's type matches its indicator
 pub indicated : (column : BulkColumn) (v : Content) → Agrees column.0 (has column.1.0 UNSIGNED_FLAG) v → ParamValueAgrees column (with_indicator v)
 indicated column NULL a = λ rest. (refl, refl)
-indicated column (Bytes x) a = a
-indicated column (Int x) a = a
-indicated column (UInt x) a = a
-indicated column (Float x) a = a
-indicated column (Double x) a = a
-indicated column (Date x) a = a
-indicated column (Time x) a = a
+indicated column v a = a
 
 pub values-again : (place : ℕ) (columns : List BulkColumn) (values : List ParamValue) → AllZip ParamValueAgrees columns values → IsSpelling (each value_of_column place columns) values (values_bytes values)
 unfolding each
@@ -165,14 +159,9 @@ typed_small true = omega arith
 typed_small false = omega arith
 
 type_small : (first : Content) (values : List Content) → (type_from first values).flags.0 < 2 ^ 8
-type_small NULL values = omega arith
-type_small (Bytes x) values = omega arith
 type_small (Int x) values = typed_small (list_any is_uint values)
 type_small (UInt x) values = typed_small (list_any is_uint values)
-type_small (Float x) values = omega arith
-type_small (Double x) values = omega arith
-type_small (Date x) values = omega arith
-type_small (Time x) values = omega arith
+type_small first values = omega arith
 
 -- a declarable type has at most one flag
 pub declarable_small : (kind : ParamType) → is_declarable kind ≡ true → kind.flags.0 < 2 ^ 8

@@ -64,17 +64,12 @@ agrees_as t u (Time x) e s r = agrees-by_kind t.column_type u (Time x) s r
 
 -- its bytes are those under its own type
 same_bytes : (u : Bool) (v : Content) → param_value_bytes (with_indicator v) ≡ param_value_bytes (with_indicator (as_signed u v))
-same_bytes u NULL = refl
-same_bytes u (Bytes b) = refl
 same_bytes true (Int (pos n)) = refl
 same_bytes false (Int (pos n)) = refl
 same_bytes u (Int (negsuc n)) = refl
 same_bytes true (UInt n) = refl
 same_bytes false (UInt n) = refl
-same_bytes u (Float x) = refl
-same_bytes u (Double x) = refl
-same_bytes u (Date x) = refl
-same_bytes u (Time x) = refl
+same_bytes u v = refl
 
 -- ---- a row
 
