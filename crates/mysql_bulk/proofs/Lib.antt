@@ -19,6 +19,7 @@ pub mod BuilderEq
 pub mod HeadTypes
 pub mod Memory
 pub mod NoColumns
+pub mod WrittenRows
 pub mod RequestWriter
 pub mod CollectedRows
 pub mod StreamedRows

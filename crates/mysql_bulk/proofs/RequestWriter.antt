@@ -1,6 +1,7 @@
 -- What a request writer has written, and the builder with the same rows.
-use Rattle.std.proofs.Common.{◌≡◌, ◌≢◌, ℕ, ◌+◌, ◌*◌, Bool, true, false, if◌then◌else◌, List, [], ◌∷◌, ◌++◌, length, map, Some, Ok, Err, IsTrue, refl, sym, ◌∙◌, ap, subst, arith, append_assoc, length-append}
+use Rattle.std.proofs.Common.{◌≡◌, ◌≢◌, ℕ, ◌+◌, ◌*◌, Bool, true, false, if◌then◌else◌, List, [], ◌∷◌, ◌++◌, length, map, Some, Ok, Err, IsTrue, refl, sym, ◌∙◌, ap, subst, arith, length-append}
 use Rattle.std.specs.Prelude.{All}
+use Rattle.std.specs.List.{flat_map}
 use Rattle.std.proofs.lemmas.Grind.{flat_map-append}
 use Rattle.std.proofs.lemmas.List.{append-nil, length-map, map-append}
 use Rattle.std.proofs.lemmas.List.Elements.{All-nil, All-head, All-push}
@@ -17,6 +18,7 @@ use Rattle.mysql_bulk.specs.ColumnTypes.{TakesTypes, spell_row}
 use Rattle.mysql_bulk.specs.ParamValue.{cell, with_indicator, param_value_bytes, values_bytes}
 use Rattle.mysql_bulk.specs.Request.{request_bytes}
 use Rattle.mysql_bulk.specs.RequestWriter.{WriterState, as_builder, request_of, bytes_so_far, Holds, IsBuilt, AddsAsBuilder, FinishesAsBuilder, cells_bytes, head_bytes, with_row}
+use Rattle.mysql_bulk.proofs.WrittenRows.{written, first_written, further_written, none_counted, some_counted}
 use Rattle.mysql_bulk.specs.Row.{row_size, rows_packing, first_length}
 use Rattle.mysql_bulk.proofs.ColumnTypes.{spelled_long}
 use Rattle.mysql_bulk.proofs.RequestBytes.{length-values, contents_indicators, size_of_rows}
@@ -38,37 +40,19 @@ pub length-sent : (due : Bool) (types : List ParamType) → 2 * length (if due t
 length-sent true types = refl
 length-sent false types = refl
 
--- ---- the bytes of a request, and of one row more
+-- ---- the bytes of a request, row by row
 
-values_more : (rows : List (List Content)) (row : List Content) → map with_indicator (rows_in (rows ++ row ∷ [])) ≡ map with_indicator (rows_in rows) ++ map with_indicator row
-values_more [] row = ap (map with_indicator) (append-nil row)
-values_more (r ∷ rows) row =
-    map-append with_indicator r (rows_in (rows ++ row ∷ []))
-    ∙ ap (λ l. map with_indicator r ++ l) (values_more rows row)
-    ∙ sym (append_assoc (map with_indicator r) (map with_indicator (rows_in rows)) (map with_indicator row))
-    ∙ ap (λ l. l ++ map with_indicator row) (sym (map-append with_indicator r (rows_in rows)))
+abbrev row_bytes : List Content → List ℕ
+row_bytes row = values_bytes (map with_indicator row)
 
-pub first_bytes : (w : WriterState) (row : List ValueRef) → bytes_so_far (as_builder w (map ref_content row ∷ [])) (map ref_content row ∷ []) ≡ head_bytes w ++ cells_bytes row
-first_bytes w row =
-    let values = map ref_content row in
-    ap (λ (l : List ℕ). head_bytes w ++ l)
-    (append-nil (values_bytes (map with_indicator (values ++ [])))
-    ∙ ap (λ (l : List Content). values_bytes (map with_indicator l)) (append-nil values)
-    ∙ sym (cells_of row))
+values_by_row : (rows : List (List Content)) → values_bytes (map with_indicator (rows_in rows)) ≡ flat_map row_bytes rows
+values_by_row [] = refl
+values_by_row (row ∷ rows) =
+    ap values_bytes (map-append with_indicator row (rows_in rows)) ∙ flat_map-append param_value_bytes (map with_indicator row) (map with_indicator (rows_in rows)) ∙ ap (λ (l : List ℕ). row_bytes row ++ l) (values_by_row rows)
 
-pub further_bytes : (w : WriterState) (rows : List (List Content)) (row : List ValueRef) → rows ≢ []
-    → bytes_so_far (as_builder w (rows ++ map ref_content row ∷ [])) (rows ++ map ref_content row ∷ []) ≡ bytes_so_far (as_builder w rows) rows ++ cells_bytes row
-further_bytes w [] row some = absurd (some refl)
-further_bytes w (r ∷ rows) row some =
-    let values = map with_indicator (map ref_content row) in
-    let before = map with_indicator (rows_in (r ∷ rows)) in
-    ap (λ l. head_bytes w ++ (values_bytes l ++ [])) (values_more (r ∷ rows) (map ref_content row))
-    ∙ ap (λ (l : List ℕ). head_bytes w ++ l)
-    (append-nil (values_bytes (before ++ values))
-    ∙ flat_map-append param_value_bytes before values
-    ∙ ap (λ (l : List ℕ). values_bytes before ++ l) (sym (cells_of row)))
-    ∙ sym (append_assoc (head_bytes w) (values_bytes before) (cells_bytes row))
-    ∙ ap (λ (l : List ℕ). (head_bytes w ++ l) ++ cells_bytes row) (sym (append-nil (values_bytes before)))
+bytes_by_row : (w : WriterState) (rows : List (List Content)) → bytes_so_far (as_builder w rows) rows ≡ written (head_bytes w) row_bytes rows
+bytes_by_row w [] = refl
+bytes_by_row w (row ∷ rows) = ap (λ (l : List ℕ). head_bytes w ++ l) (append-nil (values_bytes (map with_indicator (rows_in (row ∷ rows)))) ∙ values_by_row (row ∷ rows))
 
 -- ---- a row is offered
 
@@ -91,14 +75,6 @@ holds_more w rows row size capacity before h t f total bytes =
 -- the builder accepts it too
 pub builder_more : (w : WriterState) (rows : List (List Content)) (row : List Content) → TakesRow (as_builder w rows) row → as_builder w (rows ++ row ∷ []) ≡ after_row (as_builder w rows) row
 builder_more w rows row t = ap (λ (n : ℕ). record (as_builder w (rows ++ row ∷ [])) { arity = Some n }) (sym t.0)
-
--- no row is waiting if none was counted
-pub none_counted : (w : WriterState) (rows : List (List Content)) → Holds w rows → w.count ≡ 0 → rows ≡ []
-none_counted w [] h e = refl
-none_counted w (row ∷ rows) h e = absurd (omega (arith, h.count, e))
-
-pub some_counted : (w : WriterState) (rows : List (List Content)) → Holds w rows → w.count ≢ 0 → rows ≢ []
-some_counted w rows h n e = n (h.count ∙ ap length e)
 
 -- ---- the request
 
@@ -154,30 +130,29 @@ wrote w row size capacity before long spells fits total bytes = λ rows h.
       (t, fits rows h, builder_more w rows (map ref_content row) t),
     )
 
-first_after : (w : WriterState) (rows : List (List Content)) (row : List ValueRef) → rows ≡ [] → w.bytes ≡ bytes_so_far (as_builder w rows) rows
-    → bytes_so_far (as_builder w (rows ++ map ref_content row ∷ [])) (rows ++ map ref_content row ∷ []) ≡ (w.bytes ++ head_bytes w) ++ cells_bytes row
-first_after w [] row e b = first_bytes w row ∙ ap (λ (l : List ℕ). (l ++ head_bytes w) ++ cells_bytes row) (sym b)
-first_after w (r ∷ rows) row e b = cc
-
 pub wrote_first : (w : WriterState) (row : List ValueRef) (size capacity : ℕ) → length row ≡ length w.types → Spells w row → EachFits w row → size ≡ w.size + row_size (map ref_content row) → w.count ≡ 0
     → AddsAsBuilder w (map ref_content row) (Ok true) (with_row w (w.bytes ++ head_bytes w) size capacity (cells_bytes row))
-wrote_first w row size capacity long spells fits total empty = wrote w row size capacity (w.bytes ++ head_bytes w) long spells fits total (λ rows h. first_after w rows row (none_counted w rows h empty) h.bytes)
+wrote_first w row size capacity long spells fits total empty = wrote w row size capacity (w.bytes ++ head_bytes w) long spells fits total (λ rows h.
+    bytes_by_row w (rows ++ map ref_content row ∷ []) ∙ first_written (head_bytes w) row_bytes rows (map ref_content row) w.bytes (none_counted rows h.count empty) (h.bytes ∙ bytes_by_row w rows)
+    ∙ ap (λ (l : List ℕ). (w.bytes ++ head_bytes w) ++ l) (sym (cells_of row)))
 
 pub wrote_further : (w : WriterState) (row : List ValueRef) (size capacity : ℕ) → length row ≡ length w.types → Spells w row → EachFits w row → size ≡ w.size + row_size (map ref_content row) → w.count ≢ 0
     → AddsAsBuilder w (map ref_content row) (Ok true) (with_row w w.bytes size capacity (cells_bytes row))
 wrote_further w row size capacity long spells fits total some =
-    wrote w row size capacity w.bytes long spells fits total (λ rows h. further_bytes w rows row (some_counted w rows h some) ∙ ap (λ (l : List ℕ). l ++ cells_bytes row) (sym h.bytes))
+    wrote w row size capacity w.bytes long spells fits total (λ rows h.
+    bytes_by_row w (rows ++ map ref_content row ∷ []) ∙ further_written (head_bytes w) row_bytes rows (map ref_content row) w.bytes (some_counted rows h.count some) (h.bytes ∙ bytes_by_row w rows)
+    ∙ ap (λ (l : List ℕ). w.bytes ++ l) (sym (cells_of row)))
 
 -- ---- after the request
 
 pub nothing_finished : (w : WriterState) → w.count ≡ 0 → FinishesAsBuilder w w
 nothing_finished w empty = λ rows h.
-    let e = none_counted w rows h empty in
+    let e = none_counted rows h.count empty in
     (Err request_refused.NoParams, subst (Holds w) e h, (e, ap (as_builder w) (sym e)))
 
 pub request_finished : (w : WriterState) (bytes : List ℕ) (capacity : ℕ) → w.count ≢ 0 → bytes ≡ []
     → FinishesAsBuilder w (record w { types_due = w.rule.types_always; count = 0; size = 0; bytes = bytes; capacity = capacity })
 request_finished w bytes capacity some none = λ rows h.
-    let built = holds_request w rows h (some_counted w rows h some) in
+    let built = holds_request w rows h (some_counted rows h.count some) in
     let left = record w { types_due = w.rule.types_always; count = 0; size = 0; bytes = bytes; capacity = capacity } in
     (Ok built.0, holds_none left refl refl none, built.1)

@@ -10,7 +10,8 @@ use Rattle.mysql_bulk.specs.BulkValue.{Cell}
 use Rattle.mysql_bulk.specs.RequestWriter.{WriterState}
 use Rattle.mysql_bulk.specs.ValueRows.{AddsAfter, AddsCells, AreCellRequests, CellsFit, HoldsCells, LetsGo, StreamsCells, packing, request_of_cells, so_far}
 use Rattle.mysql_bulk.specs.ValuesRun.{CellsRunGives, EndsBy, LacksRoom, Offered, OfferRefused, next_of, with_settings}
-use Rattle.mysql_bulk.proofs.ValueRows.{holds_none, none_counted, some_counted}
+use Rattle.mysql_bulk.proofs.ValueRows.{holds_none}
+use Rattle.mysql_bulk.proofs.WrittenRows.{none_counted, some_counted}
 
 -- the request was released, and the buffer has these bytes
 abbrev let_go : WriterState → WriterState → WriterState
@@ -77,7 +78,7 @@ module _ {w u : WriterState} {all : List (List Cell)} {requests : List (List ℕ
       → Going w all rest (requests ++ u.bytes ∷ []) v
   let_go_next rest v g counted next go =
       let k = packing w in
-      let some = some_counted u g.waiting g.holds counted in
+      let some = some_counted g.waiting g.holds.count counted in
       let B : WriterState → Type 0 = λ x. u.bytes ≡ so_far x g.waiting in
       subst (Going w all rest (requests ++ u.bytes ∷ [])) (sym (let_go_is u v counted go)) (record {
         cut = g.cut ++ g.waiting ∷ [];
@@ -95,7 +96,7 @@ module _ {w u : WriterState} {all : List (List Cell)} {requests : List (List ℕ
   one_sent : (row : List Cell) (rest : List (List Cell)) (v : WriterState) → Going w all (row ∷ rest) requests u → AddsCells u row (Ok false) u → LetsGo u v → Going w all (row ∷ rest) (requests ++ u.bytes ∷ []) v
   one_sent row rest v g adds go =
       let a = adds g.waiting g.holds in
-      let_go_next (row ∷ rest) v g (λ e. a.2 (none_counted u g.waiting g.holds e)) (λ f. a.1 (fits_there row (row ∷ rest) g f)) go
+      let_go_next (row ∷ rest) v g (λ e. a.2 (none_counted g.waiting g.holds.count e)) (λ f. a.1 (fits_there row (row ∷ rest) g f)) go
 
   -- the rows so far, if types were due
   packed_due : (rest : List (List Cell)) (g : Going w all rest requests u) → w.types_due ≡ true → IsPacked (packing w) true g.cut g.waiting g.before rest
@@ -139,14 +140,14 @@ module _ {w u : WriterState} {requests : List (List ℕ)} {before rows : List (L
   -- no row is left or waiting
   pub ends_all : Going w (before ++ rows) [] requests u → u.count ≡ 0 → CellsRunGives w before rows requests None u
   ends_all g none =
-      let e = none_counted u g.waiting g.holds none in
+      let e = none_counted g.waiting g.holds.count none in
       let P : List (List Cell) → List (List Cell) → Type 0 = λ part l. IsPacked (packing w) true g.cut part l [] in
       ends [] None g (e, refl) (λ due is. absurd cc)
       (λ due is. packed_fewest (packing w) g.cut (before ++ rows) (subst (P []) (sym (append-nil g.before) ∙ g.whole) (subst (λ part. P part g.before) e (packed_due [] g due))))
 
   -- there was no memory for the request of the last rows, or for the one that is due
   pub ends_kept : Going w (before ++ rows) [] requests u → u.count ≢ 0 → CellsRunGives w before rows requests (Some refused.Memory) u
-  ends_kept g some = ends [] (Some refused.Memory) g (inl (some_counted u g.waiting g.holds some)) (λ due is. absurd cc) (λ due is. absurd cc)
+  ends_kept g some = ends [] (Some refused.Memory) g (inl (some_counted g.waiting g.holds.count some)) (λ due is. absurd cc) (λ due is. absurd cc)
 
   ends_due : (row : List Cell) (rest : List (List Cell)) → Going w (before ++ rows) (row ∷ rest) requests u → AddsCells u row (Ok false) u → CellsRunGives w before rows requests (Some refused.Memory) u
   ends_due row rest g adds = let a = adds g.waiting g.holds in ends (row ∷ rest) (Some refused.Memory) g (inl (a.2, a.0, a.1)) (λ due is. absurd cc) (λ due is. absurd cc)
@@ -184,8 +185,8 @@ offer_refused row rest m more e g (inr (inr (inl o))) = rw o.4 (ends_refused row
 -- a row that is offered if none is waiting is not kept back
 offer_refused {u = u} row rest m more e g (inr (inr (inr o))) =
     let sent = one_sent row rest o.0 g o.1 o.2 in
-    let some : u.count ≢ 0 = λ e. (o.1 g.waiting g.holds).2 (none_counted u g.waiting g.holds e) in
-    absurd ((o.3 sent.waiting sent.holds).2 (none_counted o.0 sent.waiting sent.holds (ap (λ (x : WriterState). x.count) (let_go_is u o.0 some o.2))))
+    let some : u.count ≢ 0 = λ e. (o.1 g.waiting g.holds).2 (none_counted g.waiting g.holds.count e) in
+    absurd ((o.3 sent.waiting sent.holds).2 (none_counted sent.waiting sent.holds.count (ap (λ (x : WriterState). x.count) (let_go_is u o.0 some o.2))))
 
 -- ---- a caller's own loop
 

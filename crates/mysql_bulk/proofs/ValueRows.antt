@@ -1,37 +1,14 @@
 -- What a request writer has written for rows of values, DEFAULT and IGNORE.
-use Rattle.std.proofs.Common.{◌≡◌, ◌≢◌, ℕ, ◌+◌, true, List, [], ◌∷◌, ◌++◌, length, Ok, Err, refl, sym, ◌∙◌, ap, arith, append_assoc, length-append}
-use Rattle.std.proofs.lemmas.Grind.{flat_map-append}
-use Rattle.std.proofs.lemmas.List.{append-nil}
+use Rattle.std.proofs.Common.{◌≡◌, ◌≢◌, ℕ, ◌+◌, true, List, [], ◌∷◌, ◌++◌, Ok, Err, refl, sym, ◌∙◌, arith, length-append}
 use Rattle.std.proofs.lemmas.List.Elements.{All-nil, All-push}
 use Rattle.std.proofs.lemmas.List.Sums.{sum_by-append}
 use Rattle.mysql_bulk.specs.declared.error.BulkRowError.TheVariants as refused
 use Rattle.mysql_bulk.specs.BulkValue.{Cell, cells_bytes, cells_size}
 use Rattle.mysql_bulk.specs.RequestWriter.{WriterState, head_bytes, with_row}
-use Rattle.mysql_bulk.specs.ValueRows.{AddsCells, CellsFit, HoldsCells, IsRequestOf, Spells, rows_bytes, request_of_cells, so_far}
-
--- ---- the bytes of one row more
-
-rows_more : (w : WriterState) (rows : List (List Cell)) (row : List Cell) → rows_bytes w.types (rows ++ row ∷ []) ≡ rows_bytes w.types rows ++ cells_bytes w.types row
-rows_more w rows row = flat_map-append (cells_bytes w.types) rows (row ∷ []) ∙ ap (λ (l : List ℕ). rows_bytes w.types rows ++ l) (append-nil (cells_bytes w.types row))
-
-first_so_far : (w : WriterState) (rows : List (List Cell)) (row : List Cell) → rows ≡ [] → w.bytes ≡ so_far w rows → so_far w (rows ++ row ∷ []) ≡ (w.bytes ++ head_bytes w) ++ cells_bytes w.types row
-first_so_far w [] row e b = ap (λ (l : List ℕ). head_bytes w ++ l) (append-nil (cells_bytes w.types row)) ∙ ap (λ (l : List ℕ). (l ++ head_bytes w) ++ cells_bytes w.types row) (sym b)
-first_so_far w (r ∷ rows) row e b = cc
-
-further_so_far : (w : WriterState) (rows : List (List Cell)) (row : List Cell) → rows ≢ [] → so_far w (rows ++ row ∷ []) ≡ so_far w rows ++ cells_bytes w.types row
-further_so_far w [] row some = absurd (some refl)
-further_so_far w (r ∷ rows) row some =
-    ap (λ (l : List ℕ). head_bytes w ++ l) (rows_more w (r ∷ rows) row) ∙ sym (append_assoc (head_bytes w) (rows_bytes w.types (r ∷ rows)) (cells_bytes w.types row))
+use Rattle.mysql_bulk.proofs.WrittenRows.{first_written, further_written, none_counted, some_counted}
+use Rattle.mysql_bulk.specs.ValueRows.{AddsCells, CellsFit, HoldsCells, IsRequestOf, Spells, request_of_cells, so_far}
 
 -- ---- a row is offered
-
--- no row is waiting if none was counted
-pub none_counted : (w : WriterState) (rows : List (List Cell)) → HoldsCells w rows → w.count ≡ 0 → rows ≡ []
-none_counted w [] h e = refl
-none_counted w (row ∷ rows) h e = absurd (omega (arith, h.count, e))
-
-pub some_counted : (w : WriterState) (rows : List (List Cell)) → HoldsCells w rows → w.count ≢ 0 → rows ≢ []
-some_counted w rows h n e = n (h.count ∙ ap length e)
 
 abbrev pub EachFits : WriterState → List Cell → Type 0
 EachFits w row = (rows : List (List Cell)) → HoldsCells w rows → CellsFit w rows row
@@ -65,12 +42,12 @@ wrote w row size capacity before spells fits total bytes = λ rows h. (
 
 pub wrote_first : (w : WriterState) (row : List Cell) (size capacity : ℕ) → Spells w.types row → EachFits w row → size ≡ w.size + cells_size w.types row → w.count ≡ 0
     → AddsCells w row (Ok true) (with_row w (w.bytes ++ head_bytes w) size capacity (cells_bytes w.types row))
-wrote_first w row size capacity spells fits total empty = wrote w row size capacity (w.bytes ++ head_bytes w) spells fits total (λ rows h. first_so_far w rows row (none_counted w rows h empty) h.bytes)
+wrote_first w row size capacity spells fits total empty = wrote w row size capacity (w.bytes ++ head_bytes w) spells fits total (λ rows h. first_written (head_bytes w) (cells_bytes w.types) rows row w.bytes (none_counted rows h.count empty) h.bytes)
 
 pub wrote_further : (w : WriterState) (row : List Cell) (size capacity : ℕ) → Spells w.types row → EachFits w row → size ≡ w.size + cells_size w.types row → w.count ≢ 0
     → AddsCells w row (Ok true) (with_row w w.bytes size capacity (cells_bytes w.types row))
 wrote_further w row size capacity spells fits total some =
-    wrote w row size capacity w.bytes spells fits total (λ rows h. further_so_far w rows row (some_counted w rows h some) ∙ ap (λ (l : List ℕ). l ++ cells_bytes w.types row) (sym h.bytes))
+    wrote w row size capacity w.bytes spells fits total (λ rows h. further_written (head_bytes w) (cells_bytes w.types) rows row w.bytes (some_counted rows h.count some) h.bytes)
 
 -- a writer without waiting rows
 pub holds_none : (w : WriterState) → w.count ≡ 0 → w.size ≡ 0 → w.bytes ≡ [] → HoldsCells w []
