@@ -1,5 +1,5 @@
 -- A caller's own loop over a builder is a run over the rows.
-use Rattle.std.proofs.Common.{ℕ, false, true, List, [], ◌∷◌, ◌++◌, None, Some, Ok, Err, sym, ◌∙◌, ap, subst, append_assoc, inl, inr}
+use Rattle.std.proofs.Common.{ℕ, false, true, List, [], ◌∷◌, ◌++◌, None, Some, Ok, Err, sym, ◌∙◌, ap, append_assoc, inl, inr}
 use Rattle.std.proofs.lemmas.List.{append-nil, append_cancel_right}
 use Rattle.std.specs.Global.{Vec}
 use Rattle.mysql_values.specs.declared.value.Value.{Value}
@@ -27,8 +27,7 @@ one_more row rest u r a = rw a.2 (r.0, running_more row rest r.1 a.0 a.1)
 one_sent : {s : BuilderState} {all : List (List Content)} {requests : List BulkRequest} {b : BuilderState} (row : List Content) (rest : List (List Content)) (n v : BuilderState) (request : BulkRequest)
     → RunsTo s all requests b (row ∷ rest) → AddsCopy b row (Ok false) n → BuildsRequest n request v → RunsTo s all (requests ++ request ∷ []) v (row ∷ rest)
 one_sent {s} {all} {requests} {b} row rest n v request r a built =
-    let B : BuilderState → Type 0 = λ x. BuildsRequest x request v in
-    (r.0 ++ b.waiting ∷ [], running_sends v (row ∷ rest) request r.1 (subst B a.3 built) (a.2, a.0, a.1))
+    (r.0 ++ b.waiting ∷ [], running_sends v (row ∷ rest) request r.1 (rw a.3 at built) (a.2, a.0, a.1))
 
 collected : {s : BuilderState} {all : List (List Content)} (rows rest : List (List Content)) (b t : BuilderState) (before requests : List BulkRequest) → RunsTo s all before b (rows ++ rest) → Collects b rows requests t
     → RunsTo s all (before ++ requests) t rest
@@ -49,8 +48,7 @@ pub all_collected : (s t u : BuilderState) (rows : List (List Content)) (request
     → (ends : List ℕ) × RunGives s (s.waiting ++ rows) (requests ++ last ∷ []) ends None u
 all_collected s t u rows requests last c collects built =
     let sent = running_sends u [] last (runs_to s t rows [] requests c collects).1 built built.some in
-    let P : List (List Content) → Type 0 = λ l. (ends : List ℕ) × RunGives s (s.waiting ++ l) (requests ++ last ∷ []) ends None u in
-    subst P (append-nil rows) (_, gives_all sent (ap (λ (b : BuilderState). b.waiting) built.left))
+    (_, rw append-nil at (gives_all sent (ap (λ (b : BuilderState). b.waiting) built.left)))
 
 -- a row was refused
 pub row_ends : (s t : BuilderState) (rows later : List (List Content)) (requests : List BulkRequest) (row : Vec Value) (e : BulkExecuteRequestError) → IsConsistent s → Collects s rows requests t → Adds t row (Err e) t

@@ -13,7 +13,7 @@ use Rattle.mysql_bulk.specs.Builder.{BuilderState}
 use Rattle.mysql_bulk.specs.Builder.{TakesRow, RowFits, after_row, Adds, Builds, BuildsRequest}
 use Rattle.mysql_bulk.specs.declared.error.BulkExecuteRequestBuilderError.TheVariants.{Request}
 use Rattle.mysql_bulk.specs.Request.{BulkRequest}
-use Rattle.mysql_bulk.specs.Run.{Accepts, NextRow, AcceptsUntilFull, RunState, AcceptedUntilFull, EndsEmpty, NextRequest, answers}
+use Rattle.mysql_bulk.specs.Run.{Accepts, NextRow, AcceptsUntilFull, RunState, AcceptedUntilFull, NextRequest, answers}
 use Rattle.std.specs.Prelude.{IfSome, MatchOption, is_none, is_some, not}
 
 -- one more row is accepted
@@ -92,9 +92,9 @@ module _ {S : Type 0} (steps : S → Option (Vec Value) → S → Type 0) where
     pub taken_refused : (t : BuilderState) (e : BulkExecuteRequestError) → Adds m row (Err e) t → AcceptsUntilFull steps s start.0 start.1 (Err e) t rest
     taken_refused t e a =
         let same = Adds-refused m t row e a in
-        let P : BuilderState → Type 0 = λ u. AcceptsUntilFull steps s start.0 start.1 (Err e) u rest in
+        let R : BuilderState → Type 0 = λ u. AcceptsUntilFull steps s start.0 start.1 (Err e) u rest in
         let A : BuilderState → Type 0 = λ u. Adds m row (Err e) u in
-        subst P (sym same) (k.taken, row, (place, k.came, next), k.accepts, subst A same a)
+        subst R (sym same) (k.taken, row, (place, k.came, next), k.accepts, subst A same a)
 
   -- no row is left
   pub taken_end : {s m : BuilderState} {rows left : S} (rest : S) → Taken s (None, rows) m (None, left) → steps left None rest → AcceptsUntilFull steps s None rows (Ok None) m rest
@@ -134,7 +134,6 @@ module _ {S : Type 0} (steps : S → Option (Vec Value) → S → Type 0) where
       → is_none last ≡ ended → MatchOption built ((m.waiting ≡ []) × (t ≡ m)) (λ request. BuildsRequest m request t)
       → NextRequest steps (state s carried rows e) (answers built) (state t last left ended)
   next_builds s m t carried None rows left e ended None g a l w =
-      let E : BuilderState → Type 0 = λ u. EndsEmpty steps (state s carried rows e) (state u None left ended) in
-      inr (subst E (sym w.1) (record { accepted = accepted_until s m m carried None rows left e ended g a; carried = refl; waiting = w.0; ended = sym l }))
+      rw w.1 (inr (record { accepted = accepted_until s m m carried None rows left e ended g a; carried = refl; waiting = w.0; ended = sym l }))
   next_builds s m t carried (Some row) rows left e ended None g a l w = absurd (a.3.2 w.0)
   next_builds s m t carried last rows left e ended (Some request) g a l w = record { full = m; accepted = accepted_until s m t carried last rows left e ended g a; builds = w; ended = sym l }

@@ -2,7 +2,7 @@
 use Rattle.std.proofs.Common.{◌≡◌, ◌≢◌, ℕ, Bool, true, false, if◌then◌else◌, List, [], ◌∷◌, ◌++◌, None, Option, Some, Ok, Err, refl, sym, ◌∙◌, ap, subst, inl, inr, append_assoc}
 use Rattle.std.proofs.lemmas.Bool.{ne_eqb}
 use Rattle.std.proofs.lemmas.List.{append-nil}
-use Rattle.mysql_cuts.specs.Cut.{PartFits, HasFittingCut, IsFewest, IsFullFromFront, NextDoesNotFit, rows_in, types_after}
+use Rattle.mysql_cuts.specs.Cut.{PartFits, HasFittingCut, IsFewest, NextDoesNotFit, rows_in, types_after}
 use Rattle.mysql_cuts.proofs.Packed.{IsPacked, open_packed, packed_more, packed_close, packed_fewest, packed_full, packed_fits, packed_stuck, types_after_push, types_later}
 use Rattle.mysql_bulk.specs.declared.error.BulkRowError.{BulkRowError}
 use Rattle.mysql_bulk.specs.declared.error.BulkRowError.TheVariants as refused
@@ -53,10 +53,10 @@ begins w before rest h = record { cut = []; before = before; waiting = before; p
 module _ {w u : WriterState} {all : List (List Cell)} {requests : List (List ℕ)} where
   -- whether the row fits is decided by the state at the start of the run
   fits_here : (row : List Cell) (rest : List (List Cell)) (g : Going w all rest requests u) → CellsFit u g.waiting row → PartFits (packing w) (types_after (packing w) w.types_due g.cut) (g.waiting ++ row ∷ [])
-  fits_here row rest g f = let F : WriterState → Type 0 = λ x. PartFits (packing x) x.types_due (g.waiting ++ row ∷ []) in subst F g.settings f
+  fits_here row rest g f = rw g.settings at f
 
   fits_there : (row : List Cell) (rest : List (List Cell)) (g : Going w all rest requests u) → PartFits (packing w) (types_after (packing w) w.types_due g.cut) (g.waiting ++ row ∷ []) → CellsFit u g.waiting row
-  fits_there row rest g f = let F : WriterState → Type 0 = λ x. PartFits (packing x) x.types_due (g.waiting ++ row ∷ []) in subst F (sym g.settings) f
+  fits_there row rest g f = rw g.settings f
 
   -- one more row was written
   one_more : (row : List Cell) (rest : List (List Cell)) (m : WriterState) → Going w all (row ∷ rest) requests u → AddsCells u row (Ok true) m → Going w all rest requests m
@@ -79,8 +79,7 @@ module _ {w u : WriterState} {all : List (List Cell)} {requests : List (List ℕ
   let_go_next rest v g counted next go =
       let k = packing w in
       let some = some_counted g.waiting g.holds.count counted in
-      let B : WriterState → Type 0 = λ x. u.bytes ≡ so_far x g.waiting in
-      subst (Going w all rest (requests ++ u.bytes ∷ [])) (sym (let_go_is u v counted go)) (record {
+      rw (let_go_is u v counted go) (record {
         cut = g.cut ++ g.waiting ∷ [];
         before = g.before;
         waiting = [];
@@ -90,7 +89,7 @@ module _ {w u : WriterState} {all : List (List Cell)} {requests : List (List ℕ
         settings =
             ap (λ (x : WriterState). record x { types_due = x.rule.types_always; count = 0; size = 0; bytes = []; capacity = v.capacity }) g.settings
             ∙ ap (λ (t : Bool). with_settings w t (let_go u v)) (sym (types_after_push k w.types_due g.cut g.waiting));
-        bytes = requests_push w w.types_due g.cut requests g.waiting u.bytes g.bytes (open_bytes w u (types_after k w.types_due g.cut) g.waiting some (subst B g.settings g.holds.bytes));
+        bytes = requests_push w w.types_due g.cut requests g.waiting u.bytes g.bytes (open_bytes w u (types_after k w.types_due g.cut) g.waiting some (g.holds.bytes ∙ ap (λ (x : WriterState). so_far x g.waiting) g.settings));
       })
 
   one_sent : (row : List Cell) (rest : List (List Cell)) (v : WriterState) → Going w all (row ∷ rest) requests u → AddsCells u row (Ok false) u → LetsGo u v → Going w all (row ∷ rest) (requests ++ u.bytes ∷ []) v
@@ -100,18 +99,15 @@ module _ {w u : WriterState} {all : List (List Cell)} {requests : List (List ℕ
 
   -- the rows so far, if types were due
   packed_due : (rest : List (List Cell)) (g : Going w all rest requests u) → w.types_due ≡ true → IsPacked (packing w) true g.cut g.waiting g.before rest
-  packed_due rest g due = let P : Bool → Type 0 = λ t. IsPacked (packing w) t g.cut g.waiting g.before rest in subst P due g.packed
+  packed_due rest g due = rw due at g.packed
 
   -- a row that does not fit alone is in no fitting cut
   stuck : (row : List Cell) (rest : List (List Cell)) (g : Going w all (row ∷ rest) requests u) → (CellsFit u g.waiting row → ⊥) → g.waiting ≡ [] → w.types_due ≡ true
       → HasFittingCut (packing w) ((rows_in g.cut ++ g.waiting) ++ row ∷ []) → ⊥
   stuck row rest g large none due c =
       let k = packing w in
-      let P : List (List Cell) → Type 0 = λ part. IsPacked k true g.cut part g.before (row ∷ rest) in
-      let Q : List (List Cell) → Bool → Type 0 = λ part t. PartFits k (types_after k t g.cut) (part ++ row ∷ []) in
-      let C : List (List Cell) → Type 0 = λ l. HasFittingCut k (l ++ row ∷ []) in
-      let alone : Q [] true → ⊥ = λ f. large (fits_there row (row ∷ rest) g (subst (λ part. Q part w.types_due) (sym none) (subst (Q []) (sym due) f))) in
-      packed_stuck k g.cut g.before row rest (subst P none (packed_due (row ∷ rest) g due)) alone (subst C g.packed.same c)
+      let alone : PartFits k (types_after k true g.cut) (row ∷ []) → ⊥ = λ f. large (fits_there row (row ∷ rest) g (rw (none, due) f)) in
+      packed_stuck k g.cut g.before row rest (rw none at (packed_due (row ∷ rest) g due)) alone (rw g.packed.same at c)
 
 module _ {w u : WriterState} {requests : List (List ℕ)} {before rows : List (List Cell)} where
   -- a run ends before these rows
@@ -131,7 +127,7 @@ module _ {w u : WriterState} {requests : List (List ℕ)} {before rows : List (L
         full_parts = g.packed.full_so_far;
         left = g.settings;
         ended = ended;
-        full_from_front = λ due. let F : List (List Cell) → Type 0 = λ l. IsFullFromFront k l g.cut in subst F g.whole (packed_full k w.types_due g.cut g.waiting g.before rest g.packed due);
+        full_from_front = λ due. rw g.whole at (packed_full k w.types_due g.cut g.waiting g.before rest g.packed due);
         rows_fit = λ due. subst (HasFittingCut k) (sym g.packed.same) (packed_fits k g.cut g.waiting g.before rest (packed_due rest g due));
         too_large = large;
         fewest = fewest;
@@ -141,9 +137,8 @@ module _ {w u : WriterState} {requests : List (List ℕ)} {before rows : List (L
   pub ends_all : Going w (before ++ rows) [] requests u → u.count ≡ 0 → CellsRunGives w before rows requests None u
   ends_all g none =
       let e = none_counted g.waiting g.holds.count none in
-      let P : List (List Cell) → List (List Cell) → Type 0 = λ part l. IsPacked (packing w) true g.cut part l [] in
       ends [] None g (e, refl) (λ due is. absurd cc)
-      (λ due is. packed_fewest (packing w) g.cut (before ++ rows) (subst (P []) (sym (append-nil g.before) ∙ g.whole) (subst (λ part. P part g.before) e (packed_due [] g due))))
+      (λ due is. packed_fewest (packing w) g.cut (before ++ rows) (rw (e, sym (append-nil g.before) ∙ g.whole) at (packed_due [] g due)))
 
   -- there was no memory for the request of the last rows, or for the one that is due
   pub ends_kept : Going w (before ++ rows) [] requests u → u.count ≢ 0 → CellsRunGives w before rows requests (Some refused.Memory) u

@@ -37,14 +37,14 @@ EqualLengths-push a (r ∷ rows) row e h = (e.0, EqualLengths-push a rows row e.
 as_long : (known o : Option ℕ) (before : List (List Content)) (row : List Content) (rest all : List (List Content)) → o ≡ arity_after known before → TakesArity o (length row) → before ++ row ∷ rest ≡ all
     → length row ≡ first_length all
 as_long known o [] row rest all a t e = ap first_length e
-as_long known o (r ∷ before) row rest all a t e = let T : Option ℕ → Type 0 = λ p. TakesArity p (length row) in subst T a t ∙ ap first_length e
+as_long known o (r ∷ before) row rest all a t e = (rw a at t) ∙ ap first_length e
 
 -- on a new builder a row is allowed next if it is as long as the first and the declared types can encode it
 takes_as_long : (columns : Option (List ParamType)) (o : Option ℕ) (before : List (List Content)) (row : List Content) (rest all : List (List Content)) → o ≡ arity_after (option_map length columns) before
     → before ++ row ∷ rest ≡ all → length row ≡ first_length all → TakesTypes columns row → TakesArity o (length row)
-takes_as_long None o [] row rest all a e h t = let T : Option ℕ → Type 0 = λ p. TakesArity p (length row) in subst T (sym a) tt
-takes_as_long (Some types) o [] row rest all a e h t = let T : Option ℕ → Type 0 = λ p. TakesArity p (length row) in subst T (sym a) (taken_long (Some types) types row refl t)
-takes_as_long columns o (r ∷ before) row rest all a e h t = let T : Option ℕ → Type 0 = λ p. TakesArity p (length row) in subst T (sym a) (h ∙ sym (ap first_length e))
+takes_as_long None o [] row rest all a e h t = rw a tt
+takes_as_long (Some types) o [] row rest all a e h t = rw a (taken_long (Some types) types row refl t)
+takes_as_long columns o (r ∷ before) row rest all a e h t = rw a (h ∙ sym (ap first_length e))
 
 arity_more : (known : Option ℕ) (before : List (List Content)) (row : List Content) (rest all : List (List Content)) → before ++ row ∷ rest ≡ all → length row ≡ first_length all → Some (length row) ≡ arity_after known (before ++ row ∷ [])
 arity_more known [] row rest all e h = refl
@@ -70,20 +70,18 @@ AreRequests-push s arity waiting [] [] part request a i = (record { id = i.id; f
 AreRequests-push s arity waiting [] (q ∷ requests) part request a i = absurd a
 AreRequests-push s arity waiting (p ∷ cut) [] part request a i = absurd a
 AreRequests-push s arity waiting (p ∷ cut) (q ∷ requests) part request a i =
-    let I : Bool → Type 0 = λ t. IsRequest (record s { arity = arity; types_due = t; waiting = waiting }) part request in
-    (a.0, AreRequests-push (after_request s) arity waiting cut requests part request a.1 (subst I (sym (due_sent s cut)) i))
+    (a.0, AreRequests-push (after_request s) arity waiting cut requests part request a.1 (rw (due_sent s cut) i))
 
 EachWasDue-push : (s : BuilderState) (cut : List (List (List Content))) (part rest : List (List Content)) → EachWasDue s cut (part ++ rest)
     → RequestIsDue (holding (record s { types_due = due_after s cut }) part) rest → EachWasDue s (cut ++ part ∷ []) rest
 EachWasDue-push s [] part rest e d = (d, tt)
 EachWasDue-push s (p ∷ cut) part rest e d =
-    let D : Bool → Type 0 = λ t. RequestIsDue (holding (record s { types_due = t }) part) rest in
-    (subst (RequestIsDue (holding s p)) (joined_seam (packing s 0) cut part rest) e.0, EachWasDue-push (after_request s) cut part rest e.1 (subst D (sym (due_sent s cut)) d))
+    (subst (RequestIsDue (holding s p)) (joined_seam (packing s 0) cut part rest) e.0, EachWasDue-push (after_request s) cut part rest e.1 (rw (due_sent s cut) d))
 
 -- rows of one length, in a list that begins with them
 one_length_of : (rows rest all : List (List Content)) → rows ++ rest ≡ all → EqualLengths (first_length all) rows → OneLength rows
 one_length_of [] rest all e h = tt
-one_length_of (row ∷ rows) rest all e h = let E : ℕ → Type 0 = λ n. EqualLengths n (row ∷ rows) in subst E (sym (ap first_length e)) h
+one_length_of (row ∷ rows) rest all e h = subst (λ n. EqualLengths n (row ∷ rows)) (sym (ap first_length e)) h
 
 of_arity : (known : Option ℕ) (rows : List (List Content)) → OneLength rows → OfArity (arity_after known rows) rows
 of_arity None [] h = refl
@@ -161,24 +159,19 @@ module _ {s : BuilderState} {all : List (List Content)} {requests : List BulkReq
 
   -- the declared types are unchanged
   types_to : (row : List Content) (rest : List (List Content)) (r : Running s all requests cut b rest) → TakesTypes b.columns row → TakesTypes s.columns row
-  types_to row rest r t = let T : BuilderState → Type 0 = λ u. TakesTypes u.columns row in subst T r.left t
+  types_to row rest r t = rw r.left at t
 
   -- the next row fits with the waiting rows exactly if it fits the open part
   fits_to : (row : List Content) (rest : List (List Content)) (r : Running s all requests cut b (row ∷ rest)) → length row ≡ first_length all → RowFits b row → PartFits (measure s all) (due_after s cut) (b.waiting ++ row ∷ [])
-  fits_to row rest r h f =
-      let F : BuilderState → ℕ → Type 0 = λ u n. PartFits (packing u n) u.types_due (b.waiting ++ row ∷ []) in
-      subst (λ u. F u (first_length all)) r.left (subst (F b) h f)
+  fits_to row rest r h f = rw (r.left, h) at f
 
   fits_from : (row : List Content) (rest : List (List Content)) (r : Running s all requests cut b (row ∷ rest)) → length row ≡ first_length all → PartFits (measure s all) (due_after s cut) (b.waiting ++ row ∷ []) → RowFits b row
-  fits_from row rest r h f =
-      let F : BuilderState → ℕ → Type 0 = λ u n. PartFits (packing u n) u.types_due (b.waiting ++ row ∷ []) in
-      subst (F b) (sym h) (subst (λ u. F u (first_length all)) (sym r.left) f)
+  fits_from row rest r h f = rw (r.left, h) f
 
   -- the next row is accepted
   pub running_more : (row : List Content) (rest : List (List Content)) → Running s all requests cut b (row ∷ rest) → TakesRow b row → RowFits b row → Running s all requests cut (after_row b row) rest
   running_more row rest r t f =
       let h = next_long row rest r t.0 in
-      let T : Option ℕ → Type 0 = λ p. TakesArity p (length row) in
       record {
         before = r.before ++ row ∷ [];
         packed = packed_more (measure s all) s.types_due cut b.waiting r.before row rest r.packed (fits_to row rest r h f);
@@ -189,7 +182,7 @@ module _ {s : BuilderState} {all : List (List Content)} {requests : List BulkReq
             ∙ ap (λ a. record s { arity = a; types_due = due_after s cut; waiting = b.waiting ++ row ∷ [] }) (arity_more s.arity r.before row rest all r.whole h);
         lengths = EqualLengths-push (first_length all) r.before row r.lengths h;
         taken = All-push (TakesTypes s.columns) r.before row r.taken (types_to row (row ∷ rest) r t.1);
-        arity_stays = λ n e. ap Some (subst T (r.arity_stays n e) t.0);
+        arity_stays = λ n e. ap Some (rw (r.arity_stays n e) at t.0);
         due = subst (EachWasDue s cut) (sym (append_assoc b.waiting (row ∷ []) rest)) r.due;
       }
 
@@ -201,21 +194,17 @@ module _ {s : BuilderState} {all : List (List Content)} {requests : List BulkReq
   is_due : (rest : List (List Content)) → Running s all requests cut b rest → RequestIsDue b rest → RequestIsDue (holding (record s { types_due = due_after s cut }) b.waiting) rest
   is_due [] r d = d
   is_due (row ∷ rest) r d =
-      let F : BuilderState → Type 0 = λ u. PartFits (packing u (length row)) u.types_due (b.waiting ++ row ∷ []) in
-      let E : List (List Content) → Type 0 = EqualLengths (first_length all) in
-      let first = length_of_waiting (first_length all) (rows_in cut) b.waiting (subst E (sym r.packed.same) r.lengths) d.0 in
-      (d.0, (next_long row rest r d.1.0 ∙ sym first, types_to row (row ∷ rest) r d.1.1), λ f. d.2 (subst F (sym r.left) f))
+      let first = length_of_waiting (first_length all) (rows_in cut) b.waiting (subst (EqualLengths (first_length all)) (sym r.packed.same) r.lengths) d.0 in
+      (d.0, (next_long row rest r d.1.0 ∙ sym first, types_to row (row ∷ rest) r d.1.1), λ f. d.2 (rw r.left f))
 
   -- the waiting rows are sent
   pub running_sends : (t : BuilderState) (rest : List (List Content)) (request : BulkRequest) → Running s all requests cut b rest → BuildsRequest b request t → RequestIsDue b rest
       → Running s all (requests ++ request ∷ []) (cut ++ b.waiting ∷ []) t rest
   running_sends t rest request r a d =
-      let I : BuilderState → Type 0 = λ u. IsRequest u b.waiting request in
-      let R : BuilderState → Type 0 = λ u. Running s all (requests ++ request ∷ []) (cut ++ b.waiting ∷ []) u rest in
-      subst R (sym a.left) (record {
+      rw a.left (record {
         before = r.before;
         packed = packed_close (measure s all) s.types_due cut b.waiting r.before rest r.packed a.some (does_not_fit rest r d);
-        requests_are = AreRequests-push s (arity_after s.arity r.before) b.waiting cut requests b.waiting request r.requests_are (subst I r.left a.is_theirs);
+        requests_are = AreRequests-push s (arity_after s.arity r.before) b.waiting cut requests b.waiting request r.requests_are (rw r.left at a.is_theirs);
         whole = r.whole;
         left =
             ap (λ (u : BuilderState). record u { types_due = u.rule.types_always; waiting = [] }) r.left
@@ -237,14 +226,13 @@ module _ {s : BuilderState} {all : List (List Content)} {requests : List BulkReq
   full rest r n =
       let front = take_while (passes s all) rest in
       let later = drop (prefix_len (passes s all) rest) rest in
-      let P : List (List Content) → Type 0 = IsPacked (measure s all) s.types_due cut b.waiting r.before in
       let F : List (List Content) → Type 0 = λ e. IsFullFromFront (measure s all) e cut in
-      let here = packed_front (measure s all) s.types_due cut b.waiting r.before front later (subst P (sym (take-append-drop (prefix_len (passes s all) rest) rest)) r.packed) in
+      let here = packed_front (measure s all) s.types_due cut b.waiting r.before front later (subst (IsPacked (measure s all) s.types_due cut b.waiting r.before) (sym (take-append-drop (prefix_len (passes s all) rest) rest)) r.packed) in
       subst F (sym (front_is rest r)) (packed_full (measure s all) s.types_due cut b.waiting r.before front here n.types_due)
 
   -- on a new builder the first request sends types
   packed_new : (rest : List (List Content)) (r : Running s all requests cut b rest) → IsNew s → IsPacked (measure s all) true cut b.waiting r.before rest
-  packed_new rest r n = let P : Bool → Type 0 = λ t. IsPacked (measure s all) t cut b.waiting r.before rest in subst P n.types_due r.packed
+  packed_new rest r n = rw n.types_due at r.packed
 
   -- the rows so far have a fitting cut, and so has each of their prefixes
   so_far_fits : (rest : List (List Content)) (r : Running s all requests cut b rest) → IsNew s → (m : ℕ) → HasFittingCut (measure s all) (take m r.before)
@@ -254,8 +242,6 @@ module _ {s : BuilderState} {all : List (List Content)} {requests : List BulkReq
       → (IsNew s → HadMemory refusal → RefusalOfList s all refusal) → (IsNew s → refusal ≡ None → IsFewest (measure s all) all cut) → RunGives s all requests (ends_after 0 cut) refusal b
   gives rest refusal r e refused fewest =
       let same = sym r.packed.same in
-      let A : List (List Content) → Type 0 = OfArity b.arity in
-      let known : Option ℕ → Type 0 = λ o. OfArity o r.before in
       record {
         cut = cut;
         none_empty = r.packed.none_empty;
@@ -264,7 +250,7 @@ module _ {s : BuilderState} {all : List (List Content)} {requests : List BulkReq
         requests_are = r.requests_are;
         ends_are = refl;
         full_parts = r.packed.full_so_far;
-        one_length = subst A same (subst known (sym (arity_is r)) (of_arity s.arity r.before (one_length_of r.before rest all r.whole r.lengths)));
+        one_length = subst (OfArity b.arity) same (rw (arity_is r) (of_arity s.arity r.before (one_length_of r.before rest all r.whole r.lengths)));
         taken = subst (All (TakesTypes s.columns)) same r.taken;
         arity_stays = r.arity_stays;
         each_was_due = r.due;
@@ -279,16 +265,14 @@ module _ {s : BuilderState} {all : List (List Content)} {requests : List BulkReq
 
   none_refused : Running s all requests cut b [] → IsNew s → RefusalOfRows s all None
   none_refused r n =
-      let F : List (List Content) → ℕ → Type 0 = λ l m. HasFittingCut (measure s all) (take m l) in
       let front : taken_front s all ≡ r.before = front_is [] r ∙ append-nil r.before in
-      (λ m. subst (λ l. F l m) (sym front) (so_far_fits [] r n m), front ∙ sym (append-nil r.before) ∙ r.whole)
+      (λ m. rw front (so_far_fits [] r n m), front ∙ sym (append-nil r.before) ∙ r.whole)
 
   -- all rows are in the cut
   pub gives_all : Running s all requests cut b [] → b.waiting ≡ [] → RunGives s all requests (ends_after 0 cut) None b
   gives_all r w =
-      let P : List (List Content) → List (List Content) → Type 0 = λ part before. IsPacked (measure s all) true cut part before [] in
       gives [] None r (w, refl) (λ n h. none_refused r n)
-      (λ n h. packed_fewest (measure s all) cut all (subst (P []) (sym (append-nil r.before) ∙ r.whole) (subst (λ part. P part r.before) w (packed_new [] r n))))
+      (λ n h. packed_fewest (measure s all) cut all (rw (w, sym (append-nil r.before) ∙ r.whole) at (packed_new [] r n)))
 
   -- there was no memory for the next request
   pub gives_memory : (rest : List (List Content)) → Running s all requests cut b rest → RequestIsDue b rest → RunGives s all requests (ends_after 0 cut) (Some (Request Memory)) b
@@ -309,7 +293,7 @@ module _ {s : BuilderState} {all : List (List Content)} {requests : List BulkReq
       front_ends = front_next false no ∙ append-nil r.before
 
       fronts_fit : IsNew s → EachFrontFits s all
-      fronts_fit n m = let F : List (List Content) → Type 0 = λ l. HasFittingCut (measure s all) (take m l) in subst F (sym front_ends) (so_far_fits (row ∷ rest) r n m)
+      fronts_fit n m = rw front_ends (so_far_fits (row ∷ rest) r n m)
 
       next_after : IsNextAfterFront s all row
       next_after = ap (λ (l : List (List Content)). slice_get l (length (taken_front s all))) (sym r.whole) ∙ ap (λ (l : List (List Content)). slice_get (r.before ++ row ∷ rest) (length l)) front_ends ∙ slice_get_at r.before row rest
@@ -323,16 +307,13 @@ module _ {s : BuilderState} {all : List (List Content)} {requests : List BulkReq
         let no : passes s all row ≡ false = false_from_ne_true (passes s all row) (λ e.
         let both = and_parts (nat_eq (length row) (first_length all)) (takes_types s.columns row) e in
         t (takes_as_long s.columns b.arity r.before row rest all known r.whole (eqb-true (length row) (first_length all) both.0) both.1)) in
-        let A : Option ℕ → Type 0 = λ o. TakesArity o (length row) in
-        (fronts_fit no n, next_after no, λ a. t (subst A (sym (arity_after_front no)) a))
+        (fronts_fit no n, next_after no, λ a. t (rw (arity_after_front no) a))
 
     other_types : TakesArity b.arity (length row) → (TakesTypes b.columns row → ⊥) → IsNew s → RefusesTypes s all row
     other_types a t n =
-        let T : BuilderState → Type 0 = λ u. TakesTypes u.columns row → ⊥ in
-        let not_taken : TakesTypes s.columns row → ⊥ = subst T r.left t in
+        let not_taken : TakesTypes s.columns row → ⊥ = rw r.left at t in
         let no : passes s all row ≡ false = false_from_ne_true (passes s all row) (λ e. not_taken (and_parts (nat_eq (length row) (first_length all)) (takes_types s.columns row) e).1) in
-        let A : Option ℕ → Type 0 = λ o. TakesArity o (length row) in
-        (fronts_fit no n, next_after no, subst A (arity_after_front no) a, not_taken)
+        (fronts_fit no n, next_after no, rw (arity_after_front no) at a, not_taken)
 
     too_large : TakesRow b row → (RowFits b row → ⊥) → b.waiting ≡ [] → IsNew s → RefusesSize s all row
     too_large t f w n =
@@ -340,17 +321,14 @@ module _ {s : BuilderState} {all : List (List Content)} {requests : List BulkReq
         let h = next_long row rest r t.0 in
         let more = take_while (passes s all) rest in
         let front : taken_front s all ≡ r.before ++ row ∷ more = front_next true (and_from (nat_eq (length row) (first_length all)) (takes_types s.columns row) (eq-eqb (length row) (first_length all) h) (types_to row (row ∷ rest) r t.1)) in
-        let F : List (List Content) → Type 0 = HasFittingCut k in
-        let P : List (List Content) → Type 0 = λ part. IsPacked k true cut part r.before (row ∷ rest) in
-        let Q : List (List Content) → Bool → Type 0 = λ part due. PartFits k (types_after k due cut) (part ++ row ∷ []) in
-        let alone : Q [] true → ⊥ = λ g. f (fits_from row rest r h (subst (λ part. Q part s.types_due) (sym w) (subst (Q []) (sym n.types_due) g))) in
+        let alone : PartFits k (types_after k true cut) (row ∷ []) → ⊥ = λ g. f (fits_from row rest r h (rw (w, n.types_due) g)) in
         let upto : take (length r.before + 1) (taken_front s all) ≡ r.before ++ row ∷ [] =
         ap (take (length r.before + 1)) (front ∙ sym (append_assoc r.before (row ∷ []) more))
         ∙ take_at (r.before ++ row ∷ []) more (length r.before + 1) (length-append r.before (row ∷ [])) in (
           length r.before,
           ap (λ (l : List (List Content)). slice_get l (length r.before)) front ∙ slice_get_at r.before row more,
-          λ c. packed_stuck k cut r.before row rest (subst P w (packed_new (row ∷ rest) r n)) alone (subst F upto c),
-          λ m le. subst F (sym (ap (take m) front ∙ take-append-le m r.before (row ∷ more) le)) (so_far_fits (row ∷ rest) r n m),
+          λ c. packed_stuck k cut r.before row rest (rw w at (packed_new (row ∷ rest) r n)) alone (rw upto at c),
+          λ m le. rw (ap (take m) front ∙ take-append-le m r.before (row ∷ more) le) (so_far_fits (row ∷ rest) r n m),
         )
 
     -- a copy of the next row is refused
@@ -371,11 +349,9 @@ module _ {s : BuilderState} {all : List (List Content)} {requests : List BulkReq
     pub gives_refused : (e : BulkExecuteRequestError) → Adds b row (Err e) b → RunGives s all requests (ends_after 0 cut) (Some (Request e)) b
     gives_refused MixedArity a = ends_here MixedArity a (refuses MixedArity a) (λ n h. (contents_of_row row, other_length (contents_of_row row) rest r a.0 n))
     gives_refused (MixedTypes back) a =
-        let P : Vec Value → Type 0 = λ x. RefusesTypes s all (contents_of_row x) in
-        ends_here (MixedTypes back) a (refuses (MixedTypes back) a) (λ n h. subst P (sym a.2) (other_types (contents_of_row row) rest r a.0 a.1 n))
+        ends_here (MixedTypes back) a (refuses (MixedTypes back) a) (λ n h. rw a.2 (other_types (contents_of_row row) rest r a.0 a.1 n))
     gives_refused (RowTooLarge back) a =
-        let P : Vec Value → Type 0 = λ x. RefusesSize s all (contents_of_row x) in
-        ends_here (RowTooLarge back) a (refuses (RowTooLarge back) a) (λ n h. subst P (sym a.3) (too_large (contents_of_row row) rest r a.0 a.1 a.2 n))
+        ends_here (RowTooLarge back) a (refuses (RowTooLarge back) a) (λ n h. rw a.3 (too_large (contents_of_row row) rest r a.0 a.1 a.2 n))
     gives_refused (MemoryRow back) a = ends_here (MemoryRow back) a (refuses (MemoryRow back) a) (λ n h. absurd h)
     gives_refused NoParams a = absurd a
     gives_refused Memory a = absurd a
@@ -383,13 +359,10 @@ module _ {s : BuilderState} {all : List (List Content)} {requests : List BulkReq
 -- some of the next rows are accepted
 pub running_accepts : {s : BuilderState} {all : List (List Content)} {requests : List BulkRequest} {cut : List (List (List Content))} {b : BuilderState} (m : BuilderState) (rows rest : List (List Content))
     → Running s all requests cut b (rows ++ rest) → Accepts b rows m → Running s all requests cut m rest
-running_accepts {s} {all} {requests} {cut} m [] rest r a = let P : BuilderState → Type 0 = λ u. Running s all requests cut u rest in subst P (sym a) r
+running_accepts m [] rest r a = rw a r
 running_accepts m (row ∷ rows) rest r a = running_accepts m rows rest (running_more row (rows ++ rest) r a.0 a.1) a.2
 
 -- a new builder satisfies the invariant
 pub new_consistent : (s : BuilderState) → IsNew s → IsConsistent s
 new_consistent s n =
-    let one : List (List Content) → Type 0 = λ rows. EqualLengths (first_length rows) rows in
-    let arity : List (List Content) → Type 0 = λ rows. s.arity ≡ arity_after s.arity rows in
-    let taken : List (List Content) → Type 0 = All (TakesTypes s.columns) in
-    record { one_length = subst one (sym n.waiting) tt; arity = subst arity (sym n.waiting) refl; taken = subst taken (sym n.waiting) (All-nil (TakesTypes s.columns)); fits = λ some. absurd (some n.waiting) }
+    record { one_length = rw n.waiting tt; arity = rw n.waiting refl; taken = rw n.waiting (All-nil (TakesTypes s.columns)); fits = λ some. absurd (some n.waiting) }

@@ -29,11 +29,9 @@ held carried input = option_to_list carried ++ into_iter_items input
 
 comes_one : (c : Option (Vec Value)) (s : Input) (x : Vec Value) (d : Option (Vec Value)) (t : Input) → NextRowAfter into_iter_steps c s (Some x) (d, t) → held c s ≡ x ∷ held d t
 comes_one None s x d t a =
-    let P : Option (Vec Value) → Type 0 = λ o. into_iter_items s ≡ x ∷ held o t in
-    subst P (sym a.0) a.1.0
+    rw a.0 a.1.0
 comes_one (Some row) s x d t a =
-    let P : Option (Vec Value) → Type 0 = λ o. row ∷ into_iter_items s ≡ x ∷ held o t in
-    subst P (sym a.1) (let e = a.0 in let f = ap into_iter_items a.2 in cc)
+    rw a.1 (let e = a.0 in let f = ap into_iter_items a.2 in cc)
 
 no_rows : (t : Input) → into_iter_len t ≡ 0 → into_iter_items t ≡ []
 no_rows t h = nil_from_length (into_iter_items t) (sym t.rest.ok.0 ∙ h)
@@ -64,8 +62,7 @@ pub record RunSoFar (s : BuilderState) (all : List (List Content)) (requests : L
 pub run_begins : (s : BuilderState) (rows : List (Vec Value)) (input : Input) (requests : List BulkRequest) (ends : List ℕ) → IsConsistent s → into_iter_items input ≡ rows → requests ≡ [] → ends ≡ []
     → RunSoFar s (s.waiting ++ contents_of_rows rows) requests ends 0 s None input
 run_begins s rows input requests ends c e q n =
-    let P : List (Vec Value) → Type 0 = λ r. RunSoFar s (s.waiting ++ contents_of_rows r) [] [] 0 s None input in
-    rw (q, n) (subst P e (record { cut = []; running = running_none s (contents_of_rows (into_iter_items input)) c; ends_are = refl; sent_is = refl }))
+    rw (q, n, ← e) (record { cut = []; running = running_none s (contents_of_rows (into_iter_items input)) c; ends_are = refl; sent_is = refl })
 
 module _ {s : BuilderState} {all : List (List Content)} {requests : List BulkRequest} {ends : List ℕ} {sent : ℕ} {b : BuilderState} {carried : Option (Vec Value)} {input : Input} (w : RunSoFar s all requests ends sent b carried input) where
   -- some of the rows to come
@@ -91,10 +88,10 @@ module _ {s : BuilderState} {all : List (List Content)} {requests : List BulkReq
 
   -- all rows were sent
   pub ends_done : held carried input ≡ [] → b.waiting ≡ [] → RunGives s all requests ends None b
-  ends_done e m = let R : List (Vec Value) → Type 0 = λ h. Running s all requests w.cut b (contents_of_rows h) in rw w.ends_are (gives_all (subst R e w.running) m)
+  ends_done e m = rw w.ends_are (gives_all (rw e at w.running) m)
 
   request_is_due : b.waiting ≢ [] → (o : Option (Vec Value)) → IfSome o (λ row. Adds b row (Ok (Some row)) b) → (o ≡ None → held o input ≡ []) → RequestIsDue b (contents_of_rows (held o input))
-  request_is_due n None a e = let D : List (Vec Value) → Type 0 = λ h. RequestIsDue b (contents_of_rows h) in subst D (sym (e refl)) n
+  request_is_due n None a e = rw (e refl) n
   request_is_due n (Some row) a e = (n, a.0, a.1)
 
   -- there is no memory for the request that is due, and nothing changes

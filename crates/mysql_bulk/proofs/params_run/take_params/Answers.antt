@@ -1,9 +1,6 @@
-use Rattle.std.proofs.Common.{Option, Ok, subst, arith}
+use Rattle.std.proofs.Common.{arith}
 use Rattle.std.proofs.lemmas.Result.{err_from_is_err_and}
-use Rattle.std.specs.Global.{Vec}
-use Rattle.mysql_values.specs.declared.value.Value.{Value}
 use Rattle.mysql_bulk.specs.Row.{contents_of_row}
-use Rattle.mysql_bulk.specs.Builder.{AddsParams}
 use Rattle.mysql_bulk.specs.ParamsRun.{GivesRowOfParams}
 use Rattle.mysql_bulk.proofs.RunSteps.{one_longer, taken_end}
 use Rattle.mysql_bulk.proofs.ParamsRunSteps.{params_more, params_full, params_refused}
@@ -16,13 +13,11 @@ returns-in_err-row-clause-accepts g c =
 
 pub returns-in-Some-2-clause-accepts : goal.returns-in-Some-2-clause-accepts
 returns-in-Some-2-clause-accepts g c =
-    let A : Option (Vec Value) → Type 0 = λ o. AddsParams c.loop-entry.builder.state c.in-Some.entry (Ok o) c.add_params.new.self.state in
-    params_full g.I.Iterator.next_gives c.loop-entry.invariant.so_far c.in-Some.entry c.next.new.self c.in-Some.ensures.steps c.add_params.new.self.state c.in-Some-2.row (subst A c.in-Some-2.is c.in_ok-row.ensures.adds)
+    params_full g.I.Iterator.next_gives c.loop-entry.invariant.so_far c.in-Some.entry c.next.new.self c.in-Some.ensures.steps c.add_params.new.self.state c.in-Some-2.row (rw c.in-Some-2.is at c.in_ok-row.ensures.adds)
 
 pub loop-entry-preserved : goal.loop-entry-preserved
 loop-entry-preserved g c =
-    let A : Option (Vec Value) → Type 0 = λ o. AddsParams c.loop-entry.builder.state c.in-Some.entry (Ok o) c.add_params.new.self.state in
-    let a = subst A c.in_default-2.is c.in_ok-row.ensures.adds in
+    let a = rw c.in_default-2.is at c.in_ok-row.ensures.adds in
     let calls_to_end = c.in-Some.ensures.goes.on c.loop-entry.invariant.ends in
     let less = c.loop-entry.invariant.less in
     record {

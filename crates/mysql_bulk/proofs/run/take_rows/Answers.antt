@@ -1,9 +1,6 @@
-use Rattle.std.proofs.Common.{Option, Ok, refl, subst, arith}
+use Rattle.std.proofs.Common.{refl, arith}
 use Rattle.std.proofs.lemmas.Result.{err_from_is_err_and}
-use Rattle.std.specs.Global.{Vec}
-use Rattle.mysql_values.specs.declared.value.Value.{Value}
 use Rattle.mysql_bulk.specs.Row.{contents_of_row}
-use Rattle.mysql_bulk.specs.Builder.{Adds}
 use Rattle.mysql_bulk.proofs.RunSteps.{one_longer, taken_more, taken_full, taken_refused, taken_end}
 use Rattle.mysql_bulk.proofs.run.take_rows.Goals as goal
 
@@ -14,13 +11,11 @@ returns-in_err-row-clause-accepts g c =
 
 pub returns-in-Some-2-clause-accepts : goal.returns-in-Some-2-clause-accepts
 returns-in-Some-2-clause-accepts g c =
-    let A : Option (Vec Value) → Type 0 = λ o. Adds c.loop-row.builder.state c.in-Some.row (Ok o) c.add.new.self.state in
-    taken_full g.I.Iterator.next_gives c.loop-row.invariant.so_far c.in-Some.row c.next.new.self (refl, c.in-Some.ensures.steps) c.add.new.self.state c.in-Some-2.row (subst A c.in-Some-2.is c.in_ok-row.ensures.adds)
+    taken_full g.I.Iterator.next_gives c.loop-row.invariant.so_far c.in-Some.row c.next.new.self (refl, c.in-Some.ensures.steps) c.add.new.self.state c.in-Some-2.row (rw c.in-Some-2.is at c.in_ok-row.ensures.adds)
 
 pub loop-row-preserved : goal.loop-row-preserved
 loop-row-preserved g c =
-    let A : Option (Vec Value) → Type 0 = λ o. Adds c.loop-row.builder.state c.in-Some.row (Ok o) c.add.new.self.state in
-    let a = subst A c.in_default-2.is c.in_ok-row.ensures.adds in
+    let a = rw c.in_default-2.is at c.in_ok-row.ensures.adds in
     let calls_to_end = c.in-Some.ensures.goes.on c.loop-row.invariant.ends in
     let less = c.loop-row.invariant.less in
     record {

@@ -1,7 +1,5 @@
-use Rattle.std.proofs.Common.{◌≡◌, ◌≢◌, false, true, [], List, rules, if◌then◌else◌, ◌∙◌, ap, subst}
-use Rattle.std.specs.Global.{Vec}
+use Rattle.std.proofs.Common.{◌≡◌, ◌≢◌, false, true, [], List, rules, if◌then◌else◌, ◌∙◌, ap}
 use Rattle.mysql_wire.specs.FlagMasks.{SEND_TYPES_TO_SERVER}
-use Rattle.mysql_values.specs.declared.value.Value.{Value}
 use Rattle.mysql_values.specs.declared.param_type.ParamType.{ParamType}
 use Rattle.mysql_wire.specs.Flags.{has}
 use Rattle.mysql_bulk.specs.DeclaredTypes.{declared_types}
@@ -10,7 +8,6 @@ use Rattle.mysql_values.specs.Value.{contents_of}
 use Rattle.mysql_bulk.specs.ParamValue.{ParamValue}
 use Rattle.mysql_bulk.specs.SentValues.{sent_values}
 use Rattle.mysql_bulk.proofs.SentValues.{built_values}
-use Rattle.mysql_bulk.specs.Row.{EqualLengths}
 use Rattle.mysql_bulk.specs.Request.{BulkRequest}
 use Rattle.mysql_bulk.specs.Row.{contents_of_rows}
 use Rattle.mysql_bulk.specs.Row.{OneLength}
@@ -20,8 +17,7 @@ use Rattle.mysql_bulk.proofs.request.ComStmtBulkExecuteRequest.new.Goals as goal
 pub returns-in-Ok-clause-makes : goal.returns-in-Ok-clause-makes
 returns-in-Ok-clause-makes c =
     let rows = contents_of_rows c.args.rows.items in
-    let E : List (Vec Value) → Type 0 = λ l. EqualLengths c.len-arity.result (contents_of_rows l) in
-    let equal = subst E c.as_slice.ensures.value (c.equally_long.ensures.0 c.if-not-equally_long.false) in
+    let equal = rw c.as_slice.ensures.value at (c.equally_long.ensures.0 c.if-not-equally_long.false) in
     let any : c.args.rows.items ≢ [] = search rules in
     let some = some_rows c.args.rows.items any in
     let one : OneLength rows = one_length c.len-arity.result rows some equal in
@@ -38,8 +34,7 @@ returns-in-Ok-clause-makes c =
 pub returns-in-Err-clause-no_memory : goal.returns-in-Err-clause-no_memory
 returns-in-Err-clause-no_memory c none e =
     let rows = c.args.rows.items in
-    let E : List (Vec Value) → Type 0 = λ l. EqualLengths c.len-arity.result (contents_of_rows l) in
-    let equal = subst E c.as_slice.ensures.value (c.equally_long.ensures.0 c.if-not-equally_long.false) in
+    let equal = rw c.as_slice.ensures.value at (c.equally_long.ensures.0 c.if-not-equally_long.false) in
     let any : rows ≢ [] = search rules in
     let is : c.len-arity.result ≡ 0 = no_values c.len-arity.result (contents_of_rows rows) (some_rows rows any) equal none in
     let none_refused : false ≡ true = c.in-Err.ensures.no_memory is in

@@ -1,9 +1,9 @@
-use Rattle.std.proofs.Common.{rules, ◌≡◌, ◌≢◌, ◌+◌, ◌++◌, List, [], map, drop, ap, subst, arith}
+use Rattle.std.proofs.Common.{rules, ◌≡◌, ◌≢◌, ◌+◌, List, [], map, drop, ap, subst, arith}
 use Rattle.std.proofs.lemmas.List.{drop_all}
 use Rattle.mysql_bulk.specs.declared.bulk_value.BulkValue.{BulkValue}
-use Rattle.mysql_bulk.specs.BulkValue.{Cell, cell_of}
-use Rattle.mysql_bulk.specs.ValuesRun.{Offered, OfferRefused, bytes_of, cells_of_row, cells_of_rows}
-use Rattle.mysql_bulk.proofs.StreamedCells.{Going, begins, ends_all, ends_kept, ends_sent, offered, offer_refused}
+use Rattle.mysql_bulk.specs.BulkValue.{cell_of}
+use Rattle.mysql_bulk.specs.ValuesRun.{OfferRefused, bytes_of, cells_of_row, cells_of_rows}
+use Rattle.mysql_bulk.proofs.StreamedCells.{begins, ends_all, ends_kept, ends_sent, offered, offer_refused}
 use Rattle.mysql_bulk.proofs.ValuesRun.{next_of_all}
 use Rattle.mysql_bulk.proofs.request_writer.BulkRequestWriter.send_all_values.Goals as goal
 
@@ -15,13 +15,11 @@ loop-row-preserved c =
     let rows = c.args.rows.now in
     let i = c.loop-row.row-index in
     let more = bytes_of c.offer_values.new.requests.items in
-    let R : List BulkValue → Type 0 = λ row. Offered c.loop-row.self (map cell_of row) (bytes_of c.loop-row.requests.items) c.offer_values.new.self more in
     record {
       goes_on =
           λ before h.
-          let G : List (List Cell) → Type 0 = λ l. Going c.args.self.now (before ++ cells_of_rows rows) l (bytes_of c.loop-row.requests.items) c.loop-row.self in
           offered (cells_of_row c.row-item.result) (cells_of_rows (drop (i + 1) rows)) c.offer_values.new.self more
-          (subst G (next_of_all cells_of_row rows i c.row-item.result c.loop-row-test.true c.row-item.is) (c.loop-row.invariant.goes_on before h)) (subst R c.as_slice.ensures.value c.in-Ok.ensures.ok);
+          (rw (next_of_all cells_of_row rows i c.row-item.result c.loop-row-test.true c.row-item.is) at (c.loop-row.invariant.goes_on before h)) (rw c.as_slice.ensures.value at c.in-Ok.ensures.ok);
       capacity = omega (arith, c.loop-row.invariant.capacity, c.offer_values.ensures.capacity);
     }
 
@@ -34,9 +32,8 @@ returns-in-Err c =
     record {
       gives =
           λ before h.
-          let G : List (List Cell) → Type 0 = λ l. Going c.args.self.now (before ++ cells_of_rows rows) l (bytes_of c.loop-row.requests.items) c.loop-row.self in
           offer_refused (cells_of_row c.row-item.result) (cells_of_rows (drop (i + 1) rows)) c.offer_values.new.self more c.in-Err.refusal
-          (subst G (next_of_all cells_of_row rows i c.row-item.result c.loop-row-test.true c.row-item.is) (c.loop-row.invariant.goes_on before h)) (subst R c.as_slice.ensures.value c.in-Err.ensures.refused);
+          (rw (next_of_all cells_of_row rows i c.row-item.result c.loop-row-test.true c.row-item.is) at (c.loop-row.invariant.goes_on before h)) (subst R c.as_slice.ensures.value c.in-Err.ensures.refused);
       capacity = omega (arith, c.loop-row.invariant.capacity, c.offer_values.ensures.capacity);
     }
 
