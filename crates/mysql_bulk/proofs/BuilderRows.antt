@@ -1,12 +1,21 @@
 -- Rows of one length, with their values in one list.
-use Rattle.std.proofs.Common.{◌≡◌, ℕ, zero, suc, ◌+◌, ◌*◌, ◌≤◌, List, [], ◌∷◌, ◌++◌, length, take, drop, Option, Some, None, unwrap_or, refl, sym, ◌∙◌, ap, subst, arith, length-append, add-one, sum_by}
+use Rattle.std.proofs.Common.{◌≡◌, ◌≢◌, ℕ, zero, suc, ◌+◌, ◌*◌, ◌≤◌, List, [], ◌∷◌, ◌++◌, length, take, drop, Option, Some, None, unwrap_or, refl, sym, ◌∙◌, ap, subst, arith, length-append, add-one, sum_by}
 use Rattle.std.proofs.Math.Nat.{suc-mul, add-mul}
 use Rattle.std.proofs.lemmas.List.{nil_from_length, take_all, take-append-le, drop-append-le, length-drop, take-append-drop}
 use Rattle.mysql_values.specs.Value.{Content}
 use Rattle.mysql_cuts.specs.Cut.{rows_in}
-use Rattle.mysql_bulk.specs.Row.{row_size}
+use Rattle.mysql_bulk.specs.Row.{row_size, first_length, EqualLengths, OneLength}
 use Rattle.mysql_bulk.specs.Builder.{TakesArity}
 use Rattle.mysql_bulk.specs.BuilderRows.{rows_of, waiting_rows, IsFlat}
+
+-- rows of one length are as long as the first
+pub one_length : (a : ℕ) (rows : List (List Content)) → EqualLengths a rows → OneLength rows
+one_length a [] e = tt
+one_length a (row ∷ rows) e = subst (λ n. EqualLengths n (row ∷ rows)) (sym e.0) e
+
+pub first_long : (a : ℕ) (rows : List (List Content)) → rows ≢ [] → EqualLengths a rows → first_length rows ≡ a
+first_long a [] n e = absurd (n refl)
+first_long a (row ∷ rows) n e = e.0
 
 pub length-rows_of : (a n : ℕ) (values : List Content) → length (rows_of a n values) ≡ n
 length-rows_of a zero values = refl
@@ -14,8 +23,7 @@ length-rows_of a (suc n) values = ap suc (length-rows_of a n (drop a values))
 
 rows_of-push : (a n : ℕ) (values row : List Content) → length values ≡ n * a → length row ≡ a → rows_of a (suc n) (values ++ row) ≡ rows_of a n values ++ row ∷ []
 rows_of-push a zero values row h r =
-    let P : List Content → Type 0 = λ v. rows_of a (suc zero) (v ++ row) ≡ row ∷ [] in
-    subst P (sym (nil_from_length values (omega (arith, h)))) (ap (λ (l : List Content). l ∷ []) (take_all a row (omega arith)))
+    rw (nil_from_length values (omega (arith, h))) (ap (λ (l : List Content). l ∷ []) (take_all a row (omega arith)))
 rows_of-push a (suc n) values row h r =
     let more : suc n * a ≡ n * a + a = suc-mul n a in
     let long : a ≤ length values = omega (arith, h, more) in
@@ -42,11 +50,8 @@ pub flat_rows : (arity : Option ℕ) (count size : ℕ) (values row : List Conte
 flat_rows None count size values row f t =
     let none = f.none refl in
     let empty : values ≡ [] = nil_from_length values (f.lengths ∙ ap (λ n. n * 0) none) in
-    let P : ℕ → List Content → Type 0 = λ n v. rows_of (length row) (n + 1) (v ++ row) ≡ rows_of 0 n v ++ row ∷ [] in
-    subst (λ n. P n values) (sym none) (subst (P 0) (sym empty) (rows_of-push (length row) zero [] row (omega arith) refl))
-flat_rows (Some a) count size values row f t =
-    let P : ℕ → Type 0 = λ n. rows_of n (count + 1) (values ++ row) ≡ rows_of a count values ++ row ∷ [] in
-    subst P (sym t) (rw add-one (rows_of-push a count values row f.lengths t))
+    rw (none, empty) (rows_of-push (length row) zero [] row (omega arith) refl)
+flat_rows (Some a) count size values row f t = rw t (rw add-one (rows_of-push a count values row f.lengths t))
 
 pub flat_more : (arity : Option ℕ) (count size total : ℕ) (values row : List Content) → IsFlat arity count size values → TakesArity arity (length row)
     → total ≡ sum_by row_size (waiting_rows arity count values ++ row ∷ []) → IsFlat (Some (length row)) (count + 1) total (values ++ row)

@@ -17,7 +17,7 @@ use Rattle.mysql_bulk.specs.BuilderRows.{rows_of, waiting_rows}
 use Rattle.mysql_bulk.proofs.ColumnTypes.{spelled_long, length-types_of_rows, types_so_far_all, types_so_far_more, types_so_far_declared}
 use Rattle.mysql_bulk.proofs.DeclaredTypes.{types_before}
 use Rattle.mysql_bulk.proofs.RequestBytes.{size-rows_in}
-use Rattle.mysql_bulk.proofs.BuilderRows.{flat_values, flat_none, flat_some, flat_rows, flat_more, length-rows_of}
+use Rattle.mysql_bulk.proofs.BuilderRows.{flat_values, flat_none, flat_some, flat_rows, flat_more, length-rows_of, one_length, first_long}
 
 pub saturated_small : (n : ℕ) → n < 2 ^ 64 → n ≡ saturated n
 unfolding saturated
@@ -36,10 +36,6 @@ if_same false x y z e = refl
 length-if : (b : Bool) (a : ℕ) (types : List ParamType) → length types ≡ a → 2 * length (if b then types else []) ≡ (if b then 2 * a else 0)
 length-if true a types e = ap (λ n. 2 * n) e
 length-if false a types e = refl
-
-first_long : (a : ℕ) (rows : List (List Content)) → rows ≢ [] → EqualLengths a rows → first_length rows ≡ a
-first_long a [] n e = absurd (n refl)
-first_long a (row ∷ rows) n e = e.0
 
 as_many : (arity : Option ℕ) (n l : ℕ) → TakesArity arity n → l ≡ unwrap_or arity 0 → (l ≡ n) ⊎ (l ≡ 0)
 as_many None n l t e = inr e
@@ -123,7 +119,7 @@ module _ {s : BuilderState} {count size : ℕ} {values : List Content} {types : 
 
   -- the request is allowed
   pub stored_allowed : count ≢ 0 → WaitingFits s
-  stored_allowed n = let F : ℕ → Type 0 = λ a. PartFits (packing s a) s.types_due s.waiting in subst F (stored_arity n) (k.fits (stored_rows n))
+  stored_allowed n = rw (stored_arity n) at (k.fits (stored_rows n))
 
   pub stored_bound : count ≢ 0 → waiting_size s ≤ s.limit
   stored_bound n = (stored_allowed n).0
@@ -151,10 +147,7 @@ module _ {s : BuilderState} {count size : ℕ} {values : List Content} {types : 
       MatchOption most (PartFits (rows_packing s.rule s.limit arity) s.types_due (rows ++ row ∷ []) → ⊥) (λ n. PartFits (rows_packing s.rule s.limit arity) s.types_due (rows ++ row ∷ []) ↔ (row_size row ≤ n)))
       → MatchOption most (RowFits s row → ⊥) (λ n. RowFits s row ↔ (row_size row ≤ n))
   stored_room arity row most long each =
-      let P : ℕ → List (List Content) → Type 0 = λ a rows.
-      MatchOption most (PartFits (rows_packing s.rule s.limit a) s.types_due (rows ++ row ∷ []) → ⊥) (λ n. PartFits (rows_packing s.rule s.limit a) s.types_due (rows ++ row ∷ []) ↔ (row_size row ≤ n)) in
-      let here = each (waiting_rows s.arity count values) row (length-rows_of (unwrap_or s.arity 0) count values) k.flat.size_is (sym long) in
-      subst (λ a. P a s.waiting) long (subst (P arity) (sym k.rows_is) here)
+      rw (k.rows_is, ← long) (each (waiting_rows s.arity count values) row (length-rows_of (unwrap_or s.arity 0) count values) k.flat.size_is (sym long))
 
   -- one more row is waiting
   pub stored_more : (total : ℕ) (row : List Content) → TakesRow s row → RowFits s row → total ≡ sum_by row_size (s.waiting ++ row ∷ [])
@@ -179,9 +172,7 @@ module _ {s : BuilderState} {count size : ℕ} {values : List Content} {types : 
   pub stored_next : (total a n : ℕ) (row more : List Content) (further : List ParamType) → TakesRow s row → RowFits s row → total ≡ sum_by row_size (s.waiting ++ row ∷ [])
       → a ≡ length row → n ≡ count + 1 → more ≡ values ++ row → further ≡ (if s.types_due then types_after_row s.columns types row else types) → IsStoredAs (with_row a n more) n total more further
   stored_next total a n row more further t f e la ln lm lf =
-      let P : List (List Content) → Type 0 = λ w.
-      IsStoredAs (record s { arity = Some (length row); waiting = w }) (count + 1) total (values ++ row) (if s.types_due then types_after_row s.columns types row else types) in
-      rw (la, ln, lm, lf) (subst P (sym (rows_more row t.0)) (stored_more total row t f e))
+      rw (la, ln, lm, lf, rows_more row t.0) (stored_more total row t f e)
 
   pub state_next : (a n : ℕ) (row more : List Content) → TakesArity s.arity (length row) → a ≡ length row → n ≡ count + 1 → more ≡ values ++ row → with_row a n more ≡ after_row s row
   state_next a n row more t la ln lm = rw (la, ln, lm) (ap (λ (w : List (List Content)). record s { arity = Some (length row); waiting = w }) (rows_more row t))
@@ -250,16 +241,12 @@ module _ {s : BuilderState} {count size : ℕ} {values : List Content} {types : 
   -- what holds for every builder
   pub consistent : IsConsistent s
   consistent = record {
-    one_length = one (unwrap_or s.arity 0) s.waiting stored_equal;
+    one_length = one_length (unwrap_or s.arity 0) s.waiting stored_equal;
     arity = known s.arity s.waiting k.flat.none (λ c. k.rows_is ∙ ap (λ n. rows_of (unwrap_or s.arity 0) n values) c) stored_equal;
     taken = k.taken;
     fits = λ n. stored_allowed (λ c. n (k.rows_is ∙ ap (λ m. rows_of (unwrap_or s.arity 0) m values) c));
   }
     where
-      one : (a : ℕ) (rows : List (List Content)) → EqualLengths a rows → EqualLengths (first_length rows) rows
-      one a [] e = tt
-      one a (row ∷ rows) e = let P : ℕ → Type 0 = λ n. EqualLengths n (row ∷ rows) in subst P (sym e.0) e
-
       known : (o : Option ℕ) (rows : List (List Content)) → (o ≡ None → count ≡ 0) → (count ≡ 0 → rows ≡ []) → EqualLengths (unwrap_or o 0) rows → o ≡ arity_after o rows
       known o [] none nil e = refl
       known None (row ∷ rows) none nil e = let f : row ∷ rows ≡ [] = nil (none refl) in cc

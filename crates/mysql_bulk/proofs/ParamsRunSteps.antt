@@ -10,9 +10,9 @@ use Rattle.mysql_bulk.specs.declared.error.BulkExecuteRequestBuilderError.{BulkE
 use Rattle.mysql_bulk.specs.declared.error.BulkExecuteRequestBuilderError.TheVariants as refused
 use Rattle.mysql_bulk.specs.Request.{BulkRequest}
 use Rattle.mysql_bulk.specs.Builder.{BuilderState, after_row, Adds, AddsRow, AddsParams, BuildsRequest}
-use Rattle.mysql_bulk.specs.Row.{contents_of_row, contents_of_rows}
-use Rattle.mysql_bulk.specs.Run.{Accepts, AcceptsUntilFull, NextRow, RunState, NextRequest, answers}
-use Rattle.mysql_bulk.specs.ParamsRun.{Names, GivesRowOfParams, StopsAtParams, AcceptsParamsUntilFull, NextRequestOfParams}
+use Rattle.mysql_bulk.specs.Row.{contents_of_row}
+use Rattle.mysql_bulk.specs.Run.{Accepts, NextRow, RunState, NextRequest, answers}
+use Rattle.mysql_bulk.specs.ParamsRun.{Names, GivesRowOfParams, AcceptsParamsUntilFull, NextRequestOfParams}
 use Rattle.mysql_bulk.proofs.RunSteps.{state, Taken, taken_more, taken_full, taken_refused, carried_more, carried_full, carried_refused, next_refuses, next_builds}
 
 -- the names are unchanged
@@ -26,9 +26,7 @@ module _ {S : Type 0} (steps : S → Option Params → S → Type 0) where
     by_names = names_stay s m _ k.accepts
 
     gives_row : (row : Vec Value) → given_by.values_of params m.names ≡ Ok (contents_of_row row) → NextRow (GivesRowOfParams steps s.names) (None, left) (Some row) (None, rest)
-    gives_row row v =
-        let V : Names → Type 0 = λ n. given_by.values_of params n ≡ Ok (contents_of_row row) in
-        (refl, (params, came, subst V by_names v))
+    gives_row row v = (refl, (params, came, rw by_names at v))
 
     pub params_more : (t : BuilderState) → AddsParams m params (Ok None) t → Taken (GivesRowOfParams steps s.names) s (None, rows) t (None, rest)
     params_more t a = taken_more (GivesRowOfParams steps s.names) k a.0 rest (gives_row a.0 a.1) t a.2
@@ -41,38 +39,32 @@ module _ {S : Type 0} (steps : S → Option Params → S → Type 0) where
     pub params_refused : (t : BuilderState) (e : BulkExecuteRequestBuilderError) → AddsParams m params (Err e) t → AcceptsParamsUntilFull steps s.names s None rows (Err e) t rest
     params_refused t (refused.Request e) a = taken_refused (GivesRowOfParams steps s.names) k a.0 rest (gives_row a.0 a.1) t e a.2
     params_refused t (refused.Params e) a =
-        let R : Names → Type 0 = λ n. given_by.Refuses params n e in
         record {
           taken = k.taken;
           before = left;
           came = k.came;
           params = params;
           given = came;
-          refused = subst R by_names a.0;
+          refused = rw by_names at a.0;
           accepts = subst (Accepts s _) (sym a.1) k.accepts;
         }
 
   -- a carried row is accepted first
   pub params_carried : (s m t : BuilderState) (row : Vec Value) (rows left : S) (r : Result (Option (Vec Value)) BulkExecuteRequestBuilderError) → Adds s row (Ok None) m
       → AcceptsParamsUntilFull steps m.names m None rows r t left → AcceptsParamsUntilFull steps s.names s (Some row) rows r t left
-  params_carried s m t row rows left (Ok last) a f =
-      let F : Names → Type 0 = λ n. AcceptsUntilFull (GivesRowOfParams steps n) m None rows (Ok last) t left in
-      carried_more (GivesRowOfParams steps s.names) s m t row rows left (Ok last) a (subst F (ap (λ (b : BuilderState). b.names) a.2) f)
-  params_carried s m t row rows left (Err (refused.Request e)) a f =
-      let F : Names → Type 0 = λ n. AcceptsUntilFull (GivesRowOfParams steps n) m None rows (Err e) t left in
-      carried_more (GivesRowOfParams steps s.names) s m t row rows left (Err e) a (subst F (ap (λ (b : BuilderState). b.names) a.2) f)
-  params_carried s m t row rows left (Err (refused.Params e)) a f =
-      let F : Names → Type 0 = λ n. StopsAtParams steps n m None rows e t left in
-      let k = subst F (ap (λ (b : BuilderState). b.names) a.2) f in
-      let A : BuilderState → Type 0 = λ u. Accepts u (contents_of_rows k.taken) t in
-      record {
+  params_carried s m t row rows left r a f = by r (subst (λ n. AcceptsParamsUntilFull steps n m None rows r t left) (ap (λ (b : BuilderState). b.names) a.2) f)
+    where
+      by : (r : Result (Option (Vec Value)) BulkExecuteRequestBuilderError) → AcceptsParamsUntilFull steps s.names m None rows r t left → AcceptsParamsUntilFull steps s.names s (Some row) rows r t left
+      by (Ok last) k = carried_more (GivesRowOfParams steps s.names) s m t row rows left (Ok last) a k
+      by (Err (refused.Request e)) k = carried_more (GivesRowOfParams steps s.names) s m t row rows left (Err e) a k
+      by (Err (refused.Params e)) k = record {
         taken = row ∷ k.taken;
         before = k.before;
         came = ((None, rows), (refl, refl, refl), k.came);
         params = k.params;
         given = k.given;
         refused = k.refused;
-        accepts = (a.0, a.1, subst A a.2 k.accepts);
+        accepts = (a.0, a.1, rw a.2 at k.accepts);
       }
 
   -- it does not fit, or is refused

@@ -1,5 +1,5 @@
 -- Rows under declared types are read back as their values under these types.
-use Rattle.std.proofs.Common.{◌≡◌, ◌≢◌, ℕ, ◌<◌, ◌^◌, Bool, true, false, ◌&&◌, ◌||◌, not, if◌then◌else◌, pos, negsuc, List, [], ◌∷◌, ◌++◌, length, map, Option, Some, refl, sym, ◌∙◌, ap, subst, arith}
+use Rattle.std.proofs.Common.{◌≡◌, ◌≢◌, ℕ, ◌<◌, ◌^◌, Bool, true, false, ◌&&◌, ◌||◌, not, if◌then◌else◌, pos, negsuc, List, [], ◌∷◌, ◌++◌, length, map, Some, refl, sym, ◌∙◌, ap, subst, arith}
 use Rattle.std.specs.Prelude.{nat_lt}
 use Rattle.std.specs.Int.{is_negative}
 use Rattle.std.specs.List.{All, flat_map}
@@ -84,8 +84,8 @@ row_agrees [] (v ∷ row) s r = let f : false ≡ true = s in cc
 row_agrees (t ∷ types) [] s r = let f : false ≡ true = s in cc
 row_agrees (t ∷ types) (v ∷ row) s r =
     let parts = and_parts (can_encode t v) (spell_row types row) s in
-    let A : Bool → Type 0 = λ u. Agrees t.column_type u (as_signed (is_unsigned t) v) in (
-      subst A (sym (same_sign (is_unsigned t))) (agrees_as t (is_unsigned t) v refl parts.0 (All-head IsInRange v row r)),
+    (
+      rw (same_sign (is_unsigned t)) (agrees_as t (is_unsigned t) v refl parts.0 (All-head IsInRange v row r)),
       row_agrees types row parts.1 (All-tail IsInRange v row r),
     )
 
@@ -129,7 +129,7 @@ declared_again s types rows request r p =
     let b = s.types_due in
     let columns = map column_of_type types in
     let under = map (row_under types) rows in
-    let taken : All (TakesTypes (Some types)) rows = let T : Option (List ParamType) → Type 0 = λ c. All (TakesTypes c) rows in subst T p.columns r.taken in
+    let taken : All (TakesTypes (Some types)) rows = rw p.columns at r.taken in
     let types_are : request.types ≡ (if b then types_of_rows (Some types) rows else []) = r.types ∙ ap (λ c. if b then types_of_rows c rows else []) p.columns in
     let sends : sends_types request.bulk_flags ≡ b = ap sends_types r.flags ∙ has_types b s.results in
     let read : BulkRequest = record { stmt_id = request.stmt_id; bulk_flags = request.bulk_flags; types = request.types; values = map with_indicator (rows_in under) } in

@@ -1,5 +1,5 @@
 -- A request made of rows.
-use Rattle.std.proofs.Common.{◌≡◌, ◌≢◌, ◌⊎◌, inl, inr, ℕ, Bool, true, false, if◌then◌else◌, List, [], ◌∷◌, ◌++◌, length, refl, sym, ◌∙◌, ap, subst, append_assoc}
+use Rattle.std.proofs.Common.{◌≡◌, ◌≢◌, ◌⊎◌, inl, inr, ℕ, Bool, true, false, if◌then◌else◌, List, [], ◌∷◌, ◌++◌, length, refl, sym, ◌∙◌, ap, append_assoc}
 use Rattle.std.specs.Prelude.{fold}
 use Rattle.mysql_cuts.specs.Cut.{rows_in}
 use Rattle.mysql_values.specs.Value.{Content}
@@ -8,7 +8,6 @@ use Rattle.mysql_bulk.specs.DeclaredTypes.{declared_types, types_with_row}
 use Rattle.std.specs.Global.{Vec}
 use Rattle.mysql_values.specs.declared.value.Value.{Value}
 use Rattle.mysql_bulk.specs.Row.{contents_of_rows}
-use Rattle.mysql_bulk.specs.Row.{OneLength}
 use Rattle.mysql_bulk.specs.Row.{EqualLengths}
 use Rattle.mysql_bulk.proofs.DeclaredTypes.{length-types, length-first, types_all}
 use Rattle.mysql_bulk.proofs.BuilderSteps.{if_same}
@@ -40,11 +39,6 @@ all_types sent flag a rows e n r =
 pub some_rows : (rows : List (Vec Value)) → rows ≢ [] → contents_of_rows rows ≢ []
 some_rows [] n = absurd (n refl)
 some_rows (row ∷ rows) n = λ e. cc
-
--- rows of one length are as long as the first
-pub one_length : (a : ℕ) (rows : List (List Content)) → rows ≢ [] → EqualLengths a rows → OneLength rows
-one_length a [] n e = tt
-one_length a (row ∷ rows) n e = let E : ℕ → Type 0 = λ b. EqualLengths b (row ∷ rows) in subst E (sym e.0) e
 
 -- rows of one length without values have length 0
 pub no_values : (a : ℕ) (rows : List (List Content)) → rows ≢ [] → EqualLengths a rows → EqualLengths 0 rows → a ≡ 0

@@ -6,20 +6,20 @@ use Rattle.std.proofs.lemmas.Grind.{flat_map-append}
 use Rattle.std.proofs.lemmas.List.{append-nil, length-map, map-append}
 use Rattle.std.proofs.lemmas.List.Elements.{All-nil, All-head, All-push}
 use Rattle.std.proofs.lemmas.List.Sums.{sum_by-append}
-use Rattle.mysql_cuts.specs.Cut.{PartFits, rows_in}
+use Rattle.mysql_cuts.specs.Cut.{rows_in}
 use Rattle.mysql_values.specs.declared.param_type.ParamType.{ParamType}
 use Rattle.mysql_values.specs.declared.value_ref.ValueRef.{ValueRef}
 use Rattle.mysql_values.specs.Value.{Content}
 use Rattle.mysql_values.specs.ValueRef.{ref_content}
 use Rattle.mysql_bulk.specs.declared.error.BulkRowError.TheVariants as refused
 use Rattle.mysql_bulk.specs.declared.error.BulkExecuteRequestError.TheVariants as request_refused
-use Rattle.mysql_bulk.specs.Builder.{BuilderState, packing, TakesRow, RowFits, after_row, IsRequest, BuildsRequest, after_request}
+use Rattle.mysql_bulk.specs.Builder.{BuilderState, TakesRow, RowFits, after_row, IsRequest, BuildsRequest, after_request}
 use Rattle.mysql_bulk.specs.ColumnTypes.{TakesTypes, spell_row}
 use Rattle.mysql_bulk.specs.ParamValue.{cell, with_indicator, param_value_bytes, values_bytes}
 use Rattle.mysql_bulk.specs.Request.{request_bytes}
 use Rattle.mysql_bulk.specs.RequestWriter.{WriterState, as_builder, request_of, bytes_so_far, Holds, IsBuilt, AddsAsBuilder, FinishesAsBuilder, cells_bytes, head_bytes, with_row}
 use Rattle.mysql_bulk.proofs.WrittenRows.{written, first_written, further_written, none_counted, some_counted}
-use Rattle.mysql_bulk.specs.Row.{row_size, rows_packing, first_length}
+use Rattle.mysql_bulk.specs.Row.{row_size, first_length}
 use Rattle.mysql_bulk.proofs.ColumnTypes.{spelled_long}
 use Rattle.mysql_bulk.proofs.RequestBytes.{length-values, contents_indicators, size_of_rows}
 
@@ -63,13 +63,12 @@ pub holds_more : (w : WriterState) (rows : List (List Content)) (row : List Valu
     → Holds (with_row w before size capacity (cells_bytes row)) (rows ++ map ref_content row ∷ [])
 holds_more w rows row size capacity before h t f total bytes =
     let values = map ref_content row in
-    let P : ℕ → Type 0 = λ n. PartFits (rows_packing w.rule w.limit n) w.types_due (rows ++ values ∷ []) in
     record {
       count = omega (arith, h.count, length-append rows (values ∷ []));
       size = omega (arith, total, h.size, sum_by-append row_size rows (values ∷ []));
       bytes = sym bytes;
       taken = All-push (TakesTypes (Some w.types)) rows values h.taken t.1;
-      fits = λ some. subst P t.0 f;
+      fits = λ some. rw t.0 at f;
     }
 
 -- the builder accepts it too
@@ -92,12 +91,11 @@ holds_request w rows h some =
     let s = as_builder w rows in
     let request = request_of s rows in
     let theirs : IsRequest s rows request = record { id = refl; flags = refl; types = refl; values = refl; taken = h.taken } in
-    let P : ℕ → Type 0 = λ n. PartFits (packing s n) w.types_due rows in
     let builds : BuildsRequest s request (after_request s) = record {
       some = some;
       is_theirs = theirs;
       size = size_of_rows s rows request theirs;
-      fits = subst P (length_first w rows some h.taken) (h.fits some);
+      fits = rw (length_first w rows some h.taken) at (h.fits some);
       left = refl;
     } in
     (request, builds, h.bytes ∙ bytes_are s rows some)

@@ -83,9 +83,7 @@ module _ {S : Type 0} (steps : S → Option (Vec Value) → S → Type 0) where
           came = Yields-append (None, start) x.place there.0 x.rows taken x.came there.1;
           stands = there.2;
           run = λ rest begins.
-              let R : List (List Content) → Type 0 = λ l. Running s (s.waiting ++ l) requests cut b (contents_of_rows taken ++ rest) in
-              let whole = sym (ap (λ (l : List (List Content)). l ++ rest) (map-append contents_of_row x.rows taken) ∙ append_assoc (contents_of_rows x.rows) (contents_of_rows taken) rest) in
-              running_accepts m (contents_of_rows taken) rest (subst R whole (x.run (contents_of_rows taken ++ rest) (begins_at carried left taken mid rest y begins))) a;
+              running_accepts m (contents_of_rows taken) rest (rw (map-append contents_of_row x.rows taken, append_assoc (contents_of_rows x.rows) (contents_of_rows taken) rest) (x.run (contents_of_rows taken ++ rest) (begins_at carried left taken mid rest y begins))) a;
         }
 
     -- the next row came, and is carried

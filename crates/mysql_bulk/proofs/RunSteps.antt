@@ -19,8 +19,7 @@ use Rattle.std.specs.Prelude.{IfSome, MatchOption, is_none, is_some, not}
 -- one more row is accepted
 pub Accepts-more : (s m t : BuilderState) (rows : List (List Content)) (row : List Content) → Accepts s rows m → TakesRow m row → RowFits m row → t ≡ after_row m row → Accepts s (rows ++ row ∷ []) t
 Accepts-more s m t [] row a n f e =
-    let P : BuilderState → Type 0 = λ s. TakesRow s row × RowFits s row × (t ≡ after_row s row) in
-    subst P a (n, f, e)
+    rw (← a) (n, f, e)
 Accepts-more s m t (r ∷ rows) row a n f e = (a.0, a.1, Accepts-more (after_row s r) m t rows row a.2 n f e)
 
 pub Accepts-append : (s m t : BuilderState) (rows others : List (List Content)) → Accepts s rows m → Accepts m others t → Accepts s (rows ++ others) t
@@ -103,11 +102,9 @@ module _ {S : Type 0} (steps : S → Option (Vec Value) → S → Type 0) where
   -- a carried row is accepted before others
   pub carried_more : (s m t : BuilderState) (row : Vec Value) (rows left : S) (r : Result (Option (Vec Value)) BulkExecuteRequestError) → Adds s row (Ok None) m → AcceptsUntilFull steps m None rows r t left → AcceptsUntilFull steps s (Some row) rows r t left
   carried_more s m t row rows left (Ok last) a f =
-      let A : BuilderState → Type 0 = λ u. Accepts u (contents_of_rows f.0) t in
-      (row ∷ f.0, (f.1.0, ((None, rows), (refl, refl, refl), f.1.1), f.1.2), (a.0, a.1, subst A a.2 f.2), f.3)
+      (row ∷ f.0, (f.1.0, ((None, rows), (refl, refl, refl), f.1.1), f.1.2), (a.0, a.1, rw a.2 at f.2), f.3)
   carried_more s m t row rows left (Err e) a f =
-      let A : BuilderState → Type 0 = λ u. Accepts u (contents_of_rows f.0) t in
-      (row ∷ f.0, f.1, (f.2.0, ((None, rows), (refl, refl, refl), f.2.1), f.2.2), (a.0, a.1, subst A a.2 f.3), f.4)
+      (row ∷ f.0, f.1, (f.2.0, ((None, rows), (refl, refl, refl), f.2.1), f.2.2), (a.0, a.1, rw a.2 at f.3), f.4)
 
   pub carried_full : (s t : BuilderState) (row back : Vec Value) (rows : S) → Adds s row (Ok (Some back)) t → AcceptsUntilFull steps s (Some row) rows (Ok (Some back)) t rows
   carried_full s t row back rows a = taken_full (taken_none s (Some row, rows)) row rows (refl, refl, refl) t back a

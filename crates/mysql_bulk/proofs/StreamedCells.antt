@@ -195,8 +195,7 @@ streamed (row ∷ rows) rest u t requests more g (inr s) =
 pub cells_sent : (w u v : WriterState) (before rows : List (List Cell)) (requests : List (List ℕ)) → HoldsCells w before → StreamsCells w rows requests u → u.count ≢ 0 → LetsGo u v
     → CellsRunGives w before rows (requests ++ u.bytes ∷ []) None v
 cells_sent w u v before rows requests h s some go =
-    let G : List (List Cell) → Type 0 = λ l. Going w (before ++ l) (rows ++ []) [] w in
-    ends_sent v (streamed rows [] w u [] requests (subst G (append-nil rows) (begins w before (rows ++ []) h)) s) some go
+    rw (append-nil rows) at (ends_sent {before = before} {rows = rows ++ []} v (streamed rows [] w u [] requests (begins w before (rows ++ []) h) s) some go)
 
 pub cells_refused : (w u v : WriterState) (before rows later : List (List Cell)) (requests : List (List ℕ)) (row : List Cell) (e : BulkRowError) → HoldsCells w before → StreamsCells w rows requests u
     → AddsCells u row (Err e) v → LacksRoom u row e → CellsRunGives w before (rows ++ row ∷ later) requests (Some e) v

@@ -44,7 +44,7 @@ is_collected [] w u part requests h s = record {
   sent = [];
   bytes = s.0;
   waiting = part;
-  holds = let H : WriterState → Type 0 = λ x. Holds x part in subst H (sym s.1) h;
+  holds = rw s.1 h;
   collects = (refl, ap (λ (x : WriterState). as_builder x part) s.1);
 }
 is_collected (row ∷ rows) w u part requests h s = elim s [
@@ -111,16 +111,14 @@ streamed_fewest w u rows requests h due s some =
     let run = (all_collected start (as_builder u c.waiting) (after_request (as_builder u c.waiting)) rows c.sent last.0 (new_consistent start new) c.collects last.1).1 in
     let all : rows_in run.cut ++ [] ≡ rows = sym (append-nil (rows_in run.cut ++ [])) ∙ ap (λ (l : List (List Content)). (rows_in run.cut ++ []) ++ l) (sym run.ended.1) ∙ run.all_rows in
     let taken : All (TakesTypes start.columns) rows = subst (All (TakesTypes start.columns)) all run.taken in
-    let F : ℕ → Type 0 = λ n. IsFewest (packing start n) rows run.cut in
-    let B : List (List ℕ) → Type 0 = AreBytes start run.cut in
     let bytes : map request_bytes (c.sent ++ last.0 ∷ []) ≡ requests ++ u.bytes ∷ [] =
     map-append request_bytes c.sent (last.0 ∷ [])
     ∙ ap (λ (l : List (List ℕ)). l ++ request_bytes last.0 ∷ []) (sym c.bytes)
     ∙ ap (λ (l : List ℕ). requests ++ l ∷ []) (sym last.2) in
     record {
       cut = run.cut;
-      fewest = subst F (sym (length_first w rows some taken)) (run.fewest new refl);
-      bytes = subst B bytes (are_bytes start run.cut (c.sent ++ last.0 ∷ []) run.requests_are);
+      fewest = subst (λ n. IsFewest (packing start n) rows run.cut) (sym (length_first w rows some taken)) (run.fewest new refl);
+      bytes = subst (AreBytes start run.cut) bytes (are_bytes start run.cut (c.sent ++ last.0 ∷ []) run.requests_are);
     }
 
 -- a refusal leaves the builder unchanged

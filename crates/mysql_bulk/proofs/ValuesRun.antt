@@ -1,5 +1,5 @@
 -- A row of values, DEFAULT and IGNORE is offered, and offered again if it was kept back.
-use Rattle.std.proofs.Common.{◌≡◌, ℕ, add-one, ◌+◌, ◌<◌, suc, Bool, true, false, if◌then◌else◌, List, [], ◌∷◌, ◌++◌, length, map, drop, drop-cons, get_or, Result, Ok, Err, refl, sym, ◌∙◌, ap, subst, inl, inr}
+use Rattle.std.proofs.Common.{◌≡◌, ℕ, add-one, ◌+◌, ◌<◌, suc, Bool, true, false, if◌then◌else◌, List, [], ◌∷◌, ◌++◌, length, map, drop, drop-cons, get_or, Result, Ok, Err, refl, sym, ◌∙◌, ap, inl, inr}
 use Rattle.std.specs.Prelude.{IfErr, OnOk}
 use Rattle.mysql_bulk.specs.declared.error.BulkRowError.{BulkRowError}
 use Rattle.mysql_bulk.specs.declared.error.BulkRowError.TheVariants as refused
@@ -12,18 +12,16 @@ use Rattle.mysql_bulk.specs.ValuesRun.{LacksRoom, Offered, OfferRefused}
 
 not_taken : (u m : WriterState) (row : List Cell) (b : Bool) → AddsCells u row (Ok b) m → b ≡ false → m ≡ u → AddsCells u row (Ok false) u
 not_taken u m row b a f e =
-    let A : Bool → WriterState → Type 0 = λ x y. AddsCells u row (Ok x) y in
-    subst (λ y. A false y) e (subst (λ x. A x m) f a)
+    rw (f, e) at a
 
 let_go_from : (u m v : WriterState) → m ≡ u → LetsGo m v → LetsGo u v
-let_go_from u m v e g = let G : WriterState → Type 0 = λ x. LetsGo x v in subst G e g
+let_go_from u m v e g = rw e at g
 
 -- the result of offering a row again
 pub again_taken : (u m v x : WriterState) (row : List Cell) (b c : Bool) (q more : List (List ℕ)) → AddsCells u row (Ok b) m → b ≡ false → m ≡ u → LetsGo m v → more ≡ q ++ m.bytes ∷ [] → AddsCells v row (Ok c) x → c ≡ true
     → Offered u row q x more
 again_taken u m v x row b c q more a f e g sent adds is =
-    let A : Bool → Type 0 = λ t. AddsCells v row (Ok t) x in
-    inr (v, not_taken u m row b a f e, let_go_from u m v e g, subst A is adds, sent ∙ ap (λ (s : WriterState). q ++ s.bytes ∷ []) e)
+    inr (v, not_taken u m row b a f e, let_go_from u m v e g, rw is at adds, sent ∙ ap (λ (s : WriterState). q ++ s.bytes ∷ []) e)
 
 pub again_refused : (u m v x : WriterState) (row : List Cell) (b : Bool) (q more : List (List ℕ)) (e : BulkRowError) → AddsCells u row (Ok b) m → b ≡ false → m ≡ u → LetsGo m v → more ≡ q ++ m.bytes ∷ []
     → AddsCells v row (Err e) x → LacksRoom v row e → OfferRefused u row q e x more

@@ -26,6 +26,7 @@ use Rattle.mysql_bulk.specs.Request.{BulkRequest}
 use Rattle.mysql_bulk.specs.Row.{contents_of_row, first_length, EqualLengths, OneLength}
 use Rattle.mysql_bulk.specs.Run.{Accepts}
 use Rattle.mysql_values.specs.declared.param_type.ParamType.{ParamType}
+use Rattle.mysql_bulk.proofs.BuilderRows.{one_length}
 use Rattle.mysql_bulk.proofs.ColumnTypes.{taken_long}
 use Rattle.mysql_bulk.specs.WholeRun.{IsNew, HadMemory, AreRequests, due_after, left_by, RequestIsDue, OfArity, holding, EachWasDue, EndsBy, RefusesNextRow, RefusalOfList, RunGives}
 
@@ -79,10 +80,6 @@ EachWasDue-push s (p ∷ cut) part rest e d =
     (subst (RequestIsDue (holding s p)) (joined_seam (packing s 0) cut part rest) e.0, EachWasDue-push (after_request s) cut part rest e.1 (rw (due_sent s cut) d))
 
 -- rows of one length, in a list that begins with them
-one_length_of : (rows rest all : List (List Content)) → rows ++ rest ≡ all → EqualLengths (first_length all) rows → OneLength rows
-one_length_of [] rest all e h = tt
-one_length_of (row ∷ rows) rest all e h = subst (λ n. EqualLengths n (row ∷ rows)) (sym (ap first_length e)) h
-
 of_arity : (known : Option ℕ) (rows : List (List Content)) → OneLength rows → OfArity (arity_after known rows) rows
 of_arity None [] h = refl
 of_arity (Some n) [] h = tt
@@ -250,7 +247,7 @@ module _ {s : BuilderState} {all : List (List Content)} {requests : List BulkReq
         requests_are = r.requests_are;
         ends_are = refl;
         full_parts = r.packed.full_so_far;
-        one_length = subst (OfArity b.arity) same (rw (arity_is r) (of_arity s.arity r.before (one_length_of r.before rest all r.whole r.lengths)));
+        one_length = subst (OfArity b.arity) same (rw (arity_is r) (of_arity s.arity r.before (one_length (first_length all) r.before r.lengths)));
         taken = subst (All (TakesTypes s.columns)) same r.taken;
         arity_stays = r.arity_stays;
         each_was_due = r.due;

@@ -11,7 +11,8 @@ use Rattle.mysql_bulk.proofs.SentValues.{built_values}
 use Rattle.mysql_bulk.specs.Request.{BulkRequest}
 use Rattle.mysql_bulk.specs.Row.{contents_of_rows}
 use Rattle.mysql_bulk.specs.Row.{OneLength}
-use Rattle.mysql_bulk.proofs.RequestNew.{all_types, some_rows, one_length, no_values}
+use Rattle.mysql_bulk.proofs.RequestNew.{all_types, some_rows, no_values}
+use Rattle.mysql_bulk.proofs.BuilderRows.{one_length}
 use Rattle.mysql_bulk.proofs.request.ComStmtBulkExecuteRequest.new.Goals as goal
 
 pub returns-in-Ok-clause-makes : goal.returns-in-Ok-clause-makes
@@ -20,7 +21,7 @@ returns-in-Ok-clause-makes c =
     let equal = rw c.as_slice.ensures.value at (c.equally_long.ensures.0 c.if-not-equally_long.false) in
     let any : c.args.rows.items ≢ [] = search rules in
     let some = some_rows c.args.rows.items any in
-    let one : OneLength rows = one_length c.len-arity.result rows some equal in
+    let one : OneLength rows = one_length c.len-arity.result rows equal in
     let R : List ParamType → List ParamValue → BulkRequest = λ t v. record { stmt_id = c.args.stmt_id; bulk_flags = c.args.bulk_flags; types = t; values = v } in (
       some,
       one,
