@@ -126,10 +126,13 @@ with_row w before size capacity row = record w { count = w.count + 1; size = siz
 abbrev pub head_size : WriterState → ℕ
 head_size w = 7 + (if w.types_due then 2 * length w.types else 0)
 
--- the bytes written for a row: with the head before the first one
-abbrev pub bytes_more : WriterState → List Content → ℕ
-bytes_more w row = if w.count == 0 then head_size w + (w.size + row_size row) else row_size row
+-- the bytes written for a row of this size: with the head before the first one
+abbrev pub bytes_more : WriterState → (size : ℕ) → ℕ
+bytes_more w size = if w.count == 0 then head_size w + (w.size + size) else size
 
--- the buffer has capacity for a row, and the rows can be counted
+-- the buffer has capacity for a row of this size, and the rows can be counted
+abbrev pub HasRoomOf : WriterState → (size : ℕ) → Type 0
+HasRoomOf w size = (length w.bytes + bytes_more w size ≤ w.capacity) × (w.count + 1 < 2 ^ 64)
+
 abbrev pub HasRoom : WriterState → List Content → Type 0
-HasRoom w row = (length w.bytes + bytes_more w row ≤ w.capacity) × (w.count + 1 < 2 ^ 64)
+HasRoom w row = HasRoomOf w (row_size row)

@@ -1,5 +1,5 @@
 -- A writer of bulk requests over rows of values, DEFAULT and IGNORE, under declared types of any width.
-use Rattle.std.specs.Prelude.{◌≡◌, ◌≢◌, ◌⊎◌, ℕ, ◌+◌, ◌^◌, ◌<◌, ◌≤◌, ◌==◌, Bool, true, false, if◌then◌else◌, IsTrue, List, [], ◌∷◌, ◌++◌, length, None, Result, Ok, Err, All, sum_by}
+use Rattle.std.specs.Prelude.{◌≡◌, ◌≢◌, ◌⊎◌, ℕ, ◌+◌, ◌==◌, Bool, true, false, if◌then◌else◌, IsTrue, List, [], ◌∷◌, ◌++◌, length, None, Result, Ok, Err, All, sum_by}
 use Rattle.std.specs.List.{flat_map}
 use Rattle.mysql_cuts.specs.declared.rule.BulkRule.{BulkRule}
 use Rattle.mysql_cuts.specs.Cut.{Packing, PartFits}
@@ -8,7 +8,7 @@ use Rattle.mysql_bulk.specs.declared.error.BulkRowError.{BulkRowError}
 use Rattle.mysql_bulk.specs.declared.error.BulkRowError.TheVariants as refused
 use Rattle.mysql_bulk.specs.Builder.{BuilderState}
 use Rattle.mysql_bulk.specs.BulkValue.{Cell, cells_bytes, cells_size, spells_cells}
-use Rattle.mysql_bulk.specs.RequestWriter.{WriterState, head_bytes, head_size}
+use Rattle.mysql_bulk.specs.RequestWriter.{WriterState, HasRoomOf, head_bytes}
 
 -- ---- rows
 
@@ -106,13 +106,9 @@ LetsGo w u = u ≡ (if w.count == 0 then record w { capacity = u.capacity } else
 abbrev pub IsRequestOf : WriterState → List (List Cell) → List ℕ → Type 0
 IsRequestOf w rows bytes = (rows ≢ []) × (bytes ≡ request_of_cells w w.types_due rows) × PartFits (packing w) w.types_due rows
 
--- the bytes written for a row: with the head before the first one
-abbrev pub cells_more : WriterState → List Cell → ℕ
-cells_more w row = if w.count == 0 then head_size w + (w.size + cells_size w.types row) else cells_size w.types row
-
 -- the buffer has capacity for a row, and the rows can be counted
 abbrev pub HasRoomFor : WriterState → List Cell → Type 0
-HasRoomFor w row = (length w.bytes + cells_more w row ≤ w.capacity) × (w.count + 1 < 2 ^ 64)
+HasRoomFor w row = HasRoomOf w (cells_size w.types row)
 
 -- ---- a caller's own loop
 

@@ -4,7 +4,7 @@
 //! `builder/borrowed.rt`, runs over rows and over parameters in `run.rt` and `params_run.rt`, and a whole run
 //! in `whole_run.rt`.
 
-ghost use Rattle.std.specs.Prelude.{◌≡◌, ◌≢◌, ◌+◌, ◌≤◌, ◌-◌, ◌↔◌, ◌++◌, ◌∷◌, [], length, map, IsTrue, MatchOption, IfSome, OnOk, OnErr, Some, None, true, false, sum_by, List, ℕ};
+ghost use Rattle.std.specs.Prelude.{◌≡◌, ◌≢◌, ◌+◌, ◌≤◌, ◌-◌, ◌^◌, ◌↔◌, ◌++◌, ◌∷◌, [], length, map, IsTrue, MatchOption, IfSome, OnOk, OnErr, Some, None, true, false, sum_by, List, ℕ};
 ghost use Rattle.std.specs.Option.{option_copied};
 ghost use Rattle.mysql_cuts.specs.Cut.{PartFits};
 ghost use Rattle.mysql_values.specs.Value.{Content};
@@ -15,7 +15,7 @@ ghost use Rattle.mysql_bulk.specs.Row.{row_size, rows_packing};
 
 use crate::error::BulkExecuteRequestError;
 use crate::request::ComStmtBulkExecuteRequest;
-use crate::row::{clone_list, row_len, row_len_by_call};
+use crate::row::{clone_list, row_len_by_call};
 use crate::row_value::RowValue;
 use crate::size::size_within;
 use mysql_cuts::BulkRule;
@@ -158,7 +158,8 @@ impl<'a> PartialEq for ComStmtBulkExecuteRequestBuilder<'a> {
     }
 }
 
-/// The length in bytes of a given number of waiting rows with one more, if these fit in one request.
+/// The length in bytes of a given number of waiting rows with one more of a given length, if these fit in one
+/// request.
 // (inlined: the length of a row of a known number of values is counted without a loop then)
 #[inline(always)]
 pub(crate) fn size_with<V: RowValue>(
@@ -168,34 +169,15 @@ pub(crate) fn size_with<V: RowValue>(
     count: usize,
     size: u64,
     row: &[V],
+    row_bytes: Option<u64>,
 ) -> Option<u64>
+    requires { MatchOption row_bytes (2 ^ 64 ≤ row_size (map V.content row.now)) (λ n. n ≡ row_size (map V.content row.now)) }
     ensures size { IfSome result (λ n. n ≡ size + row_size (map V.content row.now)) }
     ensures fits { (rows : List (List Content)) → length rows ≡ count → size ≡ sum_by row_size rows →
         MatchOption result (PartFits (rows_packing rule limit (length row.now)) types (rows ++ map V.content row.now ∷ []) → ⊥)
         (λ n. PartFits (rows_packing rule limit (length row.now)) types (rows ++ map V.content row.now ∷ []) × (n ≡ sum_by row_size (rows ++ map V.content row.now ∷ []))) }
 {
-    let bytes = row_len(row)?;
-    size_within(rule, limit, row.len(), types, count, size, bytes)
-}
-
-/// Computes [`size_with`] by a call: the length in bytes of a given number of waiting rows with one more.
-// (for the builder, where the number of values is mostly not known: they are counted by a call)
-#[inline(always)]
-fn size_by_call<V: RowValue>(
-    rule: BulkRule,
-    limit: u64,
-    types: bool,
-    count: usize,
-    size: u64,
-    row: &[V],
-) -> Option<u64>
-    ensures size { IfSome result (λ n. n ≡ size + row_size (map V.content row.now)) }
-    ensures fits { (rows : List (List Content)) → length rows ≡ count → size ≡ sum_by row_size rows →
-        MatchOption result (PartFits (rows_packing rule limit (length row.now)) types (rows ++ map V.content row.now ∷ []) → ⊥)
-        (λ n. PartFits (rows_packing rule limit (length row.now)) types (rows ++ map V.content row.now ∷ []) × (n ≡ sum_by row_size (rows ++ map V.content row.now ∷ []))) }
-{
-    let row_bytes = row_len_by_call(row)?;
-    size_within(rule, limit, row.len(), types, count, size, row_bytes)
+    size_within(rule, limit, row.len(), types, count, size, row_bytes?)
 }
 
 /// The flags of a request.
@@ -340,13 +322,15 @@ impl<'a> ComStmtBulkExecuteRequestBuilder<'a> {
         ensures { MatchOption result (RowFits self.now.state (map V.content row.now) → ⊥)
             (λ n. RowFits self.now.state (map V.content row.now) × (n ≡ sum_by row_size (self.now.state.waiting ++ map V.content row.now ∷ []))) }
     {
-        size_by_call(
+        // (the number of values is mostly not known: they are counted by a call)
+        size_with(
             self.rule,
             self.limit,
             self.types_due,
             self.count,
             self.size,
             row,
+            row_len_by_call(row),
         )
     }
 

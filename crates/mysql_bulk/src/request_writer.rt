@@ -14,6 +14,7 @@ ghost use Rattle.mysql_bulk.specs.ValueRows.{HoldsCells, IsRequestOf, LetsGo};
 use crate::builder::{flags_of, size_with};
 use crate::column_types::{first_refused, spell_row};
 use crate::error::{BulkColumnTypeError, BulkRowError};
+use crate::row::row_len;
 use crate::size::request_len;
 use mysql_cuts::BulkRule;
 use mysql_values::{ParamType, ValueRef};
@@ -244,6 +245,7 @@ impl<'a> BulkRequestWriter<'a> {
             self.count,
             self.size,
             row,
+            row_len(row),
         )
     }
 

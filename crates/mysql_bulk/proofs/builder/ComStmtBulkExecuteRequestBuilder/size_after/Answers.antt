@@ -13,8 +13,8 @@ pub returns : goal.returns
 returns g c =
     let rows = waiting_rows c.self.inside.arity c.self.inside.count (contents_of c.self.inside.values.items) in
     let row = map g.V.RowValue.content c.args.row.now in
-    let P : ℕ → Type 0 = λ n. MatchOption c.size_by_call.result (PartFits (rows_packing c.self.inside.rule c.self.inside.limit n) c.self.inside.types_due (rows ++ row ∷ []) → ⊥)
+    let P : ℕ → Type 0 = λ n. MatchOption c.size_with.result (PartFits (rows_packing c.self.inside.rule c.self.inside.limit n) c.self.inside.types_due (rows ++ row ∷ []) → ⊥)
     (λ m. PartFits (rows_packing c.self.inside.rule c.self.inside.limit n) c.self.inside.types_due (rows ++ row ∷ []) × (m ≡ sum_by row_size (rows ++ row ∷ []))) in
     rw (← c.self.view_is)
     (subst P (sym (length-map c.args.row.now g.V.RowValue.content))
-    (c.size_by_call.ensures.fits rows (length-rows_of (unwrap_or c.self.inside.arity 0) c.self.inside.count (contents_of c.self.inside.values.items)) c.self.invariant.flat.size_is))
+    (c.size_with.ensures.fits rows (length-rows_of (unwrap_or c.self.inside.arity 0) c.self.inside.count (contents_of c.self.inside.values.items)) c.self.invariant.flat.size_is))
