@@ -57,9 +57,8 @@ held_after more values row e = ap contents_of e ∙ map-append content_of values
 -- copies have the contents of the values
 pub held_by_copies : (values copies : List Value) → AllZip (λ value copy. content_of copy ≡ content_of value) values copies → contents_of copies ≡ contents_of values
 held_by_copies [] [] a = refl
-held_by_copies [] (y ∷ copies) a = absurd a
-held_by_copies (x ∷ values) [] a = absurd a
 held_by_copies (x ∷ values) (y ∷ copies) a = λ i. a.0 i ∷ held_by_copies values copies a.1 i
+held_by_copies values copies a = absurd a
 
 -- equal builders have equal states
 pub same_state : {a b : Builder} → a ≡ b → a.state ≡ b.state

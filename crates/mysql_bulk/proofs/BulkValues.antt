@@ -9,9 +9,8 @@ use Rattle.mysql_bulk.specs.declared.bulk_value.BulkValue.{BulkValue}
 -- a row has as many cells as there are types that spell it
 pub cells_long : (types : List ParamType) (row : List Cell) → spells_cells types row ≡ true → length row ≡ length types
 cells_long [] [] e = refl
-cells_long [] (cell ∷ row) e = let f : false ≡ true = e in cc
-cells_long (t ∷ types) [] e = let f : false ≡ true = e in cc
 cells_long (t ∷ types) (cell ∷ row) e = ap suc (cells_long types row (and_parts (spells_cell t cell) (spells_cells types row) e).1)
+cells_long types row e = let f : false ≡ true = e in cc
 
 pub not_as_long : (types : List ParamType) (row : List BulkValue) → length types ≢ length row → spells_cells types (map cell_of row) ≡ false
 not_as_long types row n = false_from_ne_true (spells_cells types (map cell_of row)) (λ e. n (sym (cells_long types (map cell_of row) e) ∙ length-map row cell_of))

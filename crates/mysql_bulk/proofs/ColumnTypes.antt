@@ -19,9 +19,8 @@ use Rattle.mysql_bulk.proofs.DeclaredTypes.{types_all}
 -- a row has as many values as the types that can encode it
 pub spelled_long : (types : List ParamType) (row : List Content) → spell_row types row ≡ true → length row ≡ length types
 spelled_long [] [] e = refl
-spelled_long [] (value ∷ row) e = let f : false ≡ true = e in cc
-spelled_long (t ∷ types) [] e = let f : false ≡ true = e in cc
 spelled_long (t ∷ types) (value ∷ row) e = ap suc (spelled_long types row (and_parts (can_encode t value) (spell_row types row) e).1)
+spelled_long types row e = let f : false ≡ true = e in cc
 
 pub not_as_long : {V : Type 0} (content : V → Content) (types : List ParamType) (row : List V) → length types ≢ length row → spell_row types (map content row) ≡ false
 not_as_long content types row n = false_from_ne_true (spell_row types (map content row)) (λ e. n (sym (spelled_long types (map content row) e) ∙ length-map row content))

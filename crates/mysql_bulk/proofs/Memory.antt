@@ -9,15 +9,11 @@ use Rattle.mysql_bulk.specs.ParamValues.{BulkColumn, value_of_column, reads_firs
 -- a fault other than Memory says nothing about allocations
 pub faults-where : {A : Type 0} (b : Bool) (e : FaultOf) (read : Reading A) → (e ≡ fault.Memory → IsTrue b) → Faults true e read → Faults b e read
 faults-where b fault.Memory read memory h = memory refl
-faults-where b fault.UnexpectedEof read memory h = h
-faults-where b (fault.InvalidData text) read memory h = h
-faults-where b (fault.InvalidInput text) read memory h = h
+faults-where b e read memory h = h
 
 pub memory-only : {A : Type 0} (b : Bool) (e : FaultOf) (read : Reading A) → Faults b e read → e ≡ fault.Memory → IsTrue b
 memory-only b fault.Memory read h is = h
-memory-only b fault.UnexpectedEof read h is = absurd cc
-memory-only b (fault.InvalidData text) read h is = absurd cc
-memory-only b (fault.InvalidInput text) read h is = absurd cc
+memory-only b e read h is = absurd cc
 
 -- bytes that are present were read
 pub there-read : (read : Reading ParamValue) → IsTrue (param_has_bytes read) → IsTrue (is_ok read)

@@ -54,12 +54,11 @@ indicated column v a = a
 pub values-again : (place : ℕ) (columns : List BulkColumn) (values : List ParamValue) → AllZip ParamValueAgrees columns values → IsSpelling (each value_of_column place columns) values (values_bytes values)
 unfolding each
 values-again place [] [] a rest = (refl, refl)
-values-again place [] (v ∷ values) a rest = absurd a
-values-again place (column ∷ columns) [] a rest = absurd a
 values-again place (column ∷ columns) (v ∷ values) a rest =
     let P : List ℕ → Type 0 = λ bytes. (each value_of_column place (column ∷ columns)).Spells (v ∷ values) bytes rest in
     subst P (sym (append_assoc (param_value_bytes v) (values_bytes values) rest))
     (v, values_bytes values ++ rest, param_value-again column v a.0 (values_bytes values ++ rest), (values, rest, values-again (place + 1) columns values a.1 rest, (refl, refl)))
+values-again place columns values a rest = absurd a
 
 -- ---- a row
 
@@ -73,12 +72,11 @@ row_bytes row = values_bytes (map with_indicator row)
 row_again : (place : ℕ) (columns : List BulkColumn) (row : List Content) → AgreesWith columns row → IsSpelling (each content_of_column place columns) row (row_bytes row)
 unfolding each
 row_again place [] [] a rest = (refl, refl)
-row_again place [] (v ∷ row) a rest = absurd a
-row_again place (column ∷ columns) [] a rest = absurd a
 row_again place (column ∷ columns) (v ∷ row) a rest =
     let P : List ℕ → Type 0 = λ bytes. (each content_of_column place (column ∷ columns)).Spells (v ∷ row) bytes rest in
     subst P (sym (append_assoc (param_value_bytes (with_indicator v)) (row_bytes row) rest))
     (v, row_bytes row ++ rest, value_round_trips place column v a.0 (row_bytes row ++ rest), (row, rest, row_again (place + 1) columns row a.1 rest, (refl, refl)))
+row_again place columns row a rest = absurd a
 
 row_some : (columns : List BulkColumn) (row : List Content) → columns ≢ [] → AgreesWith columns row → 0 < length (row_bytes row)
 unfolding le_bytes

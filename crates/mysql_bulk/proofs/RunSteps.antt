@@ -57,12 +57,8 @@ is_none_from (Some x) true h = let e : true ≡ false = h in cc
 is_none_from (Some x) false h = refl
 
 pub none_built : (s t : BuilderState) (e : BulkExecuteRequestError) → Builds s (Err e) t → (s.waiting ≡ []) × (t ≡ s)
-none_built s t MixedArity b = absurd b
-none_built s t (MixedTypes row) b = absurd b
-none_built s t (RowTooLarge row) b = absurd b
-none_built s t (MemoryRow row) b = absurd b
 none_built s t NoParams b = b
-none_built s t Memory b = absurd b
+none_built s t e b = absurd b
 
 module _ {S : Type 0} (steps : S → Option (Vec Value) → S → Type 0) where
   -- some of the next rows were accepted, from one place of the input to another

@@ -23,10 +23,9 @@ let_go_is u v some h = h ∙ ap (λ (b : Bool). if b then record u { capacity = 
 requests_push : (w : WriterState) (types : Bool) (cut : List (List (List Cell))) (requests : List (List ℕ)) (part : List (List Cell)) (bytes : List ℕ) → AreCellRequests w types cut requests
     → bytes ≡ request_of_cells w (types_after (packing w) types cut) part → AreCellRequests w types (cut ++ part ∷ []) (requests ++ bytes ∷ [])
 requests_push w types [] [] part bytes a e = (e, tt)
-requests_push w types [] (q ∷ requests) part bytes a e = absurd a
-requests_push w types (p ∷ cut) [] part bytes a e = absurd a
 requests_push w types (p ∷ cut) (q ∷ requests) part bytes a e =
     (a.0, requests_push w w.rule.types_always cut requests part bytes a.1 (e ∙ ap (λ (t : Bool). request_of_cells w t part) (sym (types_later (packing w) cut))))
+requests_push w types cut requests part bytes a e = absurd a
 
 -- the waiting rows are a request of these bytes
 open_bytes : (w u : WriterState) (due : Bool) (waiting : List (List Cell)) → waiting ≢ [] → u.bytes ≡ so_far (with_settings w due u) waiting → u.bytes ≡ request_of_cells w due waiting
@@ -86,9 +85,7 @@ module _ {w u : WriterState} {all : List (List Cell)} {requests : List (List ℕ
         packed = packed_close k w.types_due g.cut g.waiting g.before rest g.packed some next;
         whole = g.whole;
         holds = holds_none (let_go u v) refl refl refl;
-        settings =
-            ap (λ (x : WriterState). record x { types_due = x.rule.types_always; count = 0; size = 0; bytes = []; capacity = v.capacity }) g.settings
-            ∙ ap (λ (t : Bool). with_settings w t (let_go u v)) (sym (types_after_push k w.types_due g.cut g.waiting));
+        settings = ap (λ (x : WriterState). let_go x v) g.settings ∙ ap (λ (t : Bool). with_settings w t (let_go u v)) (sym (types_after_push k w.types_due g.cut g.waiting));
         bytes = requests_push w w.types_due g.cut requests g.waiting u.bytes g.bytes (open_bytes w u (types_after k w.types_due g.cut) g.waiting some (g.holds.bytes ∙ ap (λ (x : WriterState). so_far x g.waiting) g.settings));
       })
 

@@ -88,17 +88,12 @@ waits (row ∷ rows) s t requests some c = elim c [
 -- ---- the bytes
 
 is_request : (s : BuilderState) (rows : List (List Content)) (q : BulkRequest) → IsRequest s rows q → q ≡ request_of s rows
-is_request s rows q i = let r = request_of s rows in
-    ap (λ n. record q { stmt_id = n }) i.id
-    ∙ ap (λ f. record q { stmt_id = r.stmt_id; bulk_flags = f }) i.flags
-    ∙ ap (λ t. record q { stmt_id = r.stmt_id; bulk_flags = r.bulk_flags; types = t }) i.types
-    ∙ ap (λ v. record r { values = v }) i.values
+is_request s rows q i = λ k. record { stmt_id = i.id k; bulk_flags = i.flags k; types = i.types k; values = i.values k }
 
 are_bytes : (s : BuilderState) (cut : List (List (List Content))) (requests : List BulkRequest) → AreRequests s cut requests → AreBytes s cut (map request_bytes requests)
 are_bytes s [] [] a = tt
-are_bytes s [] (q ∷ requests) a = absurd a
-are_bytes s (part ∷ cut) [] a = absurd a
 are_bytes s (part ∷ cut) (q ∷ requests) a = (ap request_bytes (is_request s part q a.0), are_bytes (after_request s) cut requests a.1)
+are_bytes s cut requests a = absurd a
 
 -- ---- the ends of a loop that began without a row
 

@@ -68,10 +68,9 @@ due_sent s cut = types_later (packing s 0) cut
 AreRequests-push : (s : BuilderState) (arity : Option ℕ) (waiting : List (List Content)) (cut : List (List (List Content))) (requests : List BulkRequest) (part : List (List Content)) (request : BulkRequest) → AreRequests s cut requests
     → IsRequest (record s { arity = arity; types_due = due_after s cut; waiting = waiting }) part request → AreRequests s (cut ++ part ∷ []) (requests ++ request ∷ [])
 AreRequests-push s arity waiting [] [] part request a i = (record { id = i.id; flags = i.flags; types = i.types; values = i.values; taken = i.taken }, tt)
-AreRequests-push s arity waiting [] (q ∷ requests) part request a i = absurd a
-AreRequests-push s arity waiting (p ∷ cut) [] part request a i = absurd a
 AreRequests-push s arity waiting (p ∷ cut) (q ∷ requests) part request a i =
     (a.0, AreRequests-push (after_request s) arity waiting cut requests part request a.1 (rw (due_sent s cut) i))
+AreRequests-push s arity waiting cut requests part request a i = absurd a
 
 EachWasDue-push : (s : BuilderState) (cut : List (List (List Content))) (part rest : List (List Content)) → EachWasDue s cut (part ++ rest)
     → RequestIsDue (holding (record s { types_due = due_after s cut }) part) rest → EachWasDue s (cut ++ part ∷ []) rest
@@ -174,9 +173,7 @@ module _ {s : BuilderState} {all : List (List Content)} {requests : List BulkReq
         packed = packed_more (measure s all) s.types_due cut b.waiting r.before row rest r.packed (fits_to row rest r h f);
         requests_are = r.requests_are;
         whole = append_assoc r.before (row ∷ []) rest ∙ r.whole;
-        left =
-            ap (λ (u : BuilderState). record u { arity = Some (length row); waiting = b.waiting ++ row ∷ [] }) r.left
-            ∙ ap (λ a. record s { arity = a; types_due = due_after s cut; waiting = b.waiting ++ row ∷ [] }) (arity_more s.arity r.before row rest all r.whole h);
+        left = λ k. record (r.left k) { arity = arity_more s.arity r.before row rest all r.whole h k; waiting = b.waiting ++ row ∷ [] };
         lengths = EqualLengths-push (first_length all) r.before row r.lengths h;
         taken = All-push (TakesTypes s.columns) r.before row r.taken (types_to row (row ∷ rest) r t.1);
         arity_stays = λ n e. ap Some (rw (r.arity_stays n e) at t.0);
@@ -203,9 +200,7 @@ module _ {s : BuilderState} {all : List (List Content)} {requests : List BulkReq
         packed = packed_close (measure s all) s.types_due cut b.waiting r.before rest r.packed a.some (does_not_fit rest r d);
         requests_are = AreRequests-push s (arity_after s.arity r.before) b.waiting cut requests b.waiting request r.requests_are (rw r.left at a.is_theirs);
         whole = r.whole;
-        left =
-            ap (λ (u : BuilderState). record u { types_due = u.rule.types_always; waiting = [] }) r.left
-            ∙ ap (λ t. record s { arity = arity_after s.arity r.before; types_due = t; waiting = [] }) (sym (types_after_push (packing s 0) s.types_due cut b.waiting));
+        left = λ k. record (r.left k) { types_due = (ap (λ (u : BuilderState). u.rule.types_always) r.left ∙ sym (types_after_push (packing s 0) s.types_due cut b.waiting)) k; waiting = [] };
         lengths = r.lengths;
         taken = r.taken;
         arity_stays = r.arity_stays;
