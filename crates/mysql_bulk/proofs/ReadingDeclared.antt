@@ -81,8 +81,7 @@ same_sign false = refl
 row_agrees : (types : List ParamType) (row : List Content) → spell_row types row ≡ true → All IsInRange row → AgreesWith (map column_of_type types) (row_under types row)
 row_agrees [] [] s r = tt
 row_agrees (t ∷ types) (v ∷ row) s r =
-    let parts = and_parts (can_encode t v) (spell_row types row) s in
-    (
+    let parts = and_parts (can_encode t v) (spell_row types row) s in (
       rw (same_sign (is_unsigned t)) (agrees_as t (is_unsigned t) v refl parts.0 (All-head IsInRange v row r)),
       row_agrees types row parts.1 (All-tail IsInRange v row r),
     )

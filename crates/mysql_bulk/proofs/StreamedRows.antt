@@ -1,5 +1,5 @@
 -- A caller's own loop over a request writer is the loop over the builder with the same waiting rows.
-use Rattle.std.proofs.Common.{◌≡◌, ◌≢◌, ℕ, true, List, [], ◌∷◌, ◌++◌, map, Result, Ok, Err, refl, sym, ◌∙◌, ap, subst, inl, inr}
+use Rattle.std.proofs.Common.{◌≡◌, ◌≢◌, ℕ, true, List, [], ◌∷◌, ◌++◌, map, Result, Ok, Err, refl, sym, ◌∙◌, ap, subst, inl, inr, ◌⊎◌, arith, length, length-append}
 use Rattle.std.specs.Prelude.{All}
 use Rattle.std.proofs.lemmas.List.{append-nil, map-append}
 use Rattle.std.proofs.lemmas.List.Elements.{All-nil}
@@ -21,8 +21,7 @@ use Rattle.mysql_bulk.proofs.RunSteps.{none_built}
 use Rattle.mysql_bulk.proofs.WholeRun.{new_consistent}
 
 some_last : {X : Type 0} (xs : List X) (x : X) → xs ++ x ∷ [] ≢ []
-some_last [] x e = cc
-some_last (y ∷ xs) x e = cc
+some_last xs x e = omega (arith, ap length e, length-append xs (x ∷ []))
 
 -- the builder is as after a request
 is_after : (s t : BuilderState) (result : Result BulkRequest BulkExecuteRequestError) → Builds s result t → s.waiting ≢ [] → t ≡ after_request s
@@ -71,18 +70,12 @@ is_collected (row ∷ rows) w u part requests h s = elim s [
 ]
 
 -- rows are waiting at the end
-waits_still : (rows : List (List Content)) (s t : BuilderState) (requests : List BulkRequest) → s.waiting ≢ [] → Collects s rows requests t → t.waiting ≢ []
-waits_still [] s t requests some c = λ e. some (sym (ap (λ (b : BuilderState). b.waiting) c.1) ∙ e)
-waits_still (row ∷ rows) s t requests some c = elim c [
-  | inl at ↦ waits_still rows at.0 t requests (λ e. some_last s.waiting row (sym (ap (λ (b : BuilderState). b.waiting) at.1.2) ∙ e)) at.2
-  | inr at ↦ waits_still rows at.2 t at.4 (λ e. some_last at.1.waiting row (sym (ap (λ (b : BuilderState). b.waiting) at.7.2) ∙ e)) at.9
-]
-
-waits : (rows : List (List Content)) (s t : BuilderState) (requests : List BulkRequest) → rows ≢ [] → Collects s rows requests t → t.waiting ≢ []
-waits [] s t requests some c = absurd (some refl)
+waits : (rows : List (List Content)) (s t : BuilderState) (requests : List BulkRequest) → (s.waiting ≢ []) ⊎ (rows ≢ []) → Collects s rows requests t → t.waiting ≢ []
+waits [] s t requests (inl some) c = λ e. some (sym (ap (λ (b : BuilderState). b.waiting) c.1) ∙ e)
+waits [] s t requests (inr none) c = absurd (none refl)
 waits (row ∷ rows) s t requests some c = elim c [
-  | inl at ↦ waits_still rows at.0 t requests (λ e. some_last s.waiting row (sym (ap (λ (b : BuilderState). b.waiting) at.1.2) ∙ e)) at.2
-  | inr at ↦ waits_still rows at.2 t at.4 (λ e. some_last at.1.waiting row (sym (ap (λ (b : BuilderState). b.waiting) at.7.2) ∙ e)) at.9
+  | inl at ↦ waits rows at.0 t requests (inl (λ e. some_last s.waiting row (sym (ap (λ (b : BuilderState). b.waiting) at.1.2) ∙ e))) at.2
+  | inr at ↦ waits rows at.2 t at.4 (inl (λ e. some_last at.1.waiting row (sym (ap (λ (b : BuilderState). b.waiting) at.7.2) ∙ e))) at.9
 ]
 
 -- ---- the bytes
@@ -102,7 +95,7 @@ streamed_fewest w u rows requests h due s some =
     let start = as_builder w [] in
     let new : IsNew start = record { arity = refl; types_due = due; waiting = refl } in
     let c = is_collected rows w u [] requests h s in
-    let last = holds_request u c.waiting c.holds (waits rows start (as_builder u c.waiting) c.sent some c.collects) in
+    let last = holds_request u c.waiting c.holds (waits rows start (as_builder u c.waiting) c.sent (inr some) c.collects) in
     let run = (all_collected start (as_builder u c.waiting) (after_request (as_builder u c.waiting)) rows c.sent last.0 (new_consistent start new) c.collects last.1).1 in
     let all : rows_in run.cut ++ [] ≡ rows = sym (append-nil (rows_in run.cut ++ [])) ∙ ap (λ (l : List (List Content)). (rows_in run.cut ++ []) ++ l) (sym run.ended.1) ∙ run.all_rows in
     let taken : All (TakesTypes start.columns) rows = subst (All (TakesTypes start.columns)) all run.taken in

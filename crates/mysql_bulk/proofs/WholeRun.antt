@@ -78,7 +78,7 @@ EachWasDue-push s [] part rest e d = (d, tt)
 EachWasDue-push s (p ∷ cut) part rest e d =
     (subst (RequestIsDue (holding s p)) (joined_seam (packing s 0) cut part rest) e.0, EachWasDue-push (after_request s) cut part rest e.1 (rw (due_sent s cut) d))
 
--- rows of one length, in a list that begins with them
+-- rows of one length have the length that is known after them
 of_arity : (known : Option ℕ) (rows : List (List Content)) → OneLength rows → OfArity (arity_after known rows) rows
 of_arity None [] h = refl
 of_arity (Some n) [] h = tt
