@@ -41,6 +41,10 @@ pub taken_long : (columns : Option (List ParamType)) (types : List ParamType) (r
 taken_long None types row e t = cc
 taken_long (Some declared) types row e t = let s : declared ≡ types = cc in spelled_long declared row t ∙ ap length s
 
+pub first_is_long : (types : List ParamType) (rows : List (List Content)) → rows ≢ [] → All (TakesTypes (Some types)) rows → length types ≡ first_length rows
+first_is_long types [] some taken = absurd (some refl)
+first_is_long types (row ∷ rows) some taken = sym (spelled_long types row (All-head (TakesTypes (Some types)) row rows taken))
+
 -- a request of rows has as many types as the first row has values
 pub length-types_of_rows : (columns : Option (List ParamType)) (rows : List (List Content)) → All (TakesTypes columns) rows → length (types_of_rows columns rows) ≡ first_length rows
 length-types_of_rows None rows a = length-map-range_with_len (λ i. declared_type (column_values rows i)) 0 (first_length rows)

@@ -192,15 +192,13 @@ pub part_fits : (s : BuilderState) (columns : List BulkColumn) (rows : List (Lis
 part_fits s columns rows request r p =
     let b = s.types_due in
     let sends : sends_types request.bulk_flags ≡ b = ap sends_types r.flags ∙ has_types b s.results in
-    let T : Bool → List ParamType → Type 0 = λ c types. TypesFor c (length columns) types in
-    let C : List BulkColumn → Type 0 = λ c. All (AgreesWith c) rows in
     let same : value_columns columns (head_of request) ≡ columns_read_by s columns rows =
     ap (λ c. if c then map column_of_type request.types else columns) sends ∙ ap (λ types. if b then map column_of_type types else columns) r.types ∙ sent_or_passed b (types_of_rows s.columns rows) columns in
     record {
       stmt_id = rw r.id p.stmt_id;
       bulk_flags = rw r.flags (flags_small b s.results);
       some = p.some;
-      types = subst (λ c. T c request.types) (sym sends) (subst (T b) (sym r.types) (sent_types b s.columns rows (length columns) p.long r.taken p.declarable));
+      types = rw (sends, r.types) (sent_types b s.columns rows (length columns) p.long r.taken p.declarable);
       values = r.values;
-      agree = subst C (sym same) p.agree;
+      agree = rw same p.agree;
     }

@@ -17,15 +17,13 @@ use Rattle.mysql_values.proofs.ValueAgain.{agrees-by_kind, agrees-by_type, longl
 use Rattle.mysql_bulk.specs.Builder.{BuilderState, IsRequest}
 use Rattle.mysql_bulk.specs.ColumnTypes.{is_unsigned, can_encode, spell_row, TakesTypes, types_of_rows}
 use Rattle.mysql_bulk.specs.Head.{sends_types, value_columns, column_of_type}
-use Rattle.mysql_bulk.specs.HeadTypes.{TypesFor}
 use Rattle.mysql_bulk.specs.ParamValue.{with_indicator, param_value_bytes, values_bytes}
-use Rattle.mysql_bulk.specs.ParamValues.{BulkColumn}
 use Rattle.mysql_bulk.specs.ReadingBack.{AgreesWith, RowsFit, as_signed, row_under, IsDeclaredPart}
 use Rattle.mysql_bulk.specs.Request.{BulkRequest, head_of, request_bytes}
 use Rattle.mysql_bulk.specs.Head.{head}
 use Rattle.mysql_bulk.specs.ReadRows.{bulk_rows}
 use Rattle.mysql_bulk.specs.Row.{first_length}
-use Rattle.mysql_bulk.proofs.ColumnTypes.{spelled_long}
+use Rattle.mysql_bulk.proofs.ColumnTypes.{first_is_long}
 use Rattle.mysql_bulk.proofs.ReadingBack.{row_bytes, bytes_of_rows, has_types, flags_small, sent_types, request_again}
 
 -- ---- a value
@@ -110,10 +108,6 @@ columns_some : (types : List ParamType) → types ≢ [] → map column_of_type 
 columns_some [] n = absurd (n refl)
 columns_some (t ∷ types) n = λ e. cc
 
-first_is_long : (types : List ParamType) (rows : List (List Content)) → rows ≢ [] → All (TakesTypes (Some types)) rows → length types ≡ first_length rows
-first_is_long types [] n t = absurd (n refl)
-first_is_long types (row ∷ rows) n t = sym (spelled_long types row (All-head (TakesTypes (Some types)) row rows t))
-
 -- the columns of the request, or those that are passed
 columns_are : (b : Bool) (types : List ParamType) (rows : List (List Content)) → rows ≢ []
     → (if b then map column_of_type (if b then types_of_rows (Some types) rows else []) else map column_of_type types) ≡ map column_of_type types
@@ -135,16 +129,14 @@ declared_again s types rows request r p =
     ap values_bytes r.values ∙ sym (bytes_of_rows rows) ∙ rows_same_bytes types rows ∙ bytes_of_rows under in
     let bytes : request_bytes read ≡ request_bytes request = ap (λ (l : List ℕ). head.bytes (head_of request) ++ (l ++ [])) (sym values) in
     let long : length columns ≡ first_length rows = length-map types column_of_type ∙ first_is_long types rows p.some_row taken in
-    let T : Bool → List ParamType → Type 0 = λ c types. TypesFor c (length columns) types in
     let same : value_columns columns (head_of request) ≡ columns =
     ap (λ c. if c then map column_of_type request.types else columns) sends ∙ ap (λ types. if b then map column_of_type types else columns) types_are ∙ columns_are b types rows p.some_row in
-    let C : List BulkColumn → Type 0 = λ c. All (AgreesWith c) under in
     let fits : RowsFit columns read under = record {
       stmt_id = rw r.id p.stmt_id;
       bulk_flags = rw r.flags (flags_small b s.results);
       some = columns_some types p.some;
-      types = subst (λ c. T c request.types) (sym sends) (subst (T b) (sym types_are) (sent_types b (Some types) rows (length columns) long taken p.declarable));
+      types = rw (sends, types_are) (sent_types b (Some types) rows (length columns) long taken p.declarable);
       values = refl;
-      agree = subst C (sym same) (rows_agree types rows taken p.in_range);
+      agree = rw same (rows_agree types rows taken p.in_range);
     } in
     subst (λ bytes. (bulk_rows columns).Spells under bytes []) bytes (request_again columns read under fits)

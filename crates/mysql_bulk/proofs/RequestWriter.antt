@@ -1,10 +1,9 @@
 -- What a request writer has written, and the builder with the same rows.
 use Rattle.std.proofs.Common.{◌≡◌, ◌≢◌, ℕ, ◌+◌, ◌*◌, Bool, true, false, if◌then◌else◌, List, [], ◌∷◌, ◌++◌, length, map, Some, Ok, Err, IsTrue, refl, sym, ◌∙◌, ap, subst, arith, length-append}
-use Rattle.std.specs.Prelude.{All}
 use Rattle.std.specs.List.{flat_map}
 use Rattle.std.proofs.lemmas.Grind.{flat_map-append}
 use Rattle.std.proofs.lemmas.List.{append-nil, length-map, map-append}
-use Rattle.std.proofs.lemmas.List.Elements.{All-nil, All-head, All-push}
+use Rattle.std.proofs.lemmas.List.Elements.{All-nil, All-push}
 use Rattle.std.proofs.lemmas.List.Sums.{sum_by-append}
 use Rattle.mysql_cuts.specs.Cut.{rows_in}
 use Rattle.mysql_values.specs.declared.param_type.ParamType.{ParamType}
@@ -19,8 +18,8 @@ use Rattle.mysql_bulk.specs.ParamValue.{cell, with_indicator, param_value_bytes,
 use Rattle.mysql_bulk.specs.Request.{request_bytes}
 use Rattle.mysql_bulk.specs.RequestWriter.{WriterState, as_builder, request_of, bytes_so_far, Holds, IsBuilt, AddsAsBuilder, FinishesAsBuilder, cells_bytes, head_bytes, with_row}
 use Rattle.mysql_bulk.proofs.WrittenRows.{written, first_written, further_written, none_counted, some_counted}
-use Rattle.mysql_bulk.specs.Row.{row_size, first_length}
-use Rattle.mysql_bulk.proofs.ColumnTypes.{spelled_long}
+use Rattle.mysql_bulk.specs.Row.{row_size}
+use Rattle.mysql_bulk.proofs.ColumnTypes.{first_is_long}
 use Rattle.mysql_bulk.proofs.RequestBytes.{length-values, contents_indicators, size_of_rows}
 
 -- ---- the bytes of a row
@@ -77,10 +76,6 @@ builder_more w rows row t = ap (λ (n : ℕ). record (as_builder w (rows ++ row 
 
 -- ---- the request
 
-pub length_first : (w : WriterState) (rows : List (List Content)) → rows ≢ [] → All (TakesTypes (Some w.types)) rows → length w.types ≡ first_length rows
-length_first w [] some taken = absurd (some refl)
-length_first w (row ∷ rows) some taken = sym (spelled_long w.types row (All-head (TakesTypes (Some w.types)) row rows taken))
-
 pub bytes_are : (s : BuilderState) (rows : List (List Content)) → rows ≢ [] → bytes_so_far s rows ≡ request_bytes (request_of s rows)
 bytes_are s [] some = absurd (some refl)
 bytes_are s (row ∷ rows) some = refl
@@ -95,7 +90,7 @@ holds_request w rows h some =
       some = some;
       is_theirs = theirs;
       size = size_of_rows s rows request theirs;
-      fits = rw (length_first w rows some h.taken) at (h.fits some);
+      fits = rw (first_is_long w.types rows some h.taken) at (h.fits some);
       left = refl;
     } in
     (request, builds, h.bytes ∙ bytes_are s rows some)

@@ -16,7 +16,8 @@ use Rattle.mysql_bulk.specs.RequestWriter.{WriterState, as_builder, request_of, 
 use Rattle.mysql_bulk.specs.StreamedRows.{Streams, AreBytes, AreFewest, StreamEndsRefused}
 use Rattle.mysql_bulk.specs.WholeRun.{AreRequests, IsNew}
 use Rattle.mysql_bulk.proofs.CollectedRows.{all_collected, copy_ends}
-use Rattle.mysql_bulk.proofs.RequestWriter.{holds_request, length_first}
+use Rattle.mysql_bulk.proofs.RequestWriter.{holds_request}
+use Rattle.mysql_bulk.proofs.ColumnTypes.{first_is_long}
 use Rattle.mysql_bulk.proofs.RunSteps.{none_built}
 use Rattle.mysql_bulk.proofs.WholeRun.{new_consistent}
 
@@ -105,7 +106,7 @@ streamed_fewest w u rows requests h due s some =
     ∙ ap (λ (l : List ℕ). requests ++ l ∷ []) (sym last.2) in
     record {
       cut = run.cut;
-      fewest = subst (λ n. IsFewest (packing start n) rows run.cut) (sym (length_first w rows some taken)) (run.fewest new refl);
+      fewest = subst (λ n. IsFewest (packing start n) rows run.cut) (sym (first_is_long w.types rows some taken)) (run.fewest new refl);
       bytes = subst (AreBytes start run.cut) bytes (are_bytes start run.cut (c.sent ++ last.0 ∷ []) run.requests_are);
     }
 
