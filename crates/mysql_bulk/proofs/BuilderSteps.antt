@@ -16,7 +16,7 @@ use Rattle.mysql_bulk.specs.Row.{row_size, rows_packing, first_length, EqualLeng
 use Rattle.mysql_bulk.specs.BuilderRows.{rows_of, waiting_rows}
 use Rattle.mysql_bulk.proofs.ColumnTypes.{spelled_long, length-types_of_rows, types_so_far_all, types_so_far_more, types_so_far_declared}
 use Rattle.mysql_bulk.proofs.DeclaredTypes.{types_before}
-use Rattle.mysql_bulk.proofs.RequestBytes.{size-rows_in}
+use Rattle.mysql_bulk.proofs.RequestBytes.{length-sent, size-rows_in}
 use Rattle.mysql_bulk.proofs.BuilderRows.{flat_values, flat_none, flat_some, flat_rows, flat_more, length-rows_of, one_length, first_long}
 
 pub saturated_small : (n : ℕ) → n < 2 ^ 64 → n ≡ saturated n
@@ -32,10 +32,6 @@ equal_rows a (suc n) values h =
 pub if_same : {X : Type 0} (b : Bool) (x y z : X) → x ≡ y → (if b then x else z) ≡ (if b then y else z)
 if_same true x y z e = e
 if_same false x y z e = refl
-
-length-if : (b : Bool) (a : ℕ) (types : List ParamType) → length types ≡ a → 2 * length (if b then types else []) ≡ (if b then 2 * a else 0)
-length-if true a types e = ap (λ n. 2 * n) e
-length-if false a types e = refl
 
 as_many : (arity : Option ℕ) (n l : ℕ) → TakesArity arity n → l ≡ unwrap_or arity 0 → (l ≡ n) ⊎ (l ≡ 0)
 as_many None n l t e = inr e
@@ -95,7 +91,7 @@ module _ {s : BuilderState} {count size : ℕ} {values : List Content} {types : 
   types_size n =
       let a = unwrap_or s.arity 0 in
       ap (λ (l : List ParamType). 2 * length l) (stored_types n)
-      ∙ length-if s.types_due a (types_of_rows s.columns s.waiting) (length-types_of_rows s.columns s.waiting k.taken ∙ first_long a s.waiting (stored_rows n) stored_equal)
+      ∙ length-sent s.types_due a (types_of_rows s.columns s.waiting) (length-types_of_rows s.columns s.waiting k.taken ∙ first_long a s.waiting (stored_rows n) stored_equal)
 
   rows_size : size ≡ sum_by row_size s.waiting
   rows_size = k.flat.size_is ∙ ap (sum_by row_size) (sym k.rows_is)

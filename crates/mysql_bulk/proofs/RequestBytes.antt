@@ -1,7 +1,6 @@
 -- The bytes of a request, and their number.
-use Rattle.std.proofs.Common.{◌≡◌, ◌+◌, ◌*◌, Bool, true, false, if◌then◌else◌, List, [], ◌∷◌, ◌++◌, length, map, refl, ◌∙◌, ap, arith, length-append, sum_by}
+use Rattle.std.proofs.Common.{◌≡◌, ℕ, ◌+◌, ◌*◌, Bool, true, false, if◌then◌else◌, List, [], ◌∷◌, ◌++◌, length, map, refl, ◌∙◌, ap, arith, length-append, sum_by}
 use Rattle.std.specs.List.{flat_map}
-use Rattle.std.specs.Prelude.{All, Option}
 use Rattle.std.proofs.lemmas.List.Sums.{sum_by-append}
 use Rattle.mysql_wire.specs.MariadbBulkIndicator.{mariadb_bulk_indicator_code}
 use Rattle.mysql_wire.specs.Writing.{le_bytes}
@@ -11,7 +10,7 @@ use Rattle.mysql_values.specs.declared.param_type.ParamType.{ParamType}
 use Rattle.mysql_values.specs.declared.value.Value.{Value}
 use Rattle.mysql_values.specs.Value.{Content, bin, bin_size, content_of, contents_of}
 use Rattle.mysql_bulk.specs.Builder.{BuilderState, packing, IsRequest}
-use Rattle.mysql_bulk.specs.ColumnTypes.{TakesTypes, types_of_rows}
+use Rattle.mysql_bulk.specs.ColumnTypes.{types_of_rows}
 use Rattle.mysql_bulk.proofs.ColumnTypes.{length-types_of_rows}
 use Rattle.mysql_bulk.specs.Head.{BulkHead, head}
 use Rattle.mysql_bulk.specs.HeadTypes.{types_bytes, length-types}
@@ -76,13 +75,14 @@ pub size-rows_in : (rows : List (List Content)) → row_size (rows_in rows) ≡ 
 size-rows_in [] = refl
 size-rows_in (row ∷ rows) = omega (arith, sum_by-append param_size row (rows_in rows), size-rows_in rows, sum_by-append row_size (row ∷ []) rows)
 
-types_size : (sent : Bool) (columns : Option (List ParamType)) (rows : List (List Content)) → All (TakesTypes columns) rows → 2 * length (if sent then types_of_rows columns rows else []) ≡ (if sent then 2 * first_length rows else 0)
-types_size true columns rows taken = ap (λ n. 2 * n) (length-types_of_rows columns rows taken)
-types_size false columns rows taken = refl
+-- two bytes for each type that is sent
+pub length-sent : (sent : Bool) (n : ℕ) (types : List ParamType) → length types ≡ n → 2 * length (if sent then types else []) ≡ (if sent then 2 * n else 0)
+length-sent true n types e = ap (λ m. 2 * m) e
+length-sent false n types e = refl
 
 -- the request of rows is written as the bytes of rows of their sizes
 pub size_of_rows : (s : BuilderState) (rows : List (List Content)) (request : BulkRequest) → IsRequest s rows request → length (request_bytes request) ≡ request_size (packing s (first_length rows)) s.types_due rows
 size_of_rows s rows request i =
-    let types : 2 * length request.types ≡ (if s.types_due then 2 * first_length rows else 0) = ap (λ (l : List ParamType). 2 * length l) i.types ∙ types_size s.types_due s.columns rows i.taken in
+    let types : 2 * length request.types ≡ (if s.types_due then 2 * first_length rows else 0) = ap (λ (l : List ParamType). 2 * length l) i.types ∙ length-sent s.types_due (first_length rows) (types_of_rows s.columns rows) (length-types_of_rows s.columns rows i.taken) in
     let values : row_size (contents request.values) ≡ sum_by row_size rows = ap (λ (l : List ParamValue). row_size (contents l)) i.values ∙ ap row_size (contents_indicators (rows_in rows)) ∙ size-rows_in rows in
     omega (arith, length-request request, types, values)

@@ -1,12 +1,11 @@
 -- What a request writer has written, and the builder with the same rows.
-use Rattle.std.proofs.Common.{◌≡◌, ◌≢◌, ℕ, ◌+◌, ◌*◌, Bool, true, false, if◌then◌else◌, List, [], ◌∷◌, ◌++◌, length, map, Some, Ok, Err, IsTrue, refl, sym, ◌∙◌, ap, subst, arith, length-append}
+use Rattle.std.proofs.Common.{◌≡◌, ◌≢◌, ℕ, ◌+◌, true, List, [], ◌∷◌, ◌++◌, length, map, Some, Ok, Err, IsTrue, refl, sym, ◌∙◌, ap, subst, arith, length-append}
 use Rattle.std.specs.List.{flat_map}
 use Rattle.std.proofs.lemmas.Grind.{flat_map-append}
 use Rattle.std.proofs.lemmas.List.{append-nil, length-map, map-append}
 use Rattle.std.proofs.lemmas.List.Elements.{All-nil, All-push}
 use Rattle.std.proofs.lemmas.List.Sums.{sum_by-append}
 use Rattle.mysql_cuts.specs.Cut.{rows_in}
-use Rattle.mysql_values.specs.declared.param_type.ParamType.{ParamType}
 use Rattle.mysql_values.specs.declared.value_ref.ValueRef.{ValueRef}
 use Rattle.mysql_values.specs.Value.{Content}
 use Rattle.mysql_values.specs.ValueRef.{ref_content}
@@ -34,10 +33,6 @@ length-cells row =
     ap length (cells_of row)
     ∙ length-values (map with_indicator (map ref_content row))
     ∙ ap row_size (contents_indicators (map ref_content row))
-
-pub length-sent : (due : Bool) (types : List ParamType) → 2 * length (if due then types else []) ≡ (if due then 2 * length types else 0)
-length-sent true types = refl
-length-sent false types = refl
 
 -- ---- the bytes of a request, row by row
 
