@@ -1,6 +1,6 @@
 -- A request is read back: its values, its head and its rows.
 use Rattle.std.proofs.Common.{◌≡◌, ◌≢◌, ℕ, ◌+◌, ◌<◌, ◌^◌, Bool, true, false, if◌then◌else◌, List, [], ◌∷◌, ◌++◌, length, map, inl, inr, refl, sym, ◌∙◌, ap, subst, arith, append_assoc}
-use Rattle.std.proofs.lemmas.List.{append-nil, map-append}
+use Rattle.std.proofs.lemmas.List.{append-nil, map-append, length-map, nil_from_length}
 use Rattle.std.proofs.lemmas.Grind.{flat_map-append}
 use Rattle.std.proofs.lemmas.Bool.{and_parts, eqb-true}
 use Rattle.std.proofs.lemmas.Bool.Decides.{eqb_tells}
@@ -129,13 +129,8 @@ request_again columns request rows f =
       subst V (sym f.values) (rows_again (value_columns columns (head_of request)) rows columns_some f.agree),
     )
   where
-    mapped_some : (types : List ParamType) (columns : List BulkColumn) → length types ≡ length columns → columns ≢ [] → map column_of_type types ≢ []
-    mapped_some [] [] e n = absurd (n refl)
-    mapped_some [] (column ∷ columns) e n = absurd (omega (arith, e))
-    mapped_some (t ∷ types) columns e n = λ h. cc
-
     sent_some : (sent : Bool) (types : List ParamType) (columns : List BulkColumn) → columns ≢ [] → TypesFor sent (length columns) types → (if sent then map column_of_type types else columns) ≢ []
-    sent_some true types columns n e = mapped_some types columns e.0 n
+    sent_some true types columns n e = λ none. n (nil_from_length columns (sym e.0 ∙ sym (length-map types column_of_type) ∙ ap length none))
     sent_some false types columns n e = n
 
 -- ---- the request of a builder

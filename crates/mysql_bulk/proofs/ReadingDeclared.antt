@@ -5,7 +5,7 @@ use Rattle.std.specs.Int.{is_negative}
 use Rattle.std.specs.List.{All, flat_map}
 use Rattle.std.proofs.lemmas.Bool.{and_parts, ltb-true}
 use Rattle.std.proofs.lemmas.List.Elements.{All-head, All-tail, All-nil, All-cons}
-use Rattle.std.proofs.lemmas.List.{length-map}
+use Rattle.std.proofs.lemmas.List.{length-map, nil_from_length}
 use Rattle.mysql_wire.specs.FlagMasks.{UNSIGNED_FLAG}
 use Rattle.mysql_wire.specs.Flags.{has}
 use Rattle.mysql_cuts.specs.Cut.{rows_in}
@@ -104,10 +104,6 @@ rows_same_bytes : (types : List ParamType) (rows : List (List Content)) → flat
 rows_same_bytes types [] = refl
 rows_same_bytes types (row ∷ rows) = λ i. row_same_bytes types row i ++ rows_same_bytes types rows i
 
-columns_some : (types : List ParamType) → types ≢ [] → map column_of_type types ≢ []
-columns_some [] n = absurd (n refl)
-columns_some (t ∷ types) n = λ e. cc
-
 -- the columns of the request, or those that are passed
 columns_are : (b : Bool) (types : List ParamType) (rows : List (List Content)) → rows ≢ []
     → (if b then map column_of_type (if b then types_of_rows (Some types) rows else []) else map column_of_type types) ≡ map column_of_type types
@@ -134,7 +130,7 @@ declared_again s types rows request r p =
     let fits : RowsFit columns read under = record {
       stmt_id = rw r.id p.stmt_id;
       bulk_flags = rw r.flags (flags_small b s.results);
-      some = columns_some types p.some;
+      some = λ none. p.some (nil_from_length types (sym (length-map types column_of_type) ∙ ap length none));
       types = rw (sends, types_are) (sent_types b (Some types) rows (length columns) long taken p.declarable);
       values = refl;
       agree = rw same (rows_agree types rows taken p.in_range);

@@ -1,5 +1,6 @@
 -- A request made of rows.
 use Rattle.std.proofs.Common.{◌≡◌, ◌≢◌, ◌⊎◌, inl, inr, ℕ, Bool, true, false, if◌then◌else◌, List, [], ◌∷◌, ◌++◌, length, refl, sym, ◌∙◌, ap, append_assoc}
+use Rattle.std.proofs.lemmas.List.{length-map, nil_from_length}
 use Rattle.std.specs.Prelude.{fold}
 use Rattle.mysql_cuts.specs.Cut.{rows_in}
 use Rattle.mysql_values.specs.Value.{Content}
@@ -7,7 +8,7 @@ use Rattle.mysql_values.specs.declared.param_type.ParamType.{ParamType}
 use Rattle.mysql_bulk.specs.DeclaredTypes.{declared_types, types_with_row}
 use Rattle.std.specs.Global.{Vec}
 use Rattle.mysql_values.specs.declared.value.Value.{Value}
-use Rattle.mysql_bulk.specs.Row.{contents_of_rows}
+use Rattle.mysql_bulk.specs.Row.{contents_of_row, contents_of_rows}
 use Rattle.mysql_bulk.specs.Row.{EqualLengths}
 use Rattle.mysql_bulk.proofs.DeclaredTypes.{length-types, length-first, types_all}
 use Rattle.mysql_bulk.proofs.BuilderSteps.{if_same}
@@ -37,8 +38,7 @@ all_types sent flag a rows e n r =
     ap (λ (b : Bool). if b then fold types_with_row [] rows else []) e ∙ if_same flag (fold types_with_row [] rows) (declared_types rows) [] (types_all a rows n r)
 
 pub some_rows : (rows : List (Vec Value)) → rows ≢ [] → contents_of_rows rows ≢ []
-some_rows [] n = absurd (n refl)
-some_rows (row ∷ rows) n = λ e. cc
+some_rows rows n e = n (nil_from_length rows (sym (length-map rows contents_of_row) ∙ ap length e))
 
 -- rows of one length without values have length 0
 pub no_values : (a : ℕ) (rows : List (List Content)) → rows ≢ [] → EqualLengths a rows → EqualLengths 0 rows → a ≡ 0
