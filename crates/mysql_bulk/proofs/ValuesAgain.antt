@@ -14,7 +14,7 @@ use Rattle.mysql_wire.specs.declared.codes.mariadb_bulk_indicator.MariadbBulkInd
 use Rattle.mysql_wire.specs.declared.codes.mariadb_bulk_indicator.MariadbBulkIndicator.TheVariants.{BULK_INDICATOR_NONE, BULK_INDICATOR_NULL, BULK_INDICATOR_DEFAULT, BULK_INDICATOR_IGNORE}
 use Rattle.mysql_values.specs.declared.param_type.ParamType.{ParamType}
 use Rattle.mysql_values.specs.TypedValue.{is_unsigned_type, read_under, spelled}
-use Rattle.mysql_values.specs.Value.{Content, NULL, Bytes, Int, UInt, Float, Double, Date, Time}
+use Rattle.mysql_values.specs.Value.{Content, NULL}
 use Rattle.mysql_values.specs.ValueDeserializer.{bin_value}
 use Rattle.mysql_values.proofs.UnderType.{under-again}
 use Rattle.mysql_bulk.specs.BulkValue.{Cell, Given, Default, Ignore, cell_bytes, cell_spelled, cells_bytes, indicator_bytes, spells_cell, spells_cells}
@@ -54,13 +54,7 @@ given-again t x bytes again e =
 
 pub cell-again : (t : ParamType) (cell : Cell) (bytes : List ℕ) → CellFits cell → cell_spelled t cell ≡ Some bytes → IsSpelling (param_value t.column_type (is_unsigned_type t)) (cell_read t cell) bytes
 cell-again t (Given NULL) bytes fits e = subst (IsSpelling (param_value t.column_type (is_unsigned_type t)) (cell_read t (Given NULL))) (same_Some (indicator_bytes BULK_INDICATOR_NULL) bytes e) (alone t (is_unsigned_type t) BULK_INDICATOR_NULL refl)
-cell-again t (Given (Bytes x)) bytes fits e = given-again t (Bytes x) bytes (λ b. under-again t (Bytes x) b fits) e
-cell-again t (Given (Int x)) bytes fits e = given-again t (Int x) bytes (λ b. under-again t (Int x) b fits) e
-cell-again t (Given (UInt x)) bytes fits e = given-again t (UInt x) bytes (λ b. under-again t (UInt x) b fits) e
-cell-again t (Given (Float x)) bytes fits e = given-again t (Float x) bytes (λ b. under-again t (Float x) b fits) e
-cell-again t (Given (Double x)) bytes fits e = given-again t (Double x) bytes (λ b. under-again t (Double x) b fits) e
-cell-again t (Given (Date x)) bytes fits e = given-again t (Date x) bytes (λ b. under-again t (Date x) b fits) e
-cell-again t (Given (Time x)) bytes fits e = given-again t (Time x) bytes (λ b. under-again t (Time x) b fits) e
+cell-again t (Given x) bytes fits e = given-again t x bytes (λ b. under-again t x b fits) e
 cell-again t Default bytes fits e = subst (IsSpelling (param_value t.column_type (is_unsigned_type t)) (cell_read t Default)) (same_Some (indicator_bytes BULK_INDICATOR_DEFAULT) bytes e) (alone t (is_unsigned_type t) BULK_INDICATOR_DEFAULT refl)
 cell-again t Ignore bytes fits e = subst (IsSpelling (param_value t.column_type (is_unsigned_type t)) (cell_read t Ignore)) (same_Some (indicator_bytes BULK_INDICATOR_IGNORE) bytes e) (alone t (is_unsigned_type t) BULK_INDICATOR_IGNORE refl)
 

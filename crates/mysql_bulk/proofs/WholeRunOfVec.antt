@@ -59,6 +59,12 @@ pub record RunSoFar (s : BuilderState) (all : List (List Content)) (requests : L
   pub ends_are : ends ≡ ends_after 0 cut
   pub sent_is : sent ≡ length (rows_in cut)
 
+-- rows were accepted up to the last one, which does not fit with those that wait, or up to the end
+pub record Filled (s : BuilderState) (all : List (List Content)) (requests : List BulkRequest) (ends : List ℕ) (sent : ℕ) (b : BuilderState) (last : Option (Vec Value)) (left : Input) : Type 0 where
+  pub so_far : RunSoFar s all requests ends sent b last left
+  pub at_end : last ≡ None → held last left ≡ []
+  pub full : IfSome last (λ row. Adds b row (Ok (Some row)) b)
+
 pub run_begins : (s : BuilderState) (rows : List (Vec Value)) (input : Input) (requests : List BulkRequest) (ends : List ℕ) → IsConsistent s → into_iter_items input ≡ rows → requests ≡ [] → ends ≡ []
     → RunSoFar s (s.waiting ++ contents_of_rows rows) requests ends 0 s None input
 run_begins s rows input requests ends c e q n =
@@ -71,13 +77,19 @@ module _ {s : BuilderState} {all : List (List Content)} {requests : List BulkReq
   to_come taken last left e = subst (Running s all requests w.cut b) (ap contents_of_rows e ∙ map-append contents_of_row taken (held last left)) w.running
 
   -- rows were accepted
-  pub run_accepts : (m : BuilderState) (last : Option (Vec Value)) (left : Input) → AcceptsUntilFull into_iter_steps b carried input (Ok last) m left → RunSoFar s all requests ends sent m last left
-  run_accepts m last left f = record {
-    cut = w.cut;
-    running = running_accepts m (contents_of_rows f.0) (contents_of_rows (held last left)) (to_come f.0 last left (came carried input f.0 last left f.1).0) f.2;
-    ends_are = w.ends_are;
-    sent_is = w.sent_is;
-  }
+  pub run_fills : (m : BuilderState) (last : Option (Vec Value)) (left : Input) → AcceptsUntilFull into_iter_steps b carried input (Ok last) m left → Filled s all requests ends sent m last left
+  run_fills m last left f =
+      let more = came carried input f.0 last left f.1 in
+      record {
+        so_far = record {
+          cut = w.cut;
+          running = running_accepts m (contents_of_rows f.0) (contents_of_rows (held last left)) (to_come f.0 last left more.0) f.2;
+          ends_are = w.ends_are;
+          sent_is = w.sent_is;
+        };
+        at_end = more.1;
+        full = f.3;
+      }
 
   -- the next row is refused
   pub ends_refused : (t : BuilderState) (left : Input) (e : BulkExecuteRequestError) → AcceptsUntilFull into_iter_steps b carried input (Err e) t left → RunGives s all requests ends (Some (Request e)) t
@@ -90,32 +102,29 @@ module _ {s : BuilderState} {all : List (List Content)} {requests : List BulkReq
   pub ends_done : held carried input ≡ [] → b.waiting ≡ [] → RunGives s all requests ends None b
   ends_done e m = rw w.ends_are (gives_all (rw e at w.running) m)
 
-  request_is_due : b.waiting ≢ [] → (o : Option (Vec Value)) → IfSome o (λ row. Adds b row (Ok (Some row)) b) → (o ≡ None → held o input ≡ []) → RequestIsDue b (contents_of_rows (held o input))
-  request_is_due n None a e = rw (e refl) n
-  request_is_due n (Some row) a e = (n, a.0, a.1)
+module _ {s : BuilderState} {all : List (List Content)} {requests : List BulkRequest} {ends : List ℕ} {sent : ℕ} {b : BuilderState} where
+  -- if nothing is waiting after rows were taken, no row is left
+  pub ends_empty : {last : Option (Vec Value)} {left : Input} → Filled s all requests ends sent b last left → b.waiting ≡ [] → RunGives s all requests ends None b
+  ends_empty {last = None} f none = ends_done f.so_far (f.at_end refl) none
+  ends_empty {last = Some row} f none = absurd (f.full.2 none)
+
+  request_is_due : {last : Option (Vec Value)} {left : Input} → Filled s all requests ends sent b last left → b.waiting ≢ [] → RequestIsDue b (contents_of_rows (held last left))
+  request_is_due {last = None} f some = rw (f.at_end refl) some
+  request_is_due {last = Some row} f some = (some, f.full.0, f.full.1)
 
   -- there is no memory for the request that is due, and nothing changes
-  pub ends_memory : (t : BuilderState) (more : List BulkRequest) (further : List ℕ) → b.waiting ≢ [] → IfSome carried (λ row. Adds b row (Ok (Some row)) b) → (carried ≡ None → held carried input ≡ [])
-      → t ≡ b → more ≡ requests → further ≡ ends → RunGives s all more further (Some (Request Memory)) t
-  ends_memory t more further n a e x y z = rw (x, y, z, w.ends_are) (gives_memory (contents_of_rows (held carried input)) w.running (request_is_due n carried a e))
+  pub ends_memory : {last : Option (Vec Value)} {left : Input} → Filled s all requests ends sent b last left → (t : BuilderState) (more : List BulkRequest) (further : List ℕ) → b.waiting ≢ [] → t ≡ b → more ≡ requests → further ≡ ends → RunGives s all more further (Some (Request Memory)) t
+  ends_memory {last} {left} f t more further some x y z = rw (x, y, z, f.so_far.ends_are) (gives_memory (contents_of_rows (held last left)) f.so_far.running (request_is_due f some))
 
   -- the waiting rows were sent
-  pub run_sends : (t : BuilderState) (more : List BulkRequest) (further : List ℕ) (end : ℕ) → IfSome carried (λ row. Adds b row (Ok (Some row)) b) → (carried ≡ None → held carried input ≡ [])
-      → PutsRequest b requests more t → further ≡ ends ++ end ∷ [] → end ≡ sent + length b.waiting → RunSoFar s all more further end t carried input
-  run_sends t more further end a e put named count =
+  pub run_sends : {last : Option (Vec Value)} {left : Input} → Filled s all requests ends sent b last left → (t : BuilderState) (more : List BulkRequest) (further : List ℕ) (end : ℕ) → PutsRequest b requests more t → further ≡ ends ++ end ∷ [] → end ≡ sent + length b.waiting
+      → RunSoFar s all more further end t last left
+  run_sends {last} {left} f t more further end put named count =
+      let w = f.so_far in
       let total : end ≡ length (rows_in w.cut ++ b.waiting) = count ∙ ap (λ n. n + length b.waiting) w.sent_is ∙ sym (length-append (rows_in w.cut) b.waiting) in
       record {
         cut = w.cut ++ b.waiting ∷ [];
-        running = rw put.1 (running_sends t (contents_of_rows (held carried input)) put.0 w.running put.2 (request_is_due put.2.some carried a e));
+        running = rw put.1 (running_sends t (contents_of_rows (held last left)) put.0 w.running put.2 (request_is_due f put.2.some));
         ends_are = named ∙ ap (λ (l : List ℕ). l ++ end ∷ []) w.ends_are ∙ ap (λ n. ends_after 0 w.cut ++ n ∷ []) total ∙ sym (ends_after-push w.cut b.waiting);
         sent_is = total ∙ ap length (sym (joined_push (packing s 0) w.cut b.waiting));
       }
-
--- at the end of the input, no row is left
-pub accepts_end : (b m : BuilderState) (carried last : Option (Vec Value)) (input left : Input) → AcceptsUntilFull into_iter_steps b carried input (Ok last) m left → last ≡ None → held last left ≡ []
-accepts_end b m carried last input left f = (came carried input f.0 last left f.1).1
-
--- if nothing is waiting after rows were taken, no row is left
-pub accepts_empty : (b m : BuilderState) (carried last : Option (Vec Value)) (input left : Input) → AcceptsUntilFull into_iter_steps b carried input (Ok last) m left → m.waiting ≡ [] → held last left ≡ []
-accepts_empty b m carried None input left f w = (came carried input f.0 None left f.1).1 refl
-accepts_empty b m carried (Some row) input left f w = absurd (f.3.2 w)
