@@ -11,7 +11,7 @@ use Rattle.mysql_wire.specs.Flags.{has}
 use Rattle.mysql_cuts.specs.Cut.{rows_in}
 use Rattle.mysql_values.specs.declared.param_type.ParamType.{ParamType}
 use Rattle.mysql_values.specs.ReadingBack.{Agrees, IsInRange}
-use Rattle.mysql_values.specs.Value.{Content, NULL, Bytes, Int, UInt, Float, Double, Date, Time}
+use Rattle.mysql_values.specs.Value.{Content, NULL, Bytes, Int, UInt}
 use Rattle.mysql_values.specs.ValueKind.{kind_of, is_longlong}
 use Rattle.mysql_values.proofs.ValueAgain.{agrees-by_kind, agrees-by_type, longlong-kind}
 use Rattle.mysql_bulk.specs.Builder.{BuilderState, IsRequest}
@@ -39,7 +39,6 @@ not-negative false n e h = let f : false ≡ true = e in cc
 
 agrees_as : (t : ParamType) (u : Bool) (v : Content) → is_unsigned t ≡ u → can_encode t v ≡ true → IsInRange v → Agrees t.column_type u (as_signed u v)
 agrees_as t u NULL e s r = tt
-agrees_as t u (Bytes b) e s r = agrees-by_kind t.column_type u (Bytes b) s r
 agrees_as t true (Int (pos n)) e s r =
     let integers = longlong-kind (kind_of t.column_type) (and_parts (is_longlong (kind_of t.column_type)) (not (is_unsigned t && is_negative (pos n))) s).0 in
     let small : n < 2 ^ 63 = r.sfits in
@@ -55,10 +54,7 @@ agrees_as t true (UInt n) e s r =
 agrees_as t false (UInt n) e s r =
     let parts = and_parts (is_longlong (kind_of t.column_type)) (is_unsigned t || nat_lt n (2 ^ 63)) s in
     agrees-by_type t.column_type false (Int (pos n)) (longlong-kind (kind_of t.column_type) parts.0, refl, record { sfits = small-UInt (is_unsigned t) n e parts.1 })
-agrees_as t u (Float x) e s r = agrees-by_kind t.column_type u (Float x) s r
-agrees_as t u (Double x) e s r = agrees-by_kind t.column_type u (Double x) s r
-agrees_as t u (Date x) e s r = agrees-by_kind t.column_type u (Date x) s r
-agrees_as t u (Time x) e s r = agrees-by_kind t.column_type u (Time x) s r
+agrees_as t u v e s r = agrees-by_kind t.column_type u v s r
 
 -- its bytes are those under its own type
 same_bytes : (u : Bool) (v : Content) → param_value_bytes (with_indicator v) ≡ param_value_bytes (with_indicator (as_signed u v))

@@ -11,7 +11,7 @@ use Rattle.mysql_values.specs.Value.{Content}
 use Rattle.mysql_values.specs.ValueRef.{ref_content}
 use Rattle.mysql_bulk.specs.declared.error.BulkRowError.TheVariants as refused
 use Rattle.mysql_bulk.specs.declared.error.BulkExecuteRequestError.TheVariants as request_refused
-use Rattle.mysql_bulk.specs.Builder.{BuilderState, TakesRow, RowFits, after_row, IsRequest, BuildsRequest, after_request}
+use Rattle.mysql_bulk.specs.Builder.{BuilderState, RowFits, IsRequest, BuildsRequest, after_request}
 use Rattle.mysql_bulk.specs.ColumnTypes.{TakesTypes, spell_row}
 use Rattle.mysql_bulk.specs.ParamValue.{cell, with_indicator, param_value_bytes, values_bytes}
 use Rattle.mysql_bulk.specs.Request.{request_bytes}
@@ -48,27 +48,6 @@ bytes_by_row : (w : WriterState) (rows : List (List Content)) → bytes_so_far (
 bytes_by_row w [] = refl
 bytes_by_row w (row ∷ rows) = ap (λ (l : List ℕ). head_bytes w ++ l) (append-nil (values_bytes (map with_indicator (rows_in (row ∷ rows)))) ∙ values_by_row (row ∷ rows))
 
--- ---- a row is offered
-
--- it is written after these bytes
-pub holds_more : (w : WriterState) (rows : List (List Content)) (row : List ValueRef) (size capacity : ℕ) (before : List ℕ) → Holds w rows → TakesRow (as_builder w rows) (map ref_content row)
-    → RowFits (as_builder w rows) (map ref_content row) → size ≡ w.size + row_size (map ref_content row)
-    → bytes_so_far (as_builder w (rows ++ map ref_content row ∷ [])) (rows ++ map ref_content row ∷ []) ≡ before ++ cells_bytes row
-    → Holds (with_row w before size capacity (cells_bytes row)) (rows ++ map ref_content row ∷ [])
-holds_more w rows row size capacity before h t f total bytes =
-    let values = map ref_content row in
-    record {
-      count = omega (arith, h.count, length-append rows (values ∷ []));
-      size = omega (arith, total, h.size, sum_by-append row_size rows (values ∷ []));
-      bytes = sym bytes;
-      taken = All-push (TakesTypes (Some w.types)) rows values h.taken t.1;
-      fits = λ some. rw t.0 at f;
-    }
-
--- the builder accepts it too
-pub builder_more : (w : WriterState) (rows : List (List Content)) (row : List Content) → TakesRow (as_builder w rows) row → as_builder w (rows ++ row ∷ []) ≡ after_row (as_builder w rows) row
-builder_more w rows row t = ap (λ (n : ℕ). record (as_builder w (rows ++ row ∷ [])) { arity = Some n }) (sym t.0)
-
 -- ---- the request
 
 pub bytes_are : (s : BuilderState) (rows : List (List Content)) → rows ≢ [] → bytes_so_far s rows ≡ request_bytes (request_of s rows)
@@ -102,20 +81,25 @@ Spells w row = IsTrue (spell_row w.types (map ref_content row))
 abbrev pub EachFits : WriterState → List ValueRef → Type 0
 EachFits w row = (rows : List (List Content)) → Holds w rows → RowFits (as_builder w rows) (map ref_content row)
 
-takes : (w : WriterState) (row : List ValueRef) → length row ≡ length w.types → Spells w row → (rows : List (List Content)) → TakesRow (as_builder w rows) (map ref_content row)
-takes w row long spells rows = (length-map row ref_content ∙ long, spells)
-
 pub no_memory : (w : WriterState) (row : List ValueRef) → length row ≡ length w.types → Spells w row → EachFits w row → AddsAsBuilder w (map ref_content row) (Err refused.Memory) w
-no_memory w row long spells fits = λ rows h. (rows, h, (takes w row long spells rows, fits rows h, refl))
+no_memory w row long spells fits = λ rows h. (rows, h, ((length-map row ref_content ∙ long, spells), fits rows h, refl))
 
+-- it is written after these bytes, and the builder accepts it too
 wrote : (w : WriterState) (row : List ValueRef) (size capacity : ℕ) (before : List ℕ) → length row ≡ length w.types → Spells w row → EachFits w row → size ≡ w.size + row_size (map ref_content row)
     → ((rows : List (List Content)) → Holds w rows → bytes_so_far (as_builder w (rows ++ map ref_content row ∷ [])) (rows ++ map ref_content row ∷ []) ≡ before ++ cells_bytes row)
     → AddsAsBuilder w (map ref_content row) (Ok true) (with_row w before size capacity (cells_bytes row))
 wrote w row size capacity before long spells fits total bytes = λ rows h.
-    let t = takes w row long spells rows in (
-      rows ++ map ref_content row ∷ [],
-      holds_more w rows row size capacity before h t (fits rows h) total (bytes rows h),
-      (t, fits rows h, builder_more w rows (map ref_content row) t),
+    let values = map ref_content row in
+    let as_long : length values ≡ length w.types = length-map row ref_content ∙ long in (
+      rows ++ values ∷ [],
+      record {
+        count = omega (arith, h.count, length-append rows (values ∷ []));
+        size = omega (arith, total, h.size, sum_by-append row_size rows (values ∷ []));
+        bytes = sym (bytes rows h);
+        taken = All-push (TakesTypes (Some w.types)) rows values h.taken spells;
+        fits = λ some. rw as_long at (fits rows h);
+      },
+      ((as_long, spells), fits rows h, ap (λ (n : ℕ). record (as_builder w (rows ++ values ∷ [])) { arity = Some n }) (sym as_long)),
     )
 
 pub wrote_first : (w : WriterState) (row : List ValueRef) (size capacity : ℕ) → length row ≡ length w.types → Spells w row → EachFits w row → size ≡ w.size + row_size (map ref_content row) → w.count ≡ 0

@@ -7,7 +7,7 @@ use Rattle.std.specs.Global.{Vec}
 use Rattle.mysql_values.specs.declared.value.Value.{Value}
 use Rattle.mysql_values.specs.Value.{Content}
 use Rattle.mysql_bulk.specs.declared.error.BulkExecuteRequestError.{BulkExecuteRequestError}
-use Rattle.mysql_bulk.specs.declared.error.BulkExecuteRequestError.TheVariants.{MixedArity, MixedTypes, RowTooLarge, MemoryRow, NoParams, Memory}
+use Rattle.mysql_bulk.specs.declared.error.BulkExecuteRequestError.TheVariants.{MixedArity, MixedTypes, RowTooLarge, MemoryRow, NoParams}
 use Rattle.mysql_bulk.specs.Row.{contents_of_row, contents_of_rows}
 use Rattle.mysql_bulk.specs.Builder.{BuilderState}
 use Rattle.mysql_bulk.specs.Builder.{TakesRow, RowFits, after_row, Adds, Builds, BuildsRequest}
@@ -35,8 +35,7 @@ Adds-refused s t row MixedArity a = a.1
 Adds-refused s t row (MixedTypes back) a = a.3
 Adds-refused s t row (RowTooLarge back) a = a.4
 Adds-refused s t row (MemoryRow back) a = a.3
-Adds-refused s t row NoParams a = absurd a
-Adds-refused s t row Memory a = absurd a
+Adds-refused s t row e a = absurd a
 
 abbrev pub state : {S : Type 0} → BuilderState → Option (Vec Value) → S → Bool → RunState S
 state s carried rows ended = record { builder = s; carried = carried; rows = rows; ended = ended }

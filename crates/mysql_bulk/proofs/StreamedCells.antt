@@ -10,7 +10,7 @@ use Rattle.mysql_bulk.specs.BulkValue.{Cell}
 use Rattle.mysql_bulk.specs.RequestWriter.{WriterState}
 use Rattle.mysql_bulk.specs.ValueRows.{AddsAfter, AddsCells, AreCellRequests, CellsFit, HoldsCells, LetsGo, StreamsCells, packing, request_of_cells, so_far}
 use Rattle.mysql_bulk.specs.ValuesRun.{CellsRunGives, EndsBy, LacksRoom, Offered, OfferRefused, next_of, with_settings}
-use Rattle.mysql_bulk.proofs.ValueRows.{holds_none}
+use Rattle.mysql_bulk.proofs.ValueRows.{holds_none, so_far_is}
 use Rattle.mysql_bulk.proofs.WrittenRows.{none_counted, some_counted}
 
 -- the request was released, and the buffer has these bytes
@@ -26,11 +26,6 @@ requests_push w types [] [] part bytes a e = (e, tt)
 requests_push w types (p ∷ cut) (q ∷ requests) part bytes a e =
     (a.0, requests_push w w.rule.types_always cut requests part bytes a.1 (e ∙ ap (λ (t : Bool). request_of_cells w t part) (sym (types_later (packing w) cut))))
 requests_push w types cut requests part bytes a e = absurd a
-
--- the waiting rows are a request of these bytes
-open_bytes : (w u : WriterState) (due : Bool) (waiting : List (List Cell)) → waiting ≢ [] → u.bytes ≡ so_far (with_settings w due u) waiting → u.bytes ≡ request_of_cells w due waiting
-open_bytes w u due [] some e = absurd (some refl)
-open_bytes w u due (row ∷ waiting) some e = e
 
 -- ---- the run
 
@@ -86,7 +81,7 @@ module _ {w u : WriterState} {all : List (List Cell)} {requests : List (List ℕ
         whole = g.whole;
         holds = holds_none (let_go u v) refl refl refl;
         settings = ap (λ (x : WriterState). let_go x v) g.settings ∙ ap (λ (t : Bool). with_settings w t (let_go u v)) (sym (types_after_push k w.types_due g.cut g.waiting));
-        bytes = requests_push w w.types_due g.cut requests g.waiting u.bytes g.bytes (open_bytes w u (types_after k w.types_due g.cut) g.waiting some (g.holds.bytes ∙ ap (λ (x : WriterState). so_far x g.waiting) g.settings));
+        bytes = requests_push w w.types_due g.cut requests g.waiting u.bytes g.bytes (g.holds.bytes ∙ ap (λ (x : WriterState). so_far x g.waiting) g.settings ∙ so_far_is (with_settings w (types_after k w.types_due g.cut) u) g.waiting some);
       })
 
   one_sent : (row : List Cell) (rest : List (List Cell)) (v : WriterState) → Going w all (row ∷ rest) requests u → AddsCells u row (Ok false) u → LetsGo u v → Going w all (row ∷ rest) (requests ++ u.bytes ∷ []) v

@@ -54,9 +54,9 @@ pub holds_none : (w : WriterState) → w.count ≡ 0 → w.size ≡ 0 → w.byte
 holds_none w count size bytes = record { count = count; size = size; bytes = bytes; taken = All-nil (Spells w.types); fits = λ some. absurd (some refl) }
 
 -- the bytes are those of the request of the rows
+pub so_far_is : (w : WriterState) (rows : List (List Cell)) → rows ≢ [] → so_far w rows ≡ request_of_cells w w.types_due rows
+so_far_is w [] some = absurd (some refl)
+so_far_is w (row ∷ rows) some = refl
+
 pub holds_request : (w : WriterState) (rows : List (List Cell)) → HoldsCells w rows → rows ≢ [] → IsRequestOf w rows w.bytes
-holds_request w rows h some = (some, h.bytes ∙ are_bytes w rows some, h.fits some)
-  where
-    are_bytes : (w : WriterState) (rows : List (List Cell)) → rows ≢ [] → so_far w rows ≡ request_of_cells w w.types_due rows
-    are_bytes w [] some = absurd (some refl)
-    are_bytes w (row ∷ rows) some = refl
+holds_request w rows h some = (some, h.bytes ∙ so_far_is w rows some, h.fits some)

@@ -15,7 +15,7 @@ use Rattle.mysql_values.specs.Value.{Content}
 use Rattle.mysql_bulk.specs.declared.error.BulkExecuteRequestBuilderError.{BulkExecuteRequestBuilderError}
 use Rattle.mysql_bulk.specs.declared.error.BulkExecuteRequestBuilderError.TheVariants.{Request, Params}
 use Rattle.mysql_bulk.specs.declared.error.BulkExecuteRequestError.{BulkExecuteRequestError}
-use Rattle.mysql_bulk.specs.declared.error.BulkExecuteRequestError.TheVariants.{MixedArity, MixedTypes, RowTooLarge, MemoryRow, NoParams, Memory}
+use Rattle.mysql_bulk.specs.declared.error.BulkExecuteRequestError.TheVariants.{MixedArity, MixedTypes, RowTooLarge, MemoryRow, Memory}
 use Rattle.mysql_bulk.specs.declared.error.BulkRowError.{BulkRowError}
 use Rattle.mysql_bulk.specs.declared.error.BulkRowError.TheVariants as copy
 use Rattle.mysql_bulk.specs.CollectedRows.{RefusesIn}
@@ -345,8 +345,7 @@ module _ {s : BuilderState} {all : List (List Content)} {requests : List BulkReq
     gives_refused (RowTooLarge back) a =
         ends_here (RowTooLarge back) a (refuses (RowTooLarge back) a) (λ n h. rw a.3 (too_large (contents_of_row row) rest r a.0 a.1 a.2 n))
     gives_refused (MemoryRow back) a = ends_here (MemoryRow back) a (refuses (MemoryRow back) a) (λ n h. absurd h)
-    gives_refused NoParams a = absurd a
-    gives_refused Memory a = absurd a
+    gives_refused e a = absurd a
 
 -- some of the next rows are accepted
 pub running_accepts : {s : BuilderState} {all : List (List Content)} {requests : List BulkRequest} {cut : List (List (List Content))} {b : BuilderState} (m : BuilderState) (rows rest : List (List Content))
