@@ -65,7 +65,11 @@ impl<'de, T: ConstBytesValue<LEN>, const LEN: usize> MyDeserialize<'de> for Cons
     #[inline(always)]
     #[tactic(auto, using(crate::proofs::Arrays::arrays), unfolding(crate::specs::ConstBytes::const_bytes))]
     fn deserialize<'s>(_ctx: (), buf: &mut ParseBuf<'de>) -> Result<Self, FaultOf<'s>> {
-        if buf.eat(LEN) != T::VALUE.as_slice() {
+        let front = buf.eat(LEN);
+        // (in an array, whose constant length leaves no call)
+        let mut found: [u8; LEN] = [0; LEN];
+        found.copy_from_slice(front);
+        if found != T::VALUE {
             return Err(FaultOf::InvalidData(<T::Error as ConstFault>::MESSAGE));
         }
         Ok(ConstBytes::new())
