@@ -2,13 +2,14 @@
 #![tactic(auto, using(crate::proofs::Codes::codes, crate::proofs::FilledRows::rows))]
 
 ghost use Rattle.std.specs.List.{list_all};
-ghost use Rattle.std.specs.Prelude.{◌≡◌, ◌<◌, ◌≤◌, OnOk, IfErr, take, length, IsFalse, IsTrue};
-ghost use Rattle.mysql_stmt.specs.RowView.{IsDone, RefusesNext, bin_row_of, text_row_of};
+ghost use Rattle.std.specs.Prelude.{◌≡◌, ◌<◌, ◌≤◌, OnOk, OnErr, IfErr, take, length, IsFalse, IsTrue};
+ghost use Rattle.mysql_stmt.specs.RowView.{Gives, IsDone, RefusesNext, bin_row_of, text_row_of};
 ghost use Rattle.mysql_stmt.specs.TextRow.{text_row_bytes};
 ghost use Rattle.mysql_packets_c.specs.ColumnType.{type_of, unsigned_of};
 ghost use Rattle.mysql_packets_c.specs.Output.{PutsUnlessTooLong};
 ghost use Rattle.mysql_packets_c.specs.Rows as spec;
 ghost use Rattle.mysql_packets_c.specs.Rows.{Fills, FillsGood, RowInto, TakesRow};
+ghost use Rattle.mysql_packets_c.specs.Value.{Sets, value_content};
 
 use crate::binary_row::{put_row, row_len};
 use crate::code::{BUFFER_TOO_SMALL, INVALID_INPUT, OK, code_of};
@@ -48,16 +49,52 @@ impl TypedColumn for CColumnType {
     }
 }
 
-/// Reads the remaining values of a row into the first elements.
-macro_rules! fill {
-    ($row:expr, $values:expr) => {{
-        let mut place = 0;
-        while let Some(value) = $row.next_value()? {
-            put_ref(&mut $values[place], value);
-            place += 1;
+/// Reads the next value of a binary row, which exists, into its place.
+#[inline(always)]
+fn put_next<'a>(
+    row: &mut BinaryRowView<'a, '_, ServerSide, CColumnType>,
+    place: &mut CValue<'a>,
+) -> Result<(), Fault>
+    requires { 0 < row.old.left }
+    ensures value { OnOk result (Gives row.old (value_content place.new) row.new) }
+    ensures set { OnOk result (Sets (value_content place.new) place.old place.new) }
+    ensures refused { IfErr result (λ e. RefusesNext e row.new) }
+    ensures stays { OnErr result ((row.new ≡ row.old) × (place.new ≡ place.old)) }
+{
+    if let Some(value) = row.next_value()? {
+        put_ref(place, value);
+    }
+    Ok(())
+}
+
+/// Reads the next value of a binary row, which exists, into its place, by code of its own for each of the most
+/// frequent types: in such an arm the compiler knows the type, and the kind of the value.
+#[inline(always)]
+fn put_by_type<'a>(
+    row: &mut BinaryRowView<'a, '_, ServerSide, CColumnType>,
+    place: &mut CValue<'a>,
+) -> Result<(), Fault>
+    requires { 0 < row.old.left }
+    ensures value { OnOk result (Gives row.old (value_content place.new) row.new) }
+    ensures set { OnOk result (Sets (value_content place.new) place.old place.new) }
+    ensures refused { IfErr result (λ e. RefusesNext e row.new) }
+    ensures stays { OnErr result ((row.new ≡ row.old) × (place.new ≡ place.old)) }
+{
+    let (code, is_unsigned) = match row.next_column() {
+        Some(column) => (column.column_type, column.is_unsigned),
+        None => (0, 0),
+    };
+    match code {
+        8 => {
+            if is_unsigned == 0 {
+                put_next(row, place)
+            } else {
+                put_next(row, place)
+            }
         }
-        Ok(())
-    }};
+        253 => put_next(row, place),
+        _ => put_next(row, place),
+    }
 }
 
 /// Reads the remaining values of a binary row into the first elements.
@@ -71,7 +108,12 @@ fn fill_binary<'a>(
     ensures all { OnOk result (IsDone row.new) }
     ensures refused { IfErr result (λ e. RefusesNext e row.new) }
 {
-    fill!(row, values)
+    let mut place = 0;
+    while row.left() > 0 {
+        put_by_type(row, &mut values[place])?;
+        place += 1;
+    }
+    Ok(())
 }
 
 /// Reads a binary row into values, one for each column, and returns the number of its bytes.
@@ -130,7 +172,12 @@ fn fill_text<'a>(row: &mut TextRowView<'a>, values: &mut [CValue<'a>]) -> Result
     ensures all { OnOk result (IsDone row.new) }
     ensures refused { IfErr result (λ e. RefusesNext e row.new) }
 {
-    fill!(row, values)
+    let mut place = 0;
+    while let Some(value) = row.next_value()? {
+        put_ref(&mut values[place], value);
+        place += 1;
+    }
+    Ok(())
 }
 
 /// Reads a text row into values, and returns the number of its bytes.

@@ -1,6 +1,6 @@
 //! Binary rows that are read value by value, without memory.
 
-ghost use Rattle.std.specs.Prelude.{false, ◌≡◌, ◌<◌, ◌≤◌, ℕ, List, Ok, Some, length, IfOk, IfErr, OnOk, OnErr};
+ghost use Rattle.std.specs.Prelude.{false, ◌≡◌, ◌<◌, ◌≤◌, ℕ, List, Ok, Some, length, MatchOption, IfOk, IfErr, OnOk, OnErr};
 ghost use Rattle.mysql_wire.specs.Reading.{Answers, Faults};
 ghost use Rattle.mysql_values.specs.ValueDeserializer.{bin_value, value_of_kind};
 ghost use Rattle.mysql_values.specs.ValueRef.{refs_contents};
@@ -274,6 +274,17 @@ impl<'a, 'c, S: SerializationSide, C: TypedColumn> BinaryRowView<'a, 'c, S, C> {
         ensures read { result ≡ self.now.rest }
     {
         self.buf.rest()
+    }
+
+    /// The column of the next value, or `None` after the last.
+    ///
+    /// A caller that reads the next value in a branch for one type gets code for that type only.
+    #[inline(always)]
+    pub fn next_column(&self) -> Option<&'c C>
+        ensures { MatchOption result (self.now.left ≡ 0) (λ _. 0 < self.now.left) }
+    {
+        let (column, _columns) = self.columns.split_first()?;
+        Some(column)
     }
 
     /// Reads the next value, or returns `None` after the last. After an error the row is unchanged.

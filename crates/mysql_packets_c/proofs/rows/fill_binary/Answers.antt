@@ -1,9 +1,9 @@
-use Rattle.std.proofs.Common.{◌<◌, length, arith}
+use Rattle.std.proofs.Common.{◌<◌, length, refl, arith}
 use Rattle.mysql_packets_c.proofs.FilledRows.{one-filled}
 use Rattle.mysql_packets_c.proofs.rows.fill_binary.Goals as goal
 
-pub loop-value-preserved : goal.loop-value-preserved
-loop-value-preserved c =
-    let gives = rw (c.in-Some.is) at c.in_ok-value.ensures.value in
-    let fits : c.loop-value.place < length c.loop-value.values = omega (arith, gives.0) in
-    one-filled c.args.row.now c.loop-value.row c.next_value.new.self c.args.values.now c.loop-value.values c.loop-value.place c.put_ref.new.place _ _ c.loop-value.invariant gives c.put_ref.ensures.content c.put_ref.ensures.set fits
+pub loop-row-preserved : goal.loop-row-preserved
+loop-row-preserved c =
+    let step = c.in_ok-put_by_type.ensures in
+    let fits : c.loop-row.place < length c.loop-row.values = omega arith in
+    one-filled c.args.row.now c.loop-row.row c.put_by_type.new.row c.args.values.now c.loop-row.values c.loop-row.place c.put_by_type.new.place _ _ c.loop-row.invariant step.value refl step.set fits
