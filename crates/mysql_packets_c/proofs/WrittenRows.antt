@@ -14,6 +14,9 @@ use Rattle.mysql_packets_c.specs.Rows.{cell_of, cells_of}
 use Rattle.mysql_packets_c.specs.Value.{date_with_offset_of, is_offset_date, is_value, value_content, values_contents}
 use Rattle.mysql_packets_c.specs.declared.value.CValue.{CValue}
 
+abbrev pub cells_bytes : List CValue → List ℕ
+cells_bytes values = flat_map (λ v. text_cell_bytes (cell_of v)) values
+
 -- the cells of a text row are those of its values
 pub text-cells : (values : List CValue) → flat_map (λ v. text_cell_bytes (cell_of v)) values ≡ text_row_bytes (cells_of values)
 text-cells values = sym (flat_map-map text_cell_bytes cell_of values)

@@ -16,7 +16,7 @@ use crate::rows::CColumnType;
 use crate::value::CValue;
 use mysql_bulk::ComStmtBulkExecuteHeader;
 use mysql_stmt::Items;
-use mysql_wire::{Buffer, Const, LeU16, LeU32, MySerialize, RawInt, StmtBulkExecuteFlags, parts};
+use mysql_wire::{Const, LeU16, LeU32, RawInt, SliceWriter, StmtBulkExecuteFlags, parts};
 
 /// Whether a request with these flags and types is valid.
 fn may_begin(flags: u32, types: &[CColumnType]) -> bool
@@ -70,45 +70,14 @@ pub extern "C" fn myp_begin_bulk(
     put_head(statement_id, flags, types, out, written)
 }
 
-/// A row with a value for each column, whose length was computed.
-#[derive(Drop)]
-struct CountedRow<'r, 'a> {
-    types: &'r [CColumnType],
-    row: &'r [CValue<'a>],
-    len: usize,
-    ghost lengths: { length types.now ≡ length row.now },
-    ghost exact: { len ≡ length (row_bytes types.now row.now) },
-}
-
-impl MySerialize for CountedRow<'_, '_> {
-    ghost use Rattle.mysql_packets_c.specs.Bulk.{row_bytes};
-
-    ghost bytes = { λ r. row_bytes r.types.now r.row.now };
-
-    #[inline(always)]
-    #[tactic(auto, unfolding(mysql_wire::specs::Writing::saturated))]
-    fn defined_len(&self) -> usize {
-        self.len
-    }
-
-    #[inline(always)]
-    fn append<O: Buffer>(&self, out: &mut O) {
-        append_row(self.types, self.row, out);
-    }
-}
-
 /// Writes a row over a slice of its length.
 fn put_row(types: &[CColumnType], row: &[CValue<'_>], out: &mut [u8])
     requires lengths { length types.now ≡ length row.now }
     requires len { length out.old ≡ length (row_bytes types.now row.now) }
     ensures { out.new ≡ row_bytes types.now row.now }
 {
-    let counted = CountedRow {
-        types,
-        row,
-        len: out.len(),
-    };
-    let _len = counted.write_to_slice(out).unwrap();
+    let mut writer = SliceWriter::new(out);
+    append_row(types, row, &mut writer);
 }
 
 /// Writes a row over a given number of bytes after the used ones.

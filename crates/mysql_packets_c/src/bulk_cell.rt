@@ -107,10 +107,26 @@ fn any_len(column: &CColumnType, value: &CValue<'_>) -> Option<usize>
 fn value_len(column: &CColumnType, value: &CValue<'_>) -> Option<usize>
     ensures { spec.IsValueLen column.now value.now result }
 {
-    if is_plain(column, value) {
-        return Some(plain(value).defined_len().saturating_add(1));
+    // (the result of the call is tested where it is made)
+    let len = if is_plain(column, value) {
+        plain(value).defined_len().saturating_add(1)
+    } else {
+        any_len(column, value)?
+    };
+    Some(len)
+}
+
+/// The length of a row whose length overflows in between.
+#[inline(never)]
+fn long_row_len(columns: &[CColumnType], row: &[CValue<'_>]) -> Option<usize>
+    requires { length columns.now ≡ length row.now }
+    ensures { MatchOption result (spec.takes_row columns.now row.now ≡ false) (λ n. (spec.takes_row columns.now row.now ≡ true) × (n ≡ saturated (length (spec.row_bytes columns.now row.now)))) }
+{
+    let mut len: usize = 0;
+    for place in 0..row.len() {
+        len = len.saturating_add(value_len(&columns[place], &row[place])?);
     }
-    any_len(column, value)
+    Some(len)
 }
 
 /// The length of a row, which has a value for each column; `None` if one of them is invalid, or its type can't
@@ -121,7 +137,12 @@ pub(crate) fn row_len(columns: &[CColumnType], row: &[CValue<'_>]) -> Option<usi
 {
     let mut len: usize = 0;
     for place in 0..row.len() {
-        len = len.saturating_add(value_len(&columns[place], &row[place])?);
+        let more = value_len(&columns[place], &row[place])?;
+        // (a sum that saturates takes three instructions more)
+        let Some(sum) = len.checked_add(more) else {
+            return long_row_len(columns, row);
+        };
+        len = sum;
     }
     Some(len)
 }

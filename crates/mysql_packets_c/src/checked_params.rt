@@ -5,7 +5,7 @@
 //! change in registers.
 
 ghost use Rattle.std.specs.List.{flat_map};
-ghost use Rattle.std.specs.Prelude.{◌≡◌, IsTrue, MatchOption, Some, false, length, true};
+ghost use Rattle.std.specs.Prelude.{◌≡◌, ◌≢◌, IsTrue, MatchOption, Some, false, length, true};
 ghost use Rattle.mysql_wire.specs.Writing.{saturated};
 ghost use Rattle.mysql_packets_c.specs.CheckedParams as spec;
 
@@ -15,15 +15,34 @@ use mysql_stmt::{AsExecuteParam, ItemForm, Items};
 use mysql_wire::{Buffer, BytesRepr, LenEnc, MySerialize};
 
 /// The length of a value that is sent as the type of its kind; `None` if no parameter may have it.
-// (by a call, so that what counts numbers and strings stays small enough to be in line)
-#[inline(never)]
-fn any_len(value: &CValue<'_>) -> Option<usize>
+#[inline(always)]
+fn param_len(value: &CValue<'_>) -> Option<usize>
     ensures { spec.IsOwnLen value.now result }
 {
     if !is_param(value) {
         return None;
     }
     Some(value.sent_len(false))
+}
+
+/// The length of a value of any kind.
+// (by a call, so that what counts numbers and strings stays small enough to be in line)
+#[inline(never)]
+fn any_len(value: &CValue<'_>) -> Option<usize>
+    ensures { spec.IsOwnLen value.now result }
+{
+    param_len(value)
+}
+
+/// The length of a byte string.
+#[inline(always)]
+#[tactic(auto, unfolding(crate::specs::Value::value_content, mysql_wire::specs::Writing::saturated))]
+fn text_len(value: &CValue<'_>) -> usize
+    requires { value.now.kind ≡ 1 }
+    ensures len { spec.IsOwnLen value.now (Some result) }
+    ensures some { result ≢ 0 }
+{
+    <LenEnc as BytesRepr>::written_len(value.bytes)
 }
 
 /// The length of a value that is sent as the type of its kind; `None` if no parameter may have it.
@@ -34,7 +53,8 @@ fn own_len(value: &CValue<'_>) -> Option<usize>
 {
     match value.kind {
         0 => Some(0),
-        1 => Some(<LenEnc as BytesRepr>::written_len(value.bytes)),
+        1 => Some(text_len(value)),
+        3 => param_len(value),
         _ => any_len(value),
     }
 }
@@ -65,7 +85,7 @@ fn checked_len(parameter: &CParameter<'_>) -> Option<usize>
 /// The length of a number of eight bytes that is sent as the type of its kind.
 const NUMBER_LEN: usize = 8;
 
-/// Whether the parameter is such a number.
+/// Whether the parameter is such a number, and signed.
 #[inline(always)]
 fn is_number(parameter: &CParameter<'_>) -> bool
     ensures { IsTrue result → spec.IsCheckedLen parameter.now (Some 8) }
@@ -74,9 +94,20 @@ fn is_number(parameter: &CParameter<'_>) -> bool
         return false;
     }
     match parameter.value.kind {
-        2 | 3 => true,
+        2 => true,
         _ => false,
     }
+}
+
+/// The length of a byte string that is sent as the type of its kind; 0 for any other parameter.
+#[inline(always)]
+fn own_text_len(parameter: &CParameter<'_>) -> usize
+    ensures { result ≢ 0 → spec.IsCheckedLen parameter.now (Some result) }
+{
+    if parameter.has_type != 0 || parameter.is_sent_ahead != 0 || parameter.value.kind != 1 {
+        return 0;
+    }
+    text_len(&parameter.value)
 }
 
 /// Valid parameters, with the length of their values.
@@ -96,12 +127,19 @@ pub(crate) struct CheckedParams<'r, 'a> {
 pub(crate) fn checked<'r, 'a>(items: &'r [CParameter<'a>]) -> Option<CheckedParams<'r, 'a>>
     ensures { MatchOption result (spec.may_send items.now ≡ false) (λ found. (spec.may_send items.now ≡ true) × (found.items.now ≡ items.now)) }
 {
+    let mut numbers: usize = 0;
     let mut len: usize = 0;
     let mut has_empty = false;
     for parameter in items {
-        // (numbers first: what finds the length of any kind takes twice as long)
+        // (numbers first, and only counted: what finds the length of any kind takes twice as long)
         if is_number(parameter) {
-            len = len.saturating_add(NUMBER_LEN);
+            numbers += 1;
+            continue;
+        }
+        // (apart from the calls, whose results are tested)
+        let text = own_text_len(parameter);
+        if text != 0 {
+            len = len.saturating_add(text);
             continue;
         }
         let more = checked_len(parameter)?;
@@ -110,7 +148,7 @@ pub(crate) fn checked<'r, 'a>(items: &'r [CParameter<'a>]) -> Option<CheckedPara
     }
     Some(CheckedParams {
         items,
-        len,
+        len: len.saturating_add(numbers.saturating_mul(NUMBER_LEN)),
         has_empty,
     })
 }

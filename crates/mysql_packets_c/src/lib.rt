@@ -41,6 +41,7 @@ mod gtid_text;
 mod handshake;
 mod header;
 mod input;
+mod left;
 mod local_infile;
 mod login;
 mod long_data;

@@ -4,6 +4,7 @@ ghost use Rattle.std.specs.List.{flat_map};
 ghost use Rattle.std.specs.Prelude.{◌≡◌, ◌+◌, ◌++◌, ◌≤◌, drop, length};
 ghost use Rattle.mysql_packets_c.specs.CheckedParams.{sent_bytes, type_sent};
 
+use crate::left::Left;
 use crate::parameter::CParameter;
 use crate::sent_value::eight_bytes;
 use mysql_stmt::AsExecuteParam;
@@ -103,7 +104,8 @@ fn append_all<T: Buffer, V: Buffer>(items: &[CParameter<'_>], types: &mut T, val
 {
     let mut types_taken = types.taken();
     let mut values_taken = values.taken();
-    for parameter in items {
+    let mut left = Left { items };
+    while let Some(parameter) = left.next() {
         append_one(parameter, &mut types_taken, &mut values_taken);
     }
     *types = types_taken;
