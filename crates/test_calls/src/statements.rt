@@ -116,28 +116,6 @@ fn read_attributes<'s, 'a>(
     Ok(left.rest().len())
 }
 
-/// The builder of an execution like the one with this head.
-fn builder_of<'a>(
-    head: &ComStmtExecuteHead,
-    sends_types: bool,
-    has_attributes: bool,
-    attributes: &'a [TypedExecuteParam<'a>],
-) -> ComStmtExecuteOptionsBuilder<'a, TypedExecuteParam<'a>> {
-    let plain = ComStmtExecuteOptionsBuilder::<'_, TypedExecuteParam<'_>>::from_head(head);
-    let attributes = if has_attributes {
-        Some(attributes)
-    } else {
-        None
-    };
-    ComStmtExecuteOptionsBuilder {
-        stmt_id: plain.stmt_id,
-        flags: plain.flags,
-        iteration_count: plain.iteration_count,
-        sends_types,
-        attributes,
-    }
-}
-
 /// Writes an execution of these parameters, and adds whether its bytes are these.
 fn show_written(
     out: &mut Out,
@@ -173,7 +151,11 @@ fn write_again<'s>(
     let has_attributes = agreed
         .mysql
         .contains(CapabilityFlags::CLIENT_QUERY_ATTRIBUTES);
-    let builder = builder_of(head, sends_types, has_attributes, &attributes);
+    let builder = ComStmtExecuteOptionsBuilder {
+        sends_types,
+        attributes: has_attributes.then_some(attributes.as_slice()),
+        ..ComStmtExecuteOptionsBuilder::from_head(head)
+    };
     show_written(out, builder, &params, sent);
     Ok(())
 }
