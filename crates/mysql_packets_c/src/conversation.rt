@@ -219,6 +219,37 @@ fn next_of_conversation(
     }
 }
 
+/// Classifies the next packet of either side, in a conversation or before it, for `myp_next_packet`.
+// (by a call with the same arguments, so that a row doesn't pay for it)
+#[inline(never)]
+fn next_of_any(
+    alloc: Global,
+    conversation: &mut CConversation,
+    from: u32,
+    payload: &[u8],
+    out: &mut CPacket,
+) -> u32
+    ensures taken { result ≡ 0 → spec.Goes conversation.old from payload.now conversation.new out.new }
+    ensures under { result ≡ 0 → (spec.IsLogin conversation.old → ⊥) → spec.IsUnder (spec.agreed_of conversation.old) (spec.opening_of conversation.old.opening) conversation.new }
+    ensures begun { result ≡ 0 → spec.IsBegun conversation.new }
+    ensures refused { result ≡ 2 → spec.ComesNot conversation.old from payload.now }
+    ensures compressed { result ≡ 9 → spec.Compresses conversation.old from payload.now }
+    ensures full { (result ≡ 10) ↔ spec.Fills conversation.old from payload.now }
+    ensures comes { result ≡ 10 → spec.Comes conversation.old from payload.now }
+    ensures state { (result ≡ 3) ↔ ((2 ≤ from) ⊎ (spec.IsBegun conversation.old → ⊥)) }
+    ensures stays { result ≢ 0 → (conversation.new ≡ conversation.old) × (out.new ≡ out.old) }
+    ensures code { (result ≡ 0) ⊎ ((result ≡ 2) ⊎ ((result ≡ 3) ⊎ ((result ≡ 9) ⊎ (result ≡ 10)))) }
+{
+    let Some(side) = side_of(from) else {
+        return INVALID_INPUT;
+    };
+    if conversation.opening == LOGIN {
+        next_of_login(alloc, conversation, side, payload, out)
+    } else {
+        next_of_conversation(alloc, conversation, side, payload, out)
+    }
+}
+
 /// Classifies the next packet, from the client (0) or the server (1).
 ///
 /// Errors: 2 if no packet with this payload may come next; 3 for another side, or numbers of a state that was
@@ -249,14 +280,7 @@ pub extern "C" fn myp_next_packet(
             return OK;
         }
     }
-    let Some(side) = side_of(from) else {
-        return INVALID_INPUT;
-    };
-    if conversation.opening == LOGIN {
-        next_of_login(alloc, conversation, side, payload, out)
-    } else {
-        next_of_conversation(alloc, conversation, side, payload, out)
-    }
+    next_of_any(alloc, conversation, from, payload, out)
 }
 
 /// Stores whether every command of a conversation is answered, for `myp_is_idle`.

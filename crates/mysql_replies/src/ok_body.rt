@@ -128,6 +128,26 @@ impl<'de> MyDeserialize<'de> for OkTailRef<'de> {
     ghost size_is = { λ ctx. size-ok_tail ctx.0 ctx.1 };
 }
 
+/// Reads the tail, which most packets don't have.
+// (what reads its texts is large, and so a call)
+#[inline(always)]
+fn read_tail<'s, 'de>(
+    capabilities: CapabilityFlags,
+    status_flags: StatusFlags,
+    buf: &mut ParseBuf<'de>,
+) -> Result<OkTailRef<'de>, FaultOf<'s>>
+    ensures value { Answers false result buf.new ((ok_tail capabilities status_flags).reads buf.old) }
+    ensures err { OnErr result (buf.new ≡ buf.old) }
+{
+    if buf.is_empty() {
+        return Ok(OkTailRef {
+            info: none(buf),
+            session_state_info: none(buf),
+        });
+    }
+    buf.parse((capabilities, status_flags))
+}
+
 /// Reads the end of a body: two bytes of status flags and a warning count of two bytes, both little-endian, and
 /// the tail.
 #[inline(always)]
@@ -145,7 +165,7 @@ pub(crate) fn read_end<'s, 'de>(
     let mut numbers: ParseBuf<'de> = rest.parse(4)?;
     let status_flags: Const<StatusFlags, LeU16> = numbers.parse_unchecked(())?;
     let warnings: RawInt<LeU16> = RawInt::take(&mut numbers);
-    let tail: OkTailRef<'de> = rest.parse((capabilities, status_flags.0))?;
+    let tail = read_tail(capabilities, status_flags.0, &mut rest)?;
     *buf = rest;
     Ok(OkPacketBodyRef {
         affected_rows,
