@@ -77,10 +77,10 @@ module _ {S : Type 0} (steps : S → Option Params → S → Type 0) where
 
   -- ---- what a call of `next` leads to
 
-  pub next_params_refuses : (names : Names) (s t : BuilderState) (carried : Option (Vec Value)) (rows left : S) (ended : Bool) (e : BulkExecuteRequestBuilderError) → ended ≡ false
-      → AcceptsParamsUntilFull steps names s carried rows (Err e) t left → NextRequestOfParams steps names (state s carried rows ended) (Some (Err e)) (state t None left true)
-  next_params_refuses names s t carried rows left ended (refused.Request e) g a = next_refuses (GivesRowOfParams steps names) s t carried rows left ended e g a
-  next_params_refuses names s t carried rows left ended (refused.Params e) g a = record { going = g; no_row = a; carried = refl; ended = refl }
+  pub next_params_refuses : (names : Names) (s t : BuilderState) (carried taken after : Option (Vec Value)) (rows left : S) (ended : Bool) (e : BulkExecuteRequestBuilderError) → ended ≡ false → taken ≡ carried → after ≡ None
+      → AcceptsParamsUntilFull steps names s taken rows (Err e) t left → NextRequestOfParams steps names (state s carried rows ended) (Some (Err e)) (state t after left true)
+  next_params_refuses names s t carried taken after rows left ended (refused.Request e) g same none a = next_refuses (GivesRowOfParams steps names) s t carried taken after rows left ended e g same none a
+  next_params_refuses names s t carried taken after rows left ended (refused.Params e) g same none a = record { going = g; no_row = rw (← same) a; carried = none; ended = refl }
 
   over_rows : (names : Names) (s t : RunState S) (built : Option BulkRequest) → NextRequest (GivesRowOfParams steps names) s (answers built) t → NextRequestOfParams steps names s (answers built) t
   over_rows names s t None n = n

@@ -50,7 +50,7 @@ bytes_by_row w (row ∷ rows) = ap (λ (l : List ℕ). head_bytes w ++ l) (appen
 
 -- ---- the request
 
-pub bytes_are : (s : BuilderState) (rows : List (List Content)) → rows ≢ [] → bytes_so_far s rows ≡ request_bytes (request_of s rows)
+bytes_are : (s : BuilderState) (rows : List (List Content)) → rows ≢ [] → bytes_so_far s rows ≡ request_bytes (request_of s rows)
 bytes_are s [] some = absurd (some refl)
 bytes_are s (row ∷ rows) some = refl
 

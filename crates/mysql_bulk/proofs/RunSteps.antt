@@ -117,9 +117,10 @@ module _ {S : Type 0} (steps : S → Option (Vec Value) → S → Type 0) where
       → AcceptedUntilFull steps (state s carried rows e) m (state t last left f)
   accepted_until s m t carried last rows left e f g a = record { going = g; taken = a.0; came = a.1; accepts = a.2; full = full_from m last a.3 }
 
-  pub next_refuses : (s t : BuilderState) (carried : Option (Vec Value)) (rows left : S) (e : Bool) (err : BulkExecuteRequestError) → e ≡ false → AcceptsUntilFull steps s carried rows (Err err) t left
-      → NextRequest steps (state s carried rows e) (Some (Err (Request err))) (state t None left true)
-  next_refuses s t carried rows left e err g a = record { going = g; taken = a.0; row = a.1; came = a.2; accepts = a.3; refused = a.4; carried = refl; ended = refl }
+  -- the carried row was taken from the run, which then has none
+  pub next_refuses : (s t : BuilderState) (carried taken after : Option (Vec Value)) (rows left : S) (e : Bool) (err : BulkExecuteRequestError) → e ≡ false → taken ≡ carried → after ≡ None → AcceptsUntilFull steps s taken rows (Err err) t left
+      → NextRequest steps (state s carried rows e) (Some (Err (Request err))) (state t after left true)
+  next_refuses s t carried taken after rows left e err g same none a = record { going = g; taken = a.0; row = a.1; came = rw (← same) a.2; accepts = a.3; refused = a.4; carried = none; ended = refl }
 
   -- rows were added, and then the request of those that wait was built, if any wait
   pub next_builds : (s m t : BuilderState) (carried last : Option (Vec Value)) (rows left : S) (e ended : Bool) (built : Option BulkRequest) → e ≡ false → AcceptsUntilFull steps s carried rows (Ok last) m left
