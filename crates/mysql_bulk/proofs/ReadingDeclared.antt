@@ -11,7 +11,7 @@ use Rattle.mysql_wire.specs.Flags.{has}
 use Rattle.mysql_cuts.specs.Cut.{rows_in}
 use Rattle.mysql_values.specs.declared.param_type.ParamType.{ParamType}
 use Rattle.mysql_values.specs.ReadingBack.{Agrees, IsInRange}
-use Rattle.mysql_values.specs.Value.{Content, NULL, Bytes, Int, UInt}
+use Rattle.mysql_values.specs.Value.{Content, NULL, Int, UInt}
 use Rattle.mysql_values.specs.ValueKind.{kind_of, is_longlong}
 use Rattle.mysql_values.proofs.ValueAgain.{agrees-by_kind, agrees-by_type, longlong-kind}
 use Rattle.mysql_bulk.specs.Builder.{BuilderState, IsRequest}
