@@ -5,5 +5,5 @@ abbrev pub invariant-loop-field : goal.invariant-loop-field
 invariant-loop-field l = record {
   -- the fields so far, followed by the remaining ones
   items : l.fields.items ++ drop l.field-index l.more ≡ l.initial.fields.items ++ l.more;
-  room : vec_len l.fields + (length l.more - l.field-index) ≤ vec_capacity l.fields;
+  capacity : vec_len l.fields + (length l.more - l.field-index) ≤ vec_capacity l.fields;
 }
