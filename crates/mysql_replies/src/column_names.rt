@@ -127,9 +127,9 @@ pub(crate) fn read_name<'s, 'de>(buf: &mut ParseBuf<'de>) -> Result<&'de [u8], F
 
 /// Reads five length-encoded strings. After a fault the bytes are unchanged.
 ///
-/// Each of the two readers of columns has its own instance, so that it is inlined there, and unused names cost nothing.
+/// Each reader of columns has its own instance, so that it is inlined there, and unused names cost nothing.
 #[inline(always)]
-pub(crate) fn read_names<'s, 'de, const COPIED: bool>(
+pub(crate) fn read_names<'s, 'de, const READER: u8>(
     buf: &mut ParseBuf<'de>,
 ) -> Result<Names<'de>, FaultOf<'s>>
     ensures value { Answers false result buf.new ((spec.column_meta.form tt).reads buf.old) }
@@ -327,7 +327,7 @@ impl<'de> MyDeserialize<'de> for ColumnNames {
 
     fn deserialize<'s>(_ctx: (), buf: &mut ParseBuf<'de>) -> Result<Self, FaultOf<'s>> {
         let mut rest = buf.rest();
-        let names = read_names::<true>(&mut rest)?;
+        let names = read_names::<0>(&mut rest)?;
         let copied = ColumnNames::of(buf.alloc(), &names)?;
         *buf = rest;
         Ok(copied)

@@ -223,7 +223,7 @@ impl<'de> MyDeserialize<'de> for ColumnRef<'de> {
     fn deserialize<'s>(_ctx: (), buf: &mut ParseBuf<'de>) -> Result<Self, FaultOf<'s>> {
         let mut rest = buf.rest();
         let _catalog: ColumnDefinitionCatalog = rest.parse(())?;
-        let names = read_names::<false>(&mut rest)?;
+        let names = read_names::<1>(&mut rest)?;
         let fields: ColumnFields = rest.parse(())?;
         *buf = rest;
         Ok(ColumnRef {

@@ -1,10 +1,11 @@
 //! A borrowed column of a result with extended metadata.
 #![tactic(auto, using(mysql_wire::proofs::Packets::packets), unfolding(crate::specs::ExtendedColumn::extended_column))]
 
-ghost use Rattle.std.specs.Prelude.{◌≡◌, None, refl, IfOk, OnErr, IsTrue, option_map, ⊤};
+ghost use Rattle.std.specs.Prelude.{◌≡◌, None, false, refl, IfOk, OnErr, IsTrue, option_map, ⊤};
 ghost use Rattle.mysql_replies.specs.ExtendedColumn as spec;
 ghost use Rattle.mysql_replies.specs.declared.extended_column.ExtendedColumn.{ExtendedColumn};
 ghost use Rattle.mysql_replies.specs.ExtendedColumn.{extended};
+ghost use Rattle.mysql_wire.specs.Reading.{Answers};
 
 use crate::column::ColumnDefinitionCatalog;
 use crate::column_attributes::ColumnAttributes;
@@ -162,6 +163,35 @@ impl Parts for ExtendedColumnRef<'_> {
     }
 }
 
+/// Reads a column. After a fault the bytes are unchanged.
+///
+/// Each reader has its own instance, as of [`read_names`].
+#[inline(always)]
+#[tactic(auto, using(mysql_wire::proofs::Tails::tails), unfolding(crate::specs::ExtendedColumn::extended_column, crate::specs::ColumnNames::column_meta))]
+pub(crate) fn read_column<'s, 'de, const READER: u8>(
+    agreed: MariadbCapabilities,
+    buf: &mut ParseBuf<'de>,
+) -> Result<ExtendedColumnRef<'de>, FaultOf<'s>>
+    ensures value { Answers false result buf.new ((spec.extended_column.form agreed).reads buf.old) }
+    ensures err { OnErr result (buf.new ≡ buf.old) }
+{
+    let mut rest = buf.rest();
+    let _catalog: ColumnDefinitionCatalog = rest.parse(())?;
+    let names = read_names::<READER>(&mut rest)?;
+    let extended = MariadbCapabilities::MARIADB_CLIENT_EXTENDED_METADATA;
+    let metadata = if agreed.contains(extended) {
+        Some(read_name(&mut rest)?)
+    } else {
+        None
+    };
+    let fields: ColumnFields = rest.parse(())?;
+    *buf = rest;
+    Ok(ExtendedColumnRef {
+        column: placed(names, &fields),
+        metadata,
+    })
+}
+
 /// Read like an [`ExtendedColumn`], but never `Memory`.
 impl<'de> MyDeserialize<'de> for ExtendedColumnRef<'de> {
     const SIZE: Option<usize> = None;
@@ -176,21 +206,7 @@ impl<'de> MyDeserialize<'de> for ExtendedColumnRef<'de> {
     #[inline(always)]
     #[tactic(auto, using(mysql_wire::proofs::Tails::tails), unfolding(crate::specs::ExtendedColumn::extended_column, crate::specs::ColumnNames::column_meta))]
     fn deserialize<'s>(agreed: Self::Ctx, buf: &mut ParseBuf<'de>) -> Result<Self, FaultOf<'s>> {
-        let mut rest = buf.rest();
-        let _catalog: ColumnDefinitionCatalog = rest.parse(())?;
-        let names = read_names::<false>(&mut rest)?;
-        let extended = MariadbCapabilities::MARIADB_CLIENT_EXTENDED_METADATA;
-        let metadata = if agreed.contains(extended) {
-            Some(read_name(&mut rest)?)
-        } else {
-            None
-        };
-        let fields: ColumnFields = rest.parse(())?;
-        *buf = rest;
-        Ok(ExtendedColumnRef {
-            column: placed(names, &fields),
-            metadata,
-        })
+        read_column::<2>(agreed, buf)
     }
 
     ghost size_is = { λ _. unfold spec.extended_column in refl };

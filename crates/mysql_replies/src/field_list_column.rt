@@ -7,7 +7,7 @@ ghost use Rattle.mysql_replies.specs.FieldListColumn as spec;
 ghost use Rattle.mysql_replies.specs.FieldListColumn.{Definition, definition};
 
 use crate::column_names::read_name;
-use crate::extended_column_ref::ExtendedColumnRef;
+use crate::extended_column_ref::{ExtendedColumnRef, read_column};
 use mysql_wire::{
     AnyWidth, FaultOf, LenEnc, MariadbCapabilities, MyDeserialize, ParseBuf, Parts, RawBytes, Sink,
     parts,
@@ -102,7 +102,7 @@ impl<'de> MyDeserialize<'de> for FieldListColumn<'de> {
 
     fn deserialize<'s>(agreed: Self::Ctx, buf: &mut ParseBuf<'de>) -> Result<Self, FaultOf<'s>> {
         let mut rest = buf.rest();
-        let column = rest.parse(agreed)?;
+        let column = read_column::<3>(agreed, &mut rest)?;
         let default_value = read_nullable(&mut rest)?;
         *buf = rest;
         Ok(FieldListColumn {
