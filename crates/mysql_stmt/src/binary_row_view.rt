@@ -1,10 +1,10 @@
 //! Binary rows that are read value by value, without memory.
 
-ghost use Rattle.std.specs.Prelude.{false, ◌≡◌, ◌<◌, ◌≤◌, ℕ, List, Ok, Some, length, MatchOption, IfOk, IfErr, OnOk, OnErr};
+ghost use Rattle.std.specs.Prelude.{false, ◌≡◌, ◌<◌, ◌≤◌, ℕ, List, ◌∷◌, Ok, Some, length, MatchOption, IfSome, IfOk, IfErr, OnOk, OnErr};
 ghost use Rattle.mysql_wire.specs.Reading.{Answers, Faults};
 ghost use Rattle.mysql_values.specs.ValueDeserializer.{bin_value, value_of_kind};
 ghost use Rattle.mysql_values.specs.ValueRef.{refs_contents};
-ghost use Rattle.mysql_stmt.specs.RowView.{Fills, GivesOne, IsBinaryRow, IsDone, PutsValue, RefusesNext, bin_row_of, read_of, ref_unless, row_front};
+ghost use Rattle.mysql_stmt.specs.RowView.{Fills, GivesOne, IsBinaryRow, IsDone, PutsValue, RefusesNext, bin_row_of, read_of, ref_cell, ref_unless, row_front, row_left};
 ghost use Rattle.mysql_stmt.specs.StoredRow.{ChecksRow, PassesValue};
 
 use crate::null_bitmap::NullBitmap;
@@ -281,7 +281,10 @@ impl<'a, 'c, S: SerializationSide, C: TypedColumn> BinaryRowView<'a, 'c, S, C> {
     /// A caller that reads the next value in a branch for one type gets code for that type only.
     #[inline(always)]
     pub fn next_column(&self) -> Option<&'c C>
-        ensures { MatchOption result (self.now.left ≡ 0) (λ _. 0 < self.now.left) }
+        ensures left { MatchOption result (self.now.left ≡ 0) (λ _. 0 < self.now.left) }
+        // The rest of the row is what this column and the ones after it read.
+        ensures column { IfSome result (λ column. (nulls : List ℕ) × (place : ℕ) × (others : List C)
+            × (self.now ≡ row_left (ref_cell C.type_of C.unsigned nulls S.BIT_OFFSET) place (column.now ∷ others) self.now.rest)) }
     {
         let (column, _columns) = self.columns.split_first()?;
         Some(column)
