@@ -88,7 +88,7 @@ pub fn binary_view<'a, S: SerializationSide>(
     let other = BinaryRowView::<S, _>::new(columns, ParseBuf::new(alloc, bytes));
     match (view, other) {
         (Ok(view), Ok(other)) => {
-            let is_first = counted!(alloc; other.next_column()) == columns.first();
+            let is_first = other.next_column() == columns.first();
             let mut viewed = viewed!(out; view, other);
             viewed.is_one_by_one = viewed.is_one_by_one && is_first;
             viewed
