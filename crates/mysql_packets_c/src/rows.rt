@@ -49,6 +49,12 @@ impl TypedColumn for CColumnType {
     }
 }
 
+/// The code of numbers of eight bytes.
+const LONGLONG: u8 = ColumnType::MYSQL_TYPE_LONGLONG as u8;
+
+/// The code of strings.
+const VAR_STRING: u8 = ColumnType::MYSQL_TYPE_VAR_STRING as u8;
+
 /// Reads the next value of a binary row, which exists, into its place.
 #[inline(always)]
 fn put_next<'a>(
@@ -85,14 +91,14 @@ fn put_by_type<'a>(
         None => (0, 0),
     };
     match code {
-        8 => {
+        LONGLONG => {
             if is_unsigned == 0 {
                 put_next(row, place)
             } else {
                 put_next(row, place)
             }
         }
-        253 => put_next(row, place),
+        VAR_STRING => put_next(row, place),
         _ => put_next(row, place),
     }
 }
