@@ -1,6 +1,6 @@
 #!/usr/bin/env bash
 # Holds files to what they must say: HANDLES, the lines that documents quote, the chart of instruction counts, the lists that tables/ has,
-# the libraries that README.md copies, and the format of the sources; and what nothing uses goes.
+# the libraries that README.md copies, the format of the sources, and that every definition, lemma and private function is used.
 # The last line is 'N passed, N failed'.
 set -uo pipefail
 cd -- "$(dirname -- "${BASH_SOURCE[0]}")/.." || exit 1

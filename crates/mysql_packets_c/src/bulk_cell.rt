@@ -116,7 +116,7 @@ fn value_len(column: &CColumnType, value: &CValue<'_>) -> Option<usize>
     Some(len)
 }
 
-/// The length of a row whose length overflows in between.
+/// Computes [`row_len`] with a sum that saturates.
 #[inline(never)]
 fn long_row_len(columns: &[CColumnType], row: &[CValue<'_>]) -> Option<usize>
     requires { length columns.now ≡ length row.now }

@@ -1,4 +1,4 @@
-//! A list that is visited from its front. Its address is counted up, where an index would be multiplied for each item.
+//! A list that is visited from its front: its address is incremented, while an index would be multiplied for each item.
 
 ghost use Rattle.std.specs.Prelude.{◌≡◌, [], ◌∷◌, MatchOption};
 
@@ -9,7 +9,7 @@ pub(crate) struct Left<'r, T> {
 }
 
 impl<'r, T> Left<'r, T> {
-    /// Removes the first one.
+    /// Removes the first item, and returns it.
     #[inline(always)]
     pub(crate) fn next(&mut self) -> Option<&'r T>
         ensures { MatchOption result ((self.old.items.now ≡ []) × (self.new.items.now ≡ [])) (λ first. self.old.items.now ≡ first.now ∷ self.new.items.now) }

@@ -46,7 +46,7 @@ fn cell_len(value: &CValue<'_>) -> Option<usize>
     }
 }
 
-/// The total length of cells that overflows in between.
+/// Computes [`cells_len`] with a sum that saturates.
 #[inline(never)]
 #[tactic(auto, using(crate::proofs::WrittenRows::text_rows), unfolding(mysql_wire::specs::Writing::saturated))]
 fn long_cells_len(values: &[CValue<'_>]) -> Option<usize>

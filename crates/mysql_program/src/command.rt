@@ -156,7 +156,7 @@ fn digits_in(arguments: &[String]) -> Option<HexDigits<'_>>
     }
 }
 
-/// The only argument.
+/// Parses `TEXT`.
 fn word_in(arguments: &[String]) -> Option<Word<'_>>
     ensures value { result ≡ spec.word_in (map string_bytes arguments.now) }
 {

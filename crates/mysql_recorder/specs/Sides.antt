@@ -59,7 +59,7 @@ settings s = record {
   has_sums = is_some s.packets.sums;
 }
 
--- those that the packets of a connection have
+-- the options that apply to the packets of a connection
 pub record Options : Type 0 where
   pub layout : Layout
   pub may_wait : ℕ

@@ -29,6 +29,7 @@ cursor_bits cursor.Scrollable = 4
 abbrev pub with_cursor : ℕ → Cursor → ℕ
 with_cursor flags cursor = bit_or (cursor_bits cursor) (bit_and flags PARAMETER_COUNT_AVAILABLE)
 
+-- the flags of an execution that opens this cursor
 abbrev pub opened : CursorType → Cursor → CursorType
 opened flags cursor = record { 0 = with_cursor flags.0 cursor; 1 = record {} }
 
