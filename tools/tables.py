@@ -323,11 +323,13 @@ impl FlagNames<u{it.bits}> for {it.names} {{
 
 
 def masks():
-    """specs/FlagMasks.antt: the masks, by name."""
-    text = "-- The masks of the flags, each named like its constant in src/flags: written by tools/tables.py from the tables of the flags in tables/.\n"
-    text += "use Rattle.std.specs.Prelude.{ℕ}\n"
+    """specs/FlagMasks.antt: the flag words, and the masks by name."""
+    wire = "Rattle.mysql_wire.specs"
+    text = "-- The flag words, and the masks of the flags, each named like its constant in src/flags: written by tools/tables.py from the tables of the\n"
+    text += f"-- flags in tables/.\nuse Rattle.std.specs.Prelude.{{ℕ}}\nuse {wire}.declared.flags.FlagWord.{{FlagWord}}\n"
+    text += "".join(f"use {wire}.declared.flags.{it.table}.{it.names}.{{{it.names}}}\n" for it in FLAGS)
     for it in FLAGS:
-        text += f"\n-- ---- {it.type}\n"
+        text += f"\nabbrev pub {it.type} : Type 0\n{it.type} = FlagWord {it.names} ℕ\n"
         text += "".join(f"\nabbrev pub {row.name} : ℕ\n{row.name} = {row.number:{it.mask}}\n" for row in table(it.table))
     return text
 
@@ -347,7 +349,7 @@ def kinds():
         rust[row.name] = variant + (f"({', '.join(f'RowFormat::{it}' if it[0].isupper() else '_' for it in fields)})" if fields else "")
         antt[row.name] = f"(kind.{' '.join([variant, *fields])})" if fields else f"kind.{variant}"
     lines = {
-        "variants": "".join(f"{wrapped('    ///', row.meaning)}\n    {row.name},\n" for row in rows),
+        "variants": "".join(f"{wrapped('    ///', row.meaning)}\n    {row.name} = {row.number},\n" for row in rows),
         "all": "".join(f"        {tag}::{row.name},\n" for row in rows),
         "texts": "".join(f'            {tag}::{row.name} => "{snake(row.name)}",\n' for row in rows),
         "names": "".join(f"            PacketKind::{rust[row.name]} => {tag}::{row.name},\n" for row in rows),

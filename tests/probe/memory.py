@@ -32,6 +32,7 @@ WORDS = {
     r"\bMakesRequest\b": "memory is an answer only for rows of one length",
     r"\bRefuses self\b": "memory is an answer only where a name is asked for twice, or a list of values is made",
     r"\bRefusesValue\b": "memory is an answer only for a string that has a byte",
+    r"\bReadsRef\b": "memory is no answer there",
     r"\(why ≡ refusal\.UnexpectedPacket\) ⊎ \(why ≡ refusal\.Full\)": "memory is none of the errors",
     r"→ IsOk result": "memory is no answer there",
 }

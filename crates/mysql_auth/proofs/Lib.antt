@@ -15,7 +15,7 @@ mod EachKeyOnce
 mod ResponseRead
 mod ChangeRead
 pub mod PairsRead
-pub mod PairsPassed
+pub mod PairsMerged
 pub mod PairsWritten
 pub mod ResponseEnds
 mod WholePackets

@@ -1,5 +1,5 @@
 -- The version numbers in a server's version text.
-use Rattle.std.specs.Prelude.{◌≡◌, ℕ, zero, suc, ◌==◌, ◌<◌, ◌≤◌, List, [], ◌∷◌, ◌++◌, length, take, drop, Bool, true, false, None, Ok, Err, codes, if◌then◌else◌, refl}
+use Rattle.std.specs.Prelude.{◌≡◌, ℕ, zero, suc, ◌==◌, ◌<◌, ◌≤◌, List, [], ◌∷◌, ◌++◌, length, take, drop, Bool, true, false, Ok, Err, codes, if◌then◌else◌, refl}
 use Rattle.std.proofs.Common.{ap, sym, ◌∙◌, ◌⊎◌, inl, inr, arith}
 use Rattle.std.proofs.lemmas.Bool.{eqb-false, ne_eqb}
 use Rattle.std.proofs.lemmas.List.{take-append-drop, take_at, drop_at, length-take-le}
@@ -10,7 +10,7 @@ use Rattle.std.specs.Str.Parse.{digits_value}
 use Rattle.mysql_wire.specs.declared.fault.FaultKind.{FaultKind}
 use Rattle.mysql_wire.specs.declared.fault.FaultKind.TheVariants as kind
 use Rattle.mysql_wire.specs.Reading.{Reading, IsTail, guard_ok}
-use Rattle.mysql_wire.specs.Form.{Form, ◌>>=◌, give}
+use Rattle.mysql_wire.specs.Form.{Form, ◌>>=◌, any_size, give}
 
 -- ---- a number with some digits
 
@@ -109,15 +109,7 @@ pub digits-front : (most n : ℕ) (bytes rest : List ℕ) → digits_reads most 
 digits-front most n bytes rest e = let s = digits-found most n bytes rest e in record { front = s.digits; parts = s.parts }
 
 abbrev pub number : ℕ → Form ℕ
-number most = record {
-  size = None;
-  Spells = λ n bytes rest. Digits most n bytes rest;
-  reads = digits_reads most;
-  found = digits-found most;
-  only = digits-only most;
-  front = digits-front most;
-  sized = tt;
-}
+number most = any_size (Digits most) (digits_reads most) (digits-found most) (digits-only most) (digits-front most)
 
 -- ---- a text
 
@@ -141,15 +133,8 @@ text-only text v bytes rest e =
     rw (e, take_at text rest (length text) refl, drop_at text rest (length text) refl, same) refl
 
 abbrev pub literal : List ℕ → Form (Unit {0})
-literal text = record {
-  size = None;
-  Spells = λ v bytes rest. bytes ≡ text ++ rest;
-  reads = text_reads text;
-  found = text-found text;
-  only = text-only text;
-  front = λ v bytes rest e. record { front = text; parts = text-found text v bytes rest e };
-  sized = tt;
-}
+literal text =
+    any_size (λ v bytes rest. bytes ≡ text ++ rest) (text_reads text) (text-found text) (text-only text) (λ v bytes rest e. record { front = text; parts = text-found text v bytes rest e })
 
 -- ---- versions
 

@@ -1,18 +1,18 @@
 //! Borrowed lists of connection attributes.
-#![tactic(auto, using(crate::proofs::PairsPassed::pairs_passed))]
 
 ghost use Rattle.std.specs.Prelude.{false, [], ◌≡◌, List, IfErr, IfOk, IsOk, OnOk, option_map, length, ⊤};
 ghost use Rattle.std.specs.Cmp.Lexicographic.{pointwise};
 ghost use Rattle.std.specs.Option.{unwrap_or};
-ghost use Rattle.mysql_wire.specs.Reading.{Answers, Faults};
+ghost use Rattle.mysql_wire.specs.Many.{NextItem};
+ghost use Rattle.mysql_wire.specs.Reading.{Answers};
 ghost use Rattle.mysql_auth.specs.Attributes as spec;
 ghost use Rattle.mysql_auth.specs.Attributes.{Attribute};
-ghost use Rattle.mysql_auth.specs.ConnectAttributesRef.{ArePairs, NextPair, pairs_in, sent_pairs};
+ghost use Rattle.mysql_auth.specs.ConnectAttributesRef.{ArePairs, pairs_in};
 ghost use Rattle.std.specs.Iterator.{at_most};
 
 use crate::attributes::{Attributes, read_pairs};
 use crate::connect_attribute_ref::ConnectAttributeRef;
-use mysql_wire::{BytesRef, BytesRepr, Fault, FaultOf, LenEnc, ParseBuf};
+use mysql_wire::{BytesRef, BytesRepr, FaultOf, LenEnc, ParseBuf, check_all, next_item};
 use std::alloc::{AllocError, Global};
 use std::fmt;
 use std::fmt::Debug;
@@ -48,31 +48,6 @@ impl<'a> Model for ConnectAttributesRef<'a> {
     ghost invariant = { λ a. ArePairs a.pairs };
 }
 
-/// Reads pairs to the end, and keeps none.
-fn check_pairs<'s>(pairs: ParseBuf<'_>) -> Result<(), FaultOf<'s>>
-    ensures ok { OnOk result (ArePairs pairs.entry) }
-    ensures err { IfErr result (λ e. Faults {A = List Attribute} false e (sent_pairs.reads pairs.entry)) }
-{
-    let mut rest = pairs;
-    while !rest.is_empty() {
-        let _pair: ConnectAttributeRef<'_> = rest.parse(())?;
-    }
-    Ok(())
-}
-
-/// Takes the first pair off the front, if one is left.
-fn next_pair<'a>(pairs: &mut ParseBuf<'a>) -> Option<ConnectAttributeRef<'a>>
-    requires { ArePairs pairs.old }
-    ensures next { NextPair (pairs_in pairs.old) result (pairs_in pairs.new) }
-    ensures others { ArePairs pairs.new }
-{
-    if pairs.is_empty() {
-        return None;
-    }
-    let pair: Result<ConnectAttributeRef<'a>, Fault> = pairs.parse(());
-    pair.ok()
-}
-
 impl<'a> ConnectAttributesRef<'a> {
     /// Reads the attributes after their total length.
     #[tactic(auto, using(mysql_wire::proofs::Packets::packets), unfolding(crate::specs::Attributes::attributes_as_sent))]
@@ -80,7 +55,7 @@ impl<'a> ConnectAttributesRef<'a> {
         ensures value { Answers false result buf.new ((spec.attributes_as_sent.form tt).reads buf.old) }
     {
         let pairs = <LenEnc as BytesRepr>::deserialize((), buf)?;
-        check_pairs(pairs.rest())?;
+        check_all::<ConnectAttributeRef<'a>>(pairs.rest())?;
         Ok(ConnectAttributesRef { pairs })
     }
 
@@ -105,7 +80,7 @@ impl<'a> ConnectAttributesRef<'a> {
     }
 
     /// Converts to a list with each key once, which still borrows the texts. It takes memory for the list.
-    #[tactic(auto, using(crate::proofs::PairsPassed::pairs_merged))]
+    #[tactic(auto, using(crate::proofs::PairsMerged::pairs_merged))]
     pub(crate) fn to_attributes(&self, alloc: Global) -> Result<Attributes<'a>, AllocError>
         ensures value { IfOk result (λ attributes. attributes ≡ spec.merged self.now) }
         ensures no_memory { self.now ≡ [] → IsOk result }
@@ -208,11 +183,11 @@ impl<'a> Iterator for ConnectAttributesRef<'a> {
 
     ghost can_next = { λ _. ⊤ };
 
-    ghost next_gives = { NextPair };
+    ghost next_gives = { NextItem };
 
     ghost remaining = { λ left. at_most (length left) };
 
     fn next(&mut self) -> Option<ConnectAttributeRef<'a>> {
-        next_pair(&mut self.pairs)
+        next_item(&mut self.pairs)
     }
 }

@@ -184,11 +184,7 @@ pub record BuildsRequest (s : BuilderState) (request : BulkRequest) (t : Builder
 abbrev pub Builds : BuilderState → Result BulkRequest BulkExecuteRequestError → BuilderState → Type 0
 Builds s (Ok request) t = BuildsRequest s request t
 Builds s (Err NoParams) t = (s.waiting ≡ []) × (t ≡ s)
-Builds s (Err Memory) t = ⊥
-Builds s (Err MixedArity) t = ⊥
-Builds s (Err (MixedTypes row)) t = ⊥
-Builds s (Err (RowTooLarge row)) t = ⊥
-Builds s (Err (MemoryRow row)) t = ⊥
+Builds s _ t = ⊥
 
 -- ---- the invariant
 

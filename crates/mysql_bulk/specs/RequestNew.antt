@@ -26,6 +26,4 @@ MakesRequest stmt_id bulk_flags rows (Ok request) = (rows ≢ []) × OneLength r
 MakesRequest stmt_id bulk_flags rows (Err NoParams) = rows ≡ []
 MakesRequest stmt_id bulk_flags rows (Err MixedArity) = (rows ≢ []) × (OneLength rows → ⊥)
 MakesRequest stmt_id bulk_flags rows (Err Memory) = (rows ≢ []) × OneLength rows
-MakesRequest stmt_id bulk_flags rows (Err (MixedTypes row)) = ⊥
-MakesRequest stmt_id bulk_flags rows (Err (RowTooLarge row)) = ⊥
-MakesRequest stmt_id bulk_flags rows (Err (MemoryRow row)) = ⊥
+MakesRequest stmt_id bulk_flags rows _ = ⊥

@@ -50,6 +50,4 @@ RefusalOfRows s rows None = EachFrontFits s rows × (taken_front s rows ≡ rows
 RefusalOfRows s rows (Some MixedArity) = (row : List Content) × RefusesArity s rows row
 RefusalOfRows s rows (Some (MixedTypes row)) = RefusesTypes s rows (contents_of_row row)
 RefusalOfRows s rows (Some (RowTooLarge row)) = RefusesSize s rows (contents_of_row row)
-RefusalOfRows s rows (Some (MemoryRow row)) = ⊥
-RefusalOfRows s rows (Some NoParams) = ⊥
-RefusalOfRows s rows (Some Memory) = ⊥
+RefusalOfRows s rows _ = ⊥

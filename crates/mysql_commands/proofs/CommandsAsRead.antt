@@ -73,8 +73,6 @@ module _ {A : Type 0} (body : Form A) (written : A → List ℕ) (exact : Exact 
 named-exact : (c : CapabilityFlags) (o : Option ServerCommand) (v : Command) (b : ℕ) (bs rest : List ℕ) → server_command_of b ≡ o → AreBytes (b ∷ bs)
     → (command_named c o).Spells v (b ∷ bs) rest → command_bytes v ++ rest ≡ b ∷ bs
 unfolding command_bytes
-named-exact c None v b bs rest e h s = rw (← s.1) (unknown-exact s.0 (b ∷ bs) rest h s.2)
-named-exact c (Some name.COM_SLEEP) v b bs rest e h s = rw (← s.1) (unknown-exact s.0 (b ∷ bs) rest h s.2)
 named-exact c (Some name.COM_QUIT) v b bs rest e h s = rw (← s.1) (after-exact (give {A = Unit {0}} tt) (λ u. []) nothing-exact name.COM_QUIT b bs e s.0 rest h s.2)
 named-exact c (Some name.COM_INIT_DB) v b bs rest e h s = rw (← s.1) (after-exact all_left (λ t. t) left-exact name.COM_INIT_DB b bs e s.0 rest h s.2)
 named-exact c (Some name.COM_QUERY) v b bs rest e h s = rw (← s.1) (query-exact c s.0 (b ∷ bs) rest h s.2)
@@ -85,16 +83,12 @@ named-exact c (Some name.COM_REFRESH) v b bs rest e h s = rw (← s.1) (after-ex
 named-exact c (Some name.COM_SHUTDOWN) v b bs rest e h s = rw (← s.1, levels s.0) (after-exact byte_left (optional_bytes (λ n. le_bytes 1 n.0)) byte_left-exact name.COM_SHUTDOWN b bs e s.0 rest h s.2)
 named-exact c (Some name.COM_STATISTICS) v b bs rest e h s = rw (← s.1) (after-exact (give {A = Unit {0}} tt) (λ u. []) nothing-exact name.COM_STATISTICS b bs e s.0 rest h s.2)
 named-exact c (Some name.COM_PROCESS_INFO) v b bs rest e h s = rw (← s.1) (after-exact (give {A = Unit {0}} tt) (λ u. []) nothing-exact name.COM_PROCESS_INFO b bs e s.0 rest h s.2)
-named-exact c (Some name.COM_CONNECT) v b bs rest e h s = rw (← s.1) (unknown-exact s.0 (b ∷ bs) rest h s.2)
 named-exact c (Some name.COM_PROCESS_KILL) v b bs rest e h s = rw (← s.1) (after-exact le_u32 (λ n. le_bytes 4 n.0) (raw-exact LeU32 4) name.COM_PROCESS_KILL b bs e s.0 rest h s.2)
 named-exact c (Some name.COM_DEBUG) v b bs rest e h s = rw (← s.1) (after-exact (give {A = Unit {0}} tt) (λ u. []) nothing-exact name.COM_DEBUG b bs e s.0 rest h s.2)
 named-exact c (Some name.COM_PING) v b bs rest e h s = rw (← s.1) (after-exact (give {A = Unit {0}} tt) (λ u. []) nothing-exact name.COM_PING b bs e s.0 rest h s.2)
-named-exact c (Some name.COM_TIME) v b bs rest e h s = rw (← s.1) (unknown-exact s.0 (b ∷ bs) rest h s.2)
-named-exact c (Some name.COM_DELAYED_INSERT) v b bs rest e h s = rw (← s.1) (unknown-exact s.0 (b ∷ bs) rest h s.2)
 named-exact c (Some name.COM_CHANGE_USER) v b bs rest e h s = rw (← s.1) (sent-exact (change_user_as_sent.form c) s.0 (b ∷ bs) rest s.2)
 named-exact c (Some name.COM_BINLOG_DUMP) v b bs rest e h s = rw (← s.1) (binlog_dump-exact s.0 (b ∷ bs) rest h s.2)
 named-exact c (Some name.COM_TABLE_DUMP) v b bs rest e h s = rw (← s.1) (table_dump-exact s.0 (b ∷ bs) rest h s.2)
-named-exact c (Some name.COM_CONNECT_OUT) v b bs rest e h s = rw (← s.1) (unknown-exact s.0 (b ∷ bs) rest h s.2)
 named-exact c (Some name.COM_REGISTER_SLAVE) v b bs rest e h s = rw (← s.1) (register_slave-exact s.0 (b ∷ bs) rest h s.2)
 named-exact c (Some name.COM_STMT_PREPARE) v b bs rest e h s = rw (← s.1) (after-exact all_left (λ t. t) left-exact name.COM_STMT_PREPARE b bs e s.0 rest h s.2)
 named-exact c (Some name.COM_STMT_EXECUTE) v b bs rest e h s = rw (← s.1) (stmt_execute-exact s.0 (b ∷ bs) rest h s.2)
@@ -103,16 +97,10 @@ named-exact c (Some name.COM_STMT_CLOSE) v b bs rest e h s = rw (← s.1) (close
 named-exact c (Some name.COM_STMT_RESET) v b bs rest e h s = rw (← s.1) (stmt_reset-exact s.0 (b ∷ bs) rest h s.2)
 named-exact c (Some name.COM_SET_OPTION) v b bs rest e h s = rw (← s.1) (set_option-exact s.0 (b ∷ bs) rest h s.2)
 named-exact c (Some name.COM_STMT_FETCH) v b bs rest e h s = rw (← s.1) (stmt_fetch-exact s.0 (b ∷ bs) rest h s.2)
-named-exact c (Some name.COM_DAEMON) v b bs rest e h s = rw (← s.1) (unknown-exact s.0 (b ∷ bs) rest h s.2)
 named-exact c (Some name.COM_BINLOG_DUMP_GTID) v b bs rest e h s = rw (← s.1) (sent-exact (gtid_dump.form false) s.0 (b ∷ bs) rest s.2)
 named-exact c (Some name.COM_RESET_CONNECTION) v b bs rest e h s = rw (← s.1) (after-exact (give {A = Unit {0}} tt) (λ u. []) nothing-exact name.COM_RESET_CONNECTION b bs e s.0 rest h s.2)
-named-exact c (Some name.COM_CLONE) v b bs rest e h s = rw (← s.1) (unknown-exact s.0 (b ∷ bs) rest h s.2)
-named-exact c (Some name.COM_SUBSCRIBE_GROUP_REPLICATION_STREAM) v b bs rest e h s = rw (← s.1) (unknown-exact s.0 (b ∷ bs) rest h s.2)
 named-exact c (Some name.COM_STMT_BULK_EXECUTE) v b bs rest e h s = rw (← s.1) (bulk_execute-exact s.0 (b ∷ bs) rest h s.2)
-named-exact c (Some name.COM_SLAVE_WORKER) v b bs rest e h s = rw (← s.1) (unknown-exact s.0 (b ∷ bs) rest h s.2)
-named-exact c (Some name.COM_SLAVE_IO) v b bs rest e h s = rw (← s.1) (unknown-exact s.0 (b ∷ bs) rest h s.2)
-named-exact c (Some name.COM_SLAVE_SQL) v b bs rest e h s = rw (← s.1) (unknown-exact s.0 (b ∷ bs) rest h s.2)
-named-exact c (Some name.COM_MULTI) v b bs rest e h s = rw (← s.1) (unknown-exact s.0 (b ∷ bs) rest h s.2)
+named-exact c _ v b bs rest e h s = rw (← s.1) (unknown-exact s.0 (b ∷ bs) rest h s.2)
 
 at-exact : (c : CapabilityFlags) (v : Command) (before rest : List ℕ) → AreBytes before → (command_at c before).Spells v before rest → command_bytes v ++ rest ≡ before
 unfolding command_bytes

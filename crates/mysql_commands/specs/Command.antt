@@ -75,14 +75,13 @@ command c = looking (command_at c)
 
 -- ---- writing
 
--- a command as a codec and the value that it writes
+-- what a codec writes of a value, and when that is read back before these bytes
 pub record Written : Type 1 where
-  pub Value : Type 0
-  pub codec : Codec CapabilityFlags Value
-  pub value : Value
+  pub bytes : List ℕ
+  pub fits : CapabilityFlags → (rest : List ℕ) → Type 0
 
 abbrev pub written_by : {A : Type 0} → Codec CapabilityFlags A → A → Written
-written_by {A} codec value = record { Value = A; codec = codec; value = value }
+written_by codec value = record { bytes = codec.bytes value; fits = λ c rest. codec.fits c value rest }
 
 abbrev pub written : Command → Written
 written variant.Quit = written_by (fixed name.COM_QUIT) tt
@@ -116,8 +115,8 @@ written (variant.Unknown p) = written_by unknown_command p
 
 -- the defined bytes
 unfoldable pub command_bytes : Command → List ℕ
-command_bytes v = (written v).codec.bytes (written v).value
+command_bytes v = (written v).bytes
 
 -- when they are read back
 unfoldable pub CommandFits : CapabilityFlags → Command → List ℕ → Type 0
-CommandFits c v rest = (written v).codec.fits c (written v).value rest
+CommandFits c v rest = (written v).fits c rest

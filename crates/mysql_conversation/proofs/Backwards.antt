@@ -70,10 +70,8 @@ back_infile_ok a f false p items rest e h t = inr (serving kind.Ok (IsOk a false
 
 back_infile_reply : (a : Agreed) (f : Request) (p : List ℕ) (r : Option Reply) (k : PacketKind) (m : State) (items rest : List Packet)
     → first_is 0xff p ≡ false → reply_of a p ≡ r → infile_reply_step f r ≡ Some (k, m) → tail_of a m items rest → tail_of a (state.InfileReply f) (packet Server p k ∷ items) rest
-back_infile_reply a f p None k m items rest e w h t = absurd cc
 back_infile_reply a f p (Some (reply.Ok more)) k m items rest e w h t = back a (state.InfileReply f) Server p _ k _ m items rest h (back_infile_ok a f more p items rest e (reply_means a p _ w)) t
-back_infile_reply a f p (Some reply.Infile) k m items rest e w h t = absurd cc
-back_infile_reply a f p (Some (reply.Columns n follow)) k m items rest e w h t = absurd cc
+back_infile_reply a f p _ k m items rest e w h t = absurd cc
 
 back_less : (a : Agreed) (n : ℕ) (b : After) (p : List ℕ) (items rest : List Packet) → first_is 0xff p ≡ false → tail_of a (less (deprecates_eof a) n b) items rest → tail_of a (state.Definitions n b) (packet Server p kind.Column ∷ items) rest
 back_less a zero b p items rest e t = (items, (items, serving kind.Column _ p items items refl e tt, refl), following_last a (deprecates_eof a) b items rest t)
@@ -97,10 +95,6 @@ back_columns a Cursor status p k m items rest e o h t = elim (chosen (opens_curs
 
 back_definitions_end : (a : Agreed) (b : After) (p : List ℕ) (o : Option StatusFlags) (k : PacketKind) (m : State) (items rest : List Packet)
     → first_is 0xff p ≡ false → old_end_of a p ≡ o → definitions_end_step b o ≡ Some (k, m) → tail_of a m items rest → tail_of a (state.DefinitionsEnd b) (packet Server p k ∷ items) rest
-back_definitions_end a (after.Rows r) p None k m items rest e w h t = absurd cc
-back_definitions_end a (after.Columns n) p None k m items rest e w h t = absurd cc
-back_definitions_end a after.End p None k m items rest e w h t = absurd cc
-back_definitions_end a after.Rest p None k m items rest e w h t = absurd cc
 back_definitions_end a (after.Rows r) p (Some status) k m items rest e w h t = back_columns a r status p k m items rest e (old_end_means a status p w) h t
 back_definitions_end a (after.Columns n) p (Some status) k m items rest e w h t = back a (state.DefinitionsEnd (after.Columns n)) Server p _ k _ m items rest h
     (λ t. (items, serving kind.Eof _ p items items refl e (status, old_end_means a status p w), entered a (after.Columns n) items rest t)) t
@@ -108,6 +102,7 @@ back_definitions_end a after.End p (Some status) k m items rest e w h t = back a
     (λ t. (items, serving kind.Eof _ p items items refl e (status, old_end_means a status p w), entered a after.End items rest t)) t
 back_definitions_end a after.Rest p (Some status) k m items rest e w h t = back a (state.DefinitionsEnd after.Rest) Server p _ k _ m items rest h
     (λ t. serving kind.Eof _ p items rest t e (status, old_end_means a status p w)) t
+back_definitions_end a _ p _ k m items rest e w h t = absurd cc
 
 back_end : (a : Agreed) (r : Request) (more : Bool) (p : List ℕ) (items rest : List Packet) → first_is 0xff p ≡ false → IsEnd a more p → tail_of a (ended r more) items rest → following a (after.Rows r) (packet Server p (ending (deprecates_eof a)) ∷ items) rest
 back_end a r true p items rest e h t = (_, many_none (c.row a (format_of r)) _, inl (items, serving (ending (deprecates_eof a)) (IsEnd a true) p items items refl e h, t))
@@ -135,10 +130,7 @@ back_fetch a p (Some (line.End more)) k m items rest e w h t = back a state.Fetc
 back_last_ok : (a : Agreed) (s n : State) (p : List ℕ) (r : Option Reply) (k : PacketKind) (m : State) (items rest : List Packet) → first_is 0xff p ≡ false → reply_of a p ≡ r → last_ok n r ≡ Some (k, m)
     → (IsOk a false p → tail_of a n items rest → tail_of a s (packet Server p kind.Ok ∷ items) rest) → tail_of a m items rest → tail_of a s (packet Server p k ∷ items) rest
 back_last_ok a s n p (Some (reply.Ok false)) k m items rest e v h f t = back a s Server p _ k _ m items rest h (f (reply_means a p _ v)) t
-back_last_ok a s n p (Some (reply.Ok true)) k m items rest e v h f t = absurd cc
-back_last_ok a s n p (Some reply.Infile) k m items rest e v h f t = absurd cc
-back_last_ok a s n p (Some (reply.Columns x follow)) k m items rest e v h f t = absurd cc
-back_last_ok a s n p None k m items rest e v h f t = absurd cc
+back_last_ok a s n p _ k m items rest e v h f t = absurd cc
 
 ok_acknowledged : (a : Agreed) (may_end : Bool) (p : List ℕ) (items rest : List Packet) → first_is 0xff p ≡ false → IsOk a false p → items ≡ rest → c.acknowledged a may_end (packet Server p kind.Ok ∷ items) rest
 ok_acknowledged a true p items rest e o t = inl (serving kind.Ok (IsOk a false) p items rest t e o)
@@ -269,9 +261,7 @@ one_clone side p items rest t = many_more c.clone _ items rest (packet side p ki
 -- a packet of the server other than an error, one step back
 pub back_serve : (a : Agreed) (s : State) (p : List ℕ) (k : PacketKind) (m : State) (items rest : List Packet)
     → first_is 0xff p ≡ false → serve a s p ≡ Some (k, m) → tail_of a m items rest → tail_of a s (packet Server p k ∷ items) rest
-back_serve a state.Rest p k m items rest e h t = absurd cc
 back_serve a (state.Authentication login b) p k m items rest e h t = back_authentication a login b p k m items rest e h t
-back_serve a (state.Infile r) p k m items rest e h t = absurd cc
 back_serve a (state.Reply r) p k m items rest e h t = back_reply a r p (reply_of a p) k m items rest e refl h t
 back_serve a (state.InfileReply r) p k m items rest e h t = back_infile_reply a r p (reply_of a p) k m items rest e refl h t
 back_serve a (state.Definitions n b) p k m items rest e h t = back a (state.Definitions n b) Server p _ k _ m items rest h (back_less a n b p items rest e) t
@@ -283,27 +273,16 @@ back_serve a (state.Acknowledgement may_end) p k m items rest e h t = back_ackno
 back_serve a state.Text p k m items rest e h t = back a state.Text Server p _ k _ m items rest h (λ t. serving kind.Statistics _ p items rest t e tt) t
 back_serve a state.Fields p k m items rest e h t = back_fields a p (line_of a Text p) k m items rest e refl h t
 back_serve a state.Events p k m items rest e h t = back_events a p (first_is 0 p) (old_end_of a p) k m items rest e refl refl h t
-back_serve a state.SessionError p k m items rest e h t = absurd cc
 back_serve a state.CloneReply p k m items rest e h t = back_last_ok a state.CloneReply state.Clone p (reply_of a p) k m items rest e refl h
     (λ o t. inl (items, serving kind.Ok (IsOk a false) p items items refl e o, t)) t
 back_serve a state.Clone p k m items rest e h t = back a state.Clone Server p _ k _ m items rest h (λ t. one_clone Server p items rest t) t
-back_serve a state.Quit p k m items rest e h t = absurd cc
-back_serve a state.Over p k m items rest e h t = absurd cc
+back_serve a _ p k m items rest e h t = absurd cc
 
 -- at the beginning of an answer all of it comes, except for a command that may end the connection
 answer_comes : (a : Agreed) (r : Answer) (items rest : List Packet) → may_shut r ≡ false → tail_of a (answers r) items rest → answered a (Some r) items rest
-answer_comes a (answer.Results r) items rest n t = t
-answer_comes a answer.Prepared items rest n t = t
-answer_comes a answer.Rows items rest n t = t
-answer_comes a (answer.Acknowledgement may_end) items rest n t = t
-answer_comes a answer.Text items rest n t = t
-answer_comes a answer.Fields items rest n t = t
-answer_comes a answer.Authentication items rest n t = t
-answer_comes a answer.Events items rest n t = t
-answer_comes a answer.Nothing items rest n t = t
 answer_comes a answer.Quit items rest n t = absurd cc
 answer_comes a answer.Clone items rest n t = absurd cc
-answer_comes a answer.SessionError items rest n t = t
+answer_comes a _ items rest n t = t
 
 one_exchange : (a : Agreed) (code : ℕ) (cursor : Bool) (items rest : List Packet) → c.exchange_of a code cursor items rest → c.exchange a items rest
 one_exchange a code true items rest h = (code, inl h)

@@ -61,20 +61,7 @@ opened a state.CloneReply items (inl h) = ([], inl (inl h), no_more a)
 opened a state.CloneReply items (inr h) = (h.0, inl (inr h.1), h.2)
 opened a (state.Authentication true b) items (inl h) = (h.0, inl h.1, h.2)
 opened a (state.Authentication true b) items (inr h) = ([], inr h, no_more a)
-opened a (state.Authentication false b) items h = h
-opened a (state.Reply r) items h = h
-opened a (state.Infile r) items h = h
-opened a (state.InfileReply r) items h = h
-opened a (state.Definitions n b) items h = h
-opened a (state.DefinitionsEnd b) items h = h
-opened a (state.Rows r) items h = h
-opened a state.Prepared items h = h
-opened a state.Fetch items h = h
-opened a (state.Acknowledgement may_end) items h = h
-opened a state.Text items h = h
-opened a state.Fields items h = h
-opened a state.Events items h = h
-opened a state.SessionError items h = h
+opened a _ items h = h
 
 -- ---- a packet before what comes
 
@@ -180,22 +167,9 @@ ahead_client a state.Rest p k m items h t = ahead_begun a p (answering (code_of 
 ahead_client a (state.Authentication true b) p k m items h t = login_before a b (packet Client p k) m items (login_answers b k m h) (λ xs rest u. back_answer a true b p k m xs rest h u) t
 ahead_client a (state.Authentication false b) p k m items h t = open_before a (state.Authentication false b) (packet Client p k) m items (λ xs rest u. back_answer a false b p k m xs rest h u) t
 ahead_client a (state.Infile r) p k m items h t = open_before a (state.Infile r) (packet Client p k) m items (λ xs rest u. back_content a r p k m xs rest h u) t
-ahead_client a (state.Reply r) p k m items h t = absurd cc
-ahead_client a (state.InfileReply r) p k m items h t = absurd cc
-ahead_client a (state.Definitions n b) p k m items h t = absurd cc
-ahead_client a (state.DefinitionsEnd b) p k m items h t = absurd cc
-ahead_client a (state.Rows r) p k m items h t = absurd cc
-ahead_client a state.Prepared p k m items h t = absurd cc
-ahead_client a state.Fetch p k m items h t = absurd cc
-ahead_client a (state.Acknowledgement may_end) p k m items h t = absurd cc
-ahead_client a state.Text p k m items h t = absurd cc
-ahead_client a state.Fields p k m items h t = absurd cc
 ahead_client a state.Events p k m items h t = open_before a state.Events (packet Client p k) m items (λ xs rest u. back_ack a p k m xs rest h u) t
-ahead_client a state.SessionError p k m items h t = absurd cc
-ahead_client a state.CloneReply p k m items h t = absurd cc
 ahead_client a state.Clone p k m items h t = clone_before a Client p k m items h t
-ahead_client a state.Quit p k m items h t = absurd cc
-ahead_client a state.Over p k m items h t = absurd cc
+ahead_client a _ p k m items h t = absurd cc
 
 -- the OK packet that answers COM_CLONE
 clone_answered : (a : Agreed) (p : List ℕ) (r : Option Reply) (k : PacketKind) (m : State) (items : List Packet) → first_is 0xff p ≡ false → reply_of a p ≡ r → last_ok state.Clone r ≡ Some (k, m) → Ahead a m items → Ahead a state.CloneReply (packet Server p k ∷ items)
@@ -203,22 +177,16 @@ clone_answered a p (Some (reply.Ok false)) k m items e v h t =
     subst (λ (x : PacketKind × State). Ahead a x.1 items → Ahead a state.CloneReply (packet Server p x.0 ∷ items)) (some_is h)
     (λ t. inl (items, serving kind.Ok (IsOk a false) p items items refl e (reply_means a p _ v), t)) t
 clone_answered a p (Some (reply.Ok true)) k m items e v h t = absurd cc
-clone_answered a p (Some reply.Infile) k m items e v h t = absurd cc
-clone_answered a p (Some (reply.Columns n follow)) k m items e v h t = absurd cc
-clone_answered a p None k m items e v h t = absurd cc
+clone_answered a p _ k m items e v h t = absurd cc
 
 ahead_serve : (a : Agreed) (s : State) (p : List ℕ) (k : PacketKind) (m : State) (items : List Packet)
     → first_is 0xff p ≡ false → serve a s p ≡ Some (k, m) → Ahead a m items → Ahead a s (packet Server p k ∷ items)
-ahead_serve a state.Rest p k m items e h t = absurd cc
-ahead_serve a state.Quit p k m items e h t = absurd cc
-ahead_serve a state.Over p k m items e h t = absurd cc
 ahead_serve a state.Clone p k m items e h t = clone_before a Server p k m items h t
 ahead_serve a state.CloneReply p k m items e h t = clone_answered a p (reply_of a p) k m items e refl h t
 ahead_serve a (state.Authentication true b) p k m items e h t =
     login_before a b (packet Server p k) m items (login_goes_on a p (ok_status a p) k m h) (λ xs rest u. back_authentication a true b p k m xs rest e h u) t
 ahead_serve a (state.Authentication false b) p k m items e h t = open_before a (state.Authentication false b) (packet Server p k) m items (λ xs rest u. back_serve a (state.Authentication false b) p k m xs rest e h u) t
 ahead_serve a (state.Reply r) p k m items e h t = open_before a (state.Reply r) (packet Server p k) m items (λ xs rest u. back_serve a (state.Reply r) p k m xs rest e h u) t
-ahead_serve a (state.Infile r) p k m items e h t = absurd cc
 ahead_serve a (state.InfileReply r) p k m items e h t = open_before a (state.InfileReply r) (packet Server p k) m items (λ xs rest u. back_serve a (state.InfileReply r) p k m xs rest e h u) t
 ahead_serve a (state.Definitions n b) p k m items e h t = open_before a (state.Definitions n b) (packet Server p k) m items (λ xs rest u. back_serve a (state.Definitions n b) p k m xs rest e h u) t
 ahead_serve a (state.DefinitionsEnd b) p k m items e h t = open_before a (state.DefinitionsEnd b) (packet Server p k) m items (λ xs rest u. back_serve a (state.DefinitionsEnd b) p k m xs rest e h u) t
@@ -229,7 +197,7 @@ ahead_serve a (state.Acknowledgement d) p k m items e h t = open_before a (state
 ahead_serve a state.Text p k m items e h t = open_before a state.Text (packet Server p k) m items (λ xs rest u. back_serve a state.Text p k m xs rest e h u) t
 ahead_serve a state.Fields p k m items e h t = open_before a state.Fields (packet Server p k) m items (λ xs rest u. back_serve a state.Fields p k m xs rest e h u) t
 ahead_serve a state.Events p k m items e h t = open_before a state.Events (packet Server p k) m items (λ xs rest u. back_serve a state.Events p k m xs rest e h u) t
-ahead_serve a state.SessionError p k m items e h t = absurd cc
+ahead_serve a _ p k m items e h t = absurd cc
 
 -- ---- errors
 

@@ -190,7 +190,6 @@ authentication_comes a = (_, many_none (round a) _, ok_then a [])
 
 -- some packet leads to the end of a running exchange
 pub to_come : (a : Agreed) (s : State) → rests s ≡ false → ToCome a s
-to_come a state.Rest h = absurd cc
 to_come a (state.Authentication login b) h = (packet Server ok_bytes kind.Ok, [], refl, unanswered a b _ [] (authentication_comes a))
 to_come a (state.Infile r) h = (
   packet Client [] kind.InfileEnd,
@@ -219,6 +218,4 @@ to_come a state.Fields h = let e = end_then a [] in (e.0, [], e.1, (_, many_none
 to_come a state.Events h = let e = old_end_comes a after.Rest in (e.0, e.1, e.2, (_, many_none (c.event or c.ack) _, e.3))
 to_come a state.SessionError h = (packet Server (0xff ∷ []) kind.Error, [], refl, (packet Server (0xff ∷ []) kind.Error, (refl, refl, (refl, short_report a)), refl))
 to_come a state.CloneReply h = (packet Server (0xff ∷ []) kind.Error, [], refl, inr (packet Server (0xff ∷ []) kind.Error, (refl, refl, (refl, short_report a)), refl))
-to_come a state.Clone h = absurd cc
-to_come a state.Quit h = absurd cc
-to_come a state.Over h = absurd cc
+to_come a _ h = absurd cc

@@ -14,10 +14,8 @@ use Rattle.mysql_conversation.specs.Machine.{status_in, count_in, statement_in}
 
 -- a refused reading yields nothing
 pub nothing_found : {A B : Type 0} (found : Reading A → Option B) → ((kind : FaultKind) → found (Err kind) ≡ None) → (e : FaultOf) (read : Reading A) → Faults false e read → found read ≡ None
-nothing_found found nothing fault.UnexpectedEof read h = ap found h ∙ nothing _
-nothing_found found nothing (fault.InvalidData text) read h = ap found h ∙ nothing _
-nothing_found found nothing (fault.InvalidInput text) read h = ap found h ∙ nothing _
 nothing_found found nothing fault.Memory read h = absurd cc
+nothing_found found nothing _ read h = ap found h ∙ nothing _
 
 pub status-fault : {T : Type 0} (e : FaultOf) (read : Reading (OkPacketDeserializer T)) → Faults false e read → status_in read ≡ None
 status-fault = nothing_found status_in (λ kind. refl)

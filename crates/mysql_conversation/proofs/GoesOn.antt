@@ -63,34 +63,8 @@ pipe_came a o items w side p k i r h =
 -- the name alone determines whether the client may answer
 asks_by_name : (k : PacketKind) → is_in (name_of k) asking_names ≡ asks k
 asks_by_name kind.Handshake = refl
-asks_by_name kind.SslRequest = refl
-asks_by_name kind.Login = refl
-asks_by_name kind.AuthSwitch = refl
-asks_by_name kind.OldAuthSwitch = refl
-asks_by_name kind.AuthMoreData = refl
-asks_by_name kind.AuthNextFactor = refl
-asks_by_name kind.AuthPluginData = refl
-asks_by_name kind.AuthData = refl
-asks_by_name (kind.Command code) = refl
-asks_by_name kind.Ok = refl
-asks_by_name kind.Error = refl
-asks_by_name kind.UnsolicitedError = refl
-asks_by_name kind.ProgressReport = refl
-asks_by_name kind.LocalInfile = refl
-asks_by_name kind.InfileContent = refl
-asks_by_name kind.InfileEnd = refl
-asks_by_name (kind.ColumnCount n follow) = refl
-asks_by_name kind.Column = refl
-asks_by_name kind.FieldListColumn = refl
-asks_by_name kind.Eof = refl
-asks_by_name kind.OkTerminator = refl
 asks_by_name (kind.Row Text) = refl
-asks_by_name (kind.Row Binary) = refl
-asks_by_name (kind.PrepareOk columns params follow) = refl
-asks_by_name kind.Statistics = refl
-asks_by_name kind.BinlogEvent = refl
-asks_by_name kind.SemiSyncAck = refl
-asks_by_name kind.Clone = refl
+asks_by_name _ = refl
 
 -- ---- the steps of a pipeline
 

@@ -142,13 +142,11 @@ lead_rows a r more = lead_some a _ _ _ (λ n.
     (lead_then a _ _ _ (state.Rows r) _ (lead_many a (state.Rows r) (c.row a (format_of r)) (lead_row a r)) (lead_end a r more))))
 
 lead_opened : (a : Agreed) (r : Request) (d more : Bool) → deprecates_eof a ≡ d → Leads a (state.Reply r) (c.opened a r d more) (ended r more)
-lead_opened a Query d more e = lead_never a _ _
-lead_opened a Execution d more e = lead_never a _ _
-lead_opened a Cursor true more e = lead_never a _ _
 lead_opened a Cursor false more e = lead_some a _ _ _ (λ n.
     lead_then a _ _ _ (state.DefinitionsEnd (after.Rows Cursor)) _
     (subst (λ d. Leads a (state.Reply Cursor) (c.columns a n) (defined d (after.Rows Cursor))) e (lead_columns_of a Cursor n))
     (lead_cursor a more))
+lead_opened a _ _ more e = lead_never a _ _
 
 lead_result : (a : Agreed) (r : Request) (more : Bool) → Leads a (state.Reply r) (c.result a r more) (ended r more)
 lead_result a r more =

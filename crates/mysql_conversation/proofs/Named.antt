@@ -4,7 +4,7 @@ use Rattle.std.proofs.lemmas.Bool.{eqb-true, and_parts, or_cases, or_right}
 use Rattle.std.specs.Prelude.{◌==◌, ◌||◌, ◌&&◌}
 use Rattle.mysql_wire.specs.Flags.{StatusFlags}
 use Rattle.mysql_stmt.specs.declared.stmt_with_metadata.StmtPacketWithMetadata.{StmtPacketWithMetadata}
-use Rattle.mysql_conversation.proofs.States.{by_cond, failed_clone, failed_no_report}
+use Rattle.mysql_conversation.proofs.States.{by_cond, by_kind, kind_by, failed_clone, failed_no_report}
 use Rattle.mysql_conversation.specs.Agreements.{Agreed, deprecates_eof, asks_factors, reports_progress}
 use Rattle.mysql_conversation.specs.Payloads.{first_is, is_report, begins_with_ff, is_one_byte, asks_cursor, opens_cursor, has_more}
 use Rattle.mysql_conversation.specs.Conversation.{code_of, answering, ending, format_of}
@@ -58,34 +58,7 @@ at (x ∷ xs) (suc n) = at xs n
 known : (n : PacketKindTag) → at all_names (index n) ≡ Some n
 unfolding all_names at
 known name.Handshake = refl
-known name.SslRequest = refl
-known name.Login = refl
-known name.AuthSwitch = refl
-known name.OldAuthSwitch = refl
-known name.AuthMoreData = refl
-known name.AuthNextFactor = refl
-known name.AuthPluginData = refl
-known name.AuthData = refl
-known name.Command = refl
-known name.Ok = refl
-known name.Error = refl
-known name.UnsolicitedError = refl
-known name.ProgressReport = refl
-known name.LocalInfile = refl
-known name.InfileContent = refl
-known name.InfileEnd = refl
-known name.ColumnCount = refl
-known name.Column = refl
-known name.FieldListColumn = refl
-known name.Eof = refl
-known name.OkTerminator = refl
-known name.TextRow = refl
-known name.BinaryRow = refl
-known name.PrepareOk = refl
-known name.Statistics = refl
-known name.BinlogEvent = refl
-known name.SemiSyncAck = refl
-known name.Clone = refl
+known _ = refl
 
 pub same : (n x : PacketKindTag) → index n ≡ index x → n ≡ x
 same n x e = some_is (sym (known n) ∙ ap (at all_names) e ∙ known x)
@@ -113,10 +86,6 @@ abbrev Named : List PacketKindTag → Option (PacketKind × State) → Type 0
 Named xs None = Unit {0}
 Named xs (Some x) = is_in (name_of x.0) xs ≡ true
 
-named_cond : (xs : List PacketKindTag) (b : Bool) (x y : Option (PacketKind × State)) → Named xs x → Named xs y → Named xs (cond b x y)
-named_cond xs true x y f g = f
-named_cond xs false x y f g = g
-
 named_more : (n : PacketKindTag) (xs : List PacketKindTag) (o : Option (PacketKind × State)) → Named xs o → Named (n ∷ xs) o
 named_more n xs None h = tt
 named_more n xs (Some x) h = or_right (index (name_of x.0) == index n) (is_in (name_of x.0) xs) h
@@ -138,31 +107,16 @@ row_named Query xs = refl
 row_named Execution xs = refl
 row_named Cursor xs = refl
 
-module _ (P : PacketKind → Type 0) where
-  by_no_cond : (b : Bool) (x y : PacketKind) → P y → P (cond (b && false) x y)
-  by_no_cond true x y f = f
-  by_no_cond false x y f = f
-
--- what a server sends during authentication, with or without next factors
-kind_by : Bool → List ℕ → PacketKind
-kind_by factors p =
-    cond (first_is 0xfe p) (cond (is_one_byte p) kind.OldAuthSwitch kind.AuthSwitch)
-    (cond (first_is 1 p) kind.AuthMoreData (cond (first_is 2 p && factors) kind.AuthNextFactor kind.AuthPluginData))
-
 asked_named : (factors : Bool) (p : List ℕ) → is_in (name_of (kind_by factors p)) (name.Ok ∷ asked_names factors) ≡ true
-unfolding kind_by
-asked_named true p = by_cond (λ k. is_in (name_of k) (name.Ok ∷ asked_names true) ≡ true) (first_is 0xfe p) _ _ (by_cond (λ k. is_in (name_of k) (name.Ok ∷ asked_names true) ≡ true) (is_one_byte p) _ _ refl refl)
-    (by_cond (λ k. is_in (name_of k) (name.Ok ∷ asked_names true) ≡ true) (first_is 1 p) _ _ refl (by_cond (λ k. is_in (name_of k) (name.Ok ∷ asked_names true) ≡ true) (first_is 2 p && true) _ _ refl refl))
-asked_named false p = by_cond (λ k. is_in (name_of k) (name.Ok ∷ asked_names false) ≡ true) (first_is 0xfe p) _ _ (by_cond (λ k. is_in (name_of k) (name.Ok ∷ asked_names false) ≡ true) (is_one_byte p) _ _ refl refl)
-    (by_cond (λ k. is_in (name_of k) (name.Ok ∷ asked_names false) ≡ true) (first_is 1 p) _ _ refl (by_no_cond (λ k. is_in (name_of k) (name.Ok ∷ asked_names false) ≡ true) (first_is 2 p) _ _ refl))
+asked_named true p = by_kind (λ k. is_in (name_of k) (name.Ok ∷ asked_names true) ≡ true) true p refl refl refl (λ e. refl) refl
+asked_named false p = by_kind (λ k. is_in (name_of k) (name.Ok ∷ asked_names false) ≡ true) false p refl refl refl (λ e. absurd cc) refl
 
 named_status : (xs : List PacketKindTag) (status : Option StatusFlags) → Named (name.Ok ∷ xs) (logged_in status)
 named_status xs None = tt
-named_status xs (Some status) = named_cond (name.Ok ∷ xs) (has_more status) _ _ tt refl
+named_status xs (Some status) = by_cond (Named (name.Ok ∷ xs)) (has_more status) _ _ tt refl
 
 named_authentication : (a : Agreed) (login : Bool) (p : List ℕ) (status : Option StatusFlags) → Named (name.Ok ∷ asked_names (asks_factors a)) (authentication_step a login p status)
-unfolding kind_by
-named_authentication a login p status = named_cond (name.Ok ∷ asked_names (asks_factors a)) (first_is 0 p) _ _ (named_status (asked_names (asks_factors a)) status) (asked_named (asks_factors a) p)
+named_authentication a login p status = by_cond (Named (name.Ok ∷ asked_names (asks_factors a))) (first_is 0 p) _ _ (named_status (asked_names (asks_factors a)) status) (asked_named (asks_factors a) p)
 
 named_reply : (d : Bool) (r : Request) (x : Option Reply) → Named (name.Ok ∷ name.LocalInfile ∷ name.ColumnCount ∷ []) (reply_step d r x)
 named_reply d r None = tt
@@ -171,15 +125,13 @@ named_reply d r (Some reply.Infile) = refl
 named_reply d r (Some (reply.Columns n follow)) = refl
 
 named_infile_reply : (r : Request) (x : Option Reply) → Named (name.Ok ∷ []) (infile_reply_step r x)
-named_infile_reply r None = tt
 named_infile_reply r (Some (reply.Ok more)) = refl
-named_infile_reply r (Some reply.Infile) = tt
-named_infile_reply r (Some (reply.Columns n follow)) = tt
+named_infile_reply r _ = tt
 
 named_columns : (status : StatusFlags) (r : Request) → Named (name.Eof ∷ []) (columns_step status r)
 named_columns status Query = refl
 named_columns status Execution = refl
-named_columns status Cursor = named_cond (name.Eof ∷ []) (opens_cursor status) _ _ refl refl
+named_columns status Cursor = by_cond (Named (name.Eof ∷ [])) (opens_cursor status) _ _ refl refl
 
 named_event : (b : Bool) (o : Option StatusFlags) → Named (name.BinlogEvent ∷ name.Eof ∷ []) (event_step b o)
 named_event true o = refl
@@ -187,14 +139,11 @@ named_event false None = tt
 named_event false (Some status) = refl
 
 named_definitions_end : (b : After) (o : Option StatusFlags) → Named (name.Eof ∷ []) (definitions_end_step b o)
-named_definitions_end (after.Rows r) None = tt
-named_definitions_end (after.Columns n) None = tt
-named_definitions_end after.End None = tt
-named_definitions_end after.Rest None = tt
 named_definitions_end (after.Rows r) (Some status) = named_columns status r
 named_definitions_end (after.Columns n) (Some status) = refl
 named_definitions_end after.End (Some status) = refl
 named_definitions_end after.Rest (Some status) = refl
+named_definitions_end _ _ = tt
 
 named_line : (d : Bool) (r : Request) (l : Option Line) → Named (row_name r ∷ end_name d ∷ []) (line_step d r l)
 named_line d r None = tt
@@ -211,10 +160,8 @@ named_prepared d None = tt
 named_prepared d (Some s) = refl
 
 named_last_ok : (m : State) (xs : List PacketKindTag) (r : Option Reply) → Named (name.Ok ∷ xs) (last_ok m r)
-named_last_ok m xs (Some (reply.Ok more)) = named_cond (name.Ok ∷ xs) more _ _ tt refl
-named_last_ok m xs (Some reply.Infile) = tt
-named_last_ok m xs (Some (reply.Columns n follow)) = tt
-named_last_ok m xs None = tt
+named_last_ok m xs (Some (reply.Ok more)) = by_cond (Named (name.Ok ∷ xs)) more _ _ tt refl
+named_last_ok m xs _ = tt
 
 named_last_end : (d more : Bool) → Named (name.Ok ∷ end_name d ∷ []) (last_end d true more)
 named_last_end d false = end_named name.Ok d
@@ -223,16 +170,12 @@ named_last_end d true = tt
 named_acknowledgement : (a : Agreed) (may_end : Bool) (l : Option Line) (r : Option Reply) → Named (served_names a (state.Acknowledgement may_end)) (acknowledgement_step (deprecates_eof a) may_end l r)
 named_acknowledgement a true (Some (line.End more)) r = named_last_end (deprecates_eof a) more
 named_acknowledgement a false (Some (line.End true)) r = tt
-named_acknowledgement a false (Some (line.End false)) r = tt
 named_acknowledgement a true (Some line.Row) r = named_last_ok state.Rest (end_name (deprecates_eof a) ∷ []) r
 named_acknowledgement a false (Some line.Row) r = named_last_ok state.Rest [] r
-named_acknowledgement a true None r = tt
-named_acknowledgement a false None r = tt
+named_acknowledgement a _ _ r = tt
 
 named_serve : (a : Agreed) (s : State) (p : List ℕ) → Named (served_names a s) (serve a s p)
-named_serve a state.Rest p = tt
 named_serve a (state.Authentication login b) p = named_authentication a login p (ok_status a p)
-named_serve a (state.Infile r) p = tt
 named_serve a (state.Reply r) p = named_reply (deprecates_eof a) r (reply_of a p)
 named_serve a (state.InfileReply r) p = named_infile_reply r (reply_of a p)
 named_serve a (state.Definitions n b) p = refl
@@ -244,11 +187,9 @@ named_serve a (state.Acknowledgement may_end) p = named_acknowledgement a may_en
 named_serve a state.Text p = refl
 named_serve a state.Fields p = named_last (deprecates_eof a) name.FieldListColumn kind.FieldListColumn state.Fields (line_of a Text p) refl
 named_serve a state.Events p = named_event (first_is 0 p) (old_end_of a p)
-named_serve a state.SessionError p = tt
 named_serve a state.CloneReply p = named_last_ok state.Clone [] (reply_of a p)
 named_serve a state.Clone p = refl
-named_serve a state.Quit p = tt
-named_serve a state.Over p = tt
+named_serve a _ p = tt
 
 named_begun : (code : ℕ) (r : Option Answer) → Named (name.Command ∷ []) (begun code r)
 named_begun code None = tt
@@ -264,32 +205,14 @@ named_infile r (b ∷ p) = refl
 named_client : (s : State) (p : List ℕ) → Named (sent_names s) (client_step s p)
 named_client state.Rest p = named_command p
 named_client (state.Authentication login true) p = refl
-named_client (state.Authentication login false) p = tt
-named_client (state.Reply r) p = tt
 named_client (state.Infile r) p = named_infile r p
-named_client (state.InfileReply r) p = tt
-named_client (state.Definitions n b) p = tt
-named_client (state.DefinitionsEnd b) p = tt
-named_client (state.Rows r) p = tt
-named_client state.Prepared p = tt
-named_client state.Fetch p = tt
-named_client (state.Acknowledgement may_end) p = tt
-named_client state.Text p = tt
-named_client state.Fields p = tt
-named_client state.Events p = named_cond (name.SemiSyncAck ∷ []) (first_is 0xef p) _ _ refl tt
-named_client state.SessionError p = tt
-named_client state.CloneReply p = tt
+named_client state.Events p = by_cond (Named (name.SemiSyncAck ∷ [])) (first_is 0xef p) _ _ refl tt
 named_client state.Clone p = refl
-named_client state.Quit p = tt
-named_client state.Over p = tt
+named_client _ p = tt
 
 error_named : (s : State) (xs : List PacketKindTag) → Named (error_names s ++ xs) (error_step s)
-error_named state.Rest xs = refl
 error_named (state.Authentication true b) xs = refl
-error_named (state.Authentication false b) xs = refl
-error_named state.Quit xs = refl
 error_named state.Over xs = tt
-error_named state.Clone xs = refl
 error_named _ xs = refl
 
 failed_named : (r : Bool) (s : State) (xs : List PacketKindTag) → Named (error_names s ++ xs) (failed r s)
@@ -313,7 +236,7 @@ named_served : (a : Agreed) (s : State) (p : List ℕ) → Named (names a s Serv
 named_served a s p =
     let b = reports_progress a && reports s in
     let ys = reported b (served_names a s) in
-    named_cond (error_names s ++ ys) (first_is 0xff p) _ _ (failed_named (is_report a p) s ys)
+    by_cond (Named (error_names s ++ ys)) (first_is 0xff p) _ _ (failed_named (is_report a p) s ys)
     (named_after (error_names s) ys (serve a s p) (named_reported b (served_names a s) (serve a s p) (named_serve a s p)))
 
 named_take : (a : Agreed) (s : State) (side : Side) (p : List ℕ) (k : PacketKind) (m : State) → take_step a s side p ≡ Some (k, m) → Named (names a s side) (Some (k, m))

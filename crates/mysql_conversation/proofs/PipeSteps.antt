@@ -331,8 +331,6 @@ Taken w p k n v = Began w p k n v × (listens w.state ≡ false) × (is_shut w.s
 -- once the connection is over, the client sends no command
 pub shut_kind : (d : Agreed) (s : State) (p : List ℕ) (k : PacketKind) (m : State) → is_shut s ≡ true → take_step d s Client p ≡ Some (k, m) → commands k ≡ false
 shut_kind d state.Clone p k m h e = ap (λ (x : PacketKind × State). commands x.0) (some_is (sym e))
-shut_kind d state.Quit p k m h e = absurd cc
-shut_kind d state.Over p k m h e = absurd cc
 shut_kind d _ p k m h e = absurd cc
 
 command_back_at : (d : Agreed) (w : Standing) (p : List ℕ) (k : PacketKind) (n : ℕ) (v : Standing) → Turn w.state → commands k ≡ true → pipe_step d w Client p ≡ outcome k n v → Taken w p k n v

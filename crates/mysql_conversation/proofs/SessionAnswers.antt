@@ -24,13 +24,8 @@ use Rattle.mysql_conversation.specs.declared.session.Session.{Session}
 -- ---- an error changes nothing
 
 same_in : (ph : Phase) → IsSameIn ph ph
-same_in phase.Greeting = refl
-same_in phase.Refused = refl
-same_in phase.NoLogin = refl
-same_in (phase.Login server) = refl
-same_in (phase.Encrypted server) = refl
-same_in (phase.InTls server) = refl
 same_in (phase.Commands p) = (p, refl, (refl, refl, refl, refl))
+same_in _ = refl
 
 pub is_same : (s t : Session) → t ≡ s → IsSame s t
 is_same s t e = subst (λ t. IsSame s t) (sym e) (same_in s.phase)
@@ -83,13 +78,8 @@ limit_before : (s : Session) → is_commands s.phase ≡ false → limit s ≡ s
 limit_before s n = of_phase s.phase n
   where
     of_phase : (ph : Phase) → is_commands ph ≡ false → limit_in s.limit ph ≡ s.limit
-    of_phase phase.Greeting h = refl
-    of_phase phase.Refused h = refl
-    of_phase phase.NoLogin h = refl
-    of_phase (phase.Login server) h = refl
-    of_phase (phase.Encrypted server) h = refl
-    of_phase (phase.InTls server) h = refl
     of_phase (phase.Commands p) h = absurd cc
+    of_phase _ h = refl
 
 pub same_limit : {A E : Type 0} (s t : Session) (r : Result A E) → is_commands s.phase ≡ false → OnOk r (limit t ≡ s.limit) → OnErr r (t ≡ s) → limit t ≡ limit s
 same_limit s t (Ok x) n h g = h ∙ sym (limit_before s n)
@@ -160,25 +150,17 @@ answered_in_tls server next p k (inl (r, l, inr g)) = ap is_encrypted g.3.1
 answered_in_tls server next p k (inr g) = ap is_encrypted g.2
 
 sent_tls_at : (s t : Session) (ph next : Phase) (p : List ℕ) (k : PacketKind) (side : Side) → side ≡ Client → s.phase ≡ ph → SentBefore ph p k next → t.phase ≡ next → IsEncrypted t ↔ AsksForTls s side p
-sent_tls_at s t phase.Greeting next p k side c a h e = absurd h
-sent_tls_at s t phase.Refused next p k side c a h e = absurd h
 sent_tls_at s t (phase.Login server) next p k side c a h e = answered_plain s server next p k side c a h t e
-sent_tls_at s t (phase.Encrypted server) next p k side c a h e = absurd h
 sent_tls_at s t (phase.InTls server) next p k side c a h e = neither (not_encrypted t (ap is_encrypted e ∙ answered_in_tls server next p k h)) (no_tls s side p (ap is_plain a))
-sent_tls_at s t phase.NoLogin next p k side c a h e = absurd h
-sent_tls_at s t (phase.Commands q) next p k side c a h e = absurd h
+sent_tls_at s t _ next p k side c a h e = absurd h
 
 pub sent_tls : (s t : Session) (p : List ℕ) (k : PacketKind) (side : Side) → side ≡ Client → SentBefore s.phase p k t.phase → IsEncrypted t ↔ AsksForTls s side p
 sent_tls s t p k side c h = sent_tls_at s t s.phase t.phase p k side c refl h refl
 
 compressed_at : (s : Session) (ph : Phase) (p : List ℕ) (side : Side) → side ≡ Client → s.phase ≡ ph → CompressedAt ph p ↔ AgreesOnCompression s side p
-compressed_at s phase.Greeting p side c a = neither (λ h. h) (no_compression s side p (ap is_login a))
-compressed_at s phase.Refused p side c a = neither (λ h. h) (no_compression s side p (ap is_login a))
 compressed_at s (phase.Login server) p side c a = ((λ h. login_agrees s false server p side c a h), (λ h. agrees_by_login s false server p side a h))
-compressed_at s (phase.Encrypted server) p side c a = neither (λ h. h) (no_compression s side p (ap is_login a))
 compressed_at s (phase.InTls server) p side c a = ((λ h. login_agrees s true server p side c a h), (λ h. agrees_by_login s true server p side a h))
-compressed_at s phase.NoLogin p side c a = neither (λ h. h) (no_compression s side p (ap is_login a))
-compressed_at s (phase.Commands q) p side c a = neither (λ h. h) (no_compression s side p (ap is_login a))
+compressed_at s _ p side c a = neither (λ h. h) (no_compression s side p (ap is_login a))
 
 -- what the client sends agrees on compression
 pub sent_compressed : (s : Session) (p : List ℕ) (side : Side) → side ≡ Client → CompressedAt s.phase p ↔ AgreesOnCompression s side p

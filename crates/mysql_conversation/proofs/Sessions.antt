@@ -355,10 +355,7 @@ nothing_after items y more (inr (inr h)) s =
 
 clear_is_error : (p : List ℕ) → is_clear_error p ≡ true → first_is 0xff p ≡ true
 clear_is_error (b ∷ c ∷ d ∷ hash ∷ p) h = (and_parts (b == 0xff) (hash == 0x23) h).0
-clear_is_error (b ∷ c ∷ d ∷ []) h = absurd cc
-clear_is_error (b ∷ c ∷ []) h = absurd cc
-clear_is_error (b ∷ []) h = absurd cc
-clear_is_error [] h = absurd cc
+clear_is_error _ h = absurd cc
 
 by_error : (b : Bool) (j k : PacketKind) (next : Phase) → refused_by b j ≡ Some (k, next) → (b ≡ true) × (j ≡ k) × (phase.Refused ≡ next)
 by_error true j k next h = let e = some_is h in (refl, ap (λ (x : PacketKind × Phase). x.0) e, ap (λ (x : PacketKind × Phase). x.1) e)
@@ -456,13 +453,9 @@ answered_more server next p k n tls items z (inr g) f =
     subst (λ ph. TakenIn ph (items ++ y ∷ [])) (sym g.2) (server, tls, items, y, refl, f, ((refl, g.1, z), (λ r b. none_at tls p (login_at p) r (login_at_of r p b) g.0)))
 
 pub sent_more : (ph : Phase) (p : List ℕ) (k : PacketKind) (n : ℕ) (next : Phase) (items : List Numbered) → n ≡ 0 → SentBefore ph p k next → TakenIn ph items → TakenIn next (items ++ place Client p k n ∷ [])
-sent_more phase.Greeting p k n next items z h t = absurd h
-sent_more phase.Refused p k n next items z h t = absurd h
 sent_more (phase.Login server) p k n next items z h t = answered_more server next p k n false items z h t
-sent_more (phase.Encrypted server) p k n next items z h t = absurd h
 sent_more (phase.InTls server) p k n next items z h t = answered_more server next p k n true items z h t
-sent_more phase.NoLogin p k n next items z h t = absurd h
-sent_more (phase.Commands q) p k n next items z h t = absurd h
+sent_more _ p k n next items z h t = absurd h
 
 client_first : (p : List ℕ) (k : PacketKind) (n : ℕ) (more : List Numbered) → IsSession (place Client p k n ∷ more) → ⊥
 client_first p k n more s = elim (begins_with (place Client p k n) more s) [

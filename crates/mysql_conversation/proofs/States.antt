@@ -1,7 +1,7 @@
 -- Whose turn it is in each state, and what a packet's kind says about it.
 use Rattle.std.proofs.Common.{◌≡◌, ℕ, zero, suc, List, [], ◌∷◌, ◌⊎◌, inl, inr, Option, Some, None, refl, sym, ap, subst, ◌∙◌, Bool, true, false, cond}
 use Rattle.std.specs.Prelude.{◌&&◌, ◌||◌, not}
-use Rattle.std.proofs.lemmas.Bool.{and_parts, cases_Bool}
+use Rattle.std.proofs.lemmas.Bool.{and_parts, cases_Bool, cond_both}
 use Rattle.mysql_wire.specs.Flags.{StatusFlags}
 use Rattle.mysql_stmt.specs.Stmt.{num_columns, num_params}
 use Rattle.mysql_stmt.specs.StmtWithMetadata.{packet_of}
@@ -46,24 +46,11 @@ Turn s =
 pub turn : (s : State) → Turn s
 turn state.Rest = inl refl
 turn (state.Authentication login true) = inr (inl (refl, refl, refl))
-turn (state.Authentication login false) = inr (inr (inl (refl, refl, refl)))
-turn (state.Reply r) = inr (inr (inl (refl, refl, refl)))
 turn (state.Infile r) = inr (inl (refl, refl, refl))
-turn (state.InfileReply r) = inr (inr (inl (refl, refl, refl)))
-turn (state.Definitions n b) = inr (inr (inl (refl, refl, refl)))
-turn (state.DefinitionsEnd b) = inr (inr (inl (refl, refl, refl)))
-turn (state.Rows r) = inr (inr (inl (refl, refl, refl)))
-turn state.Prepared = inr (inr (inl (refl, refl, refl)))
-turn state.Fetch = inr (inr (inl (refl, refl, refl)))
-turn (state.Acknowledgement may_end) = inr (inr (inl (refl, refl, refl)))
-turn state.Text = inr (inr (inl (refl, refl, refl)))
-turn state.Fields = inr (inr (inl (refl, refl, refl)))
-turn state.Events = inr (inr (inl (refl, refl, refl)))
-turn state.SessionError = inr (inr (inl (refl, refl, refl)))
-turn state.CloneReply = inr (inr (inl (refl, refl, refl)))
 turn state.Clone = inr (inr (inr (refl, refl, refl, refl)))
 turn state.Quit = inr (inr (inr (refl, refl, refl, refl)))
 turn state.Over = inr (inr (inr (refl, refl, refl, refl)))
+turn _ = inr (inr (inl (refl, refl, refl)))
 
 -- an exchange runs, or none does
 pub which_rests : (s : State) → (rests s ≡ true) ⊎ (rests s ≡ false)
@@ -154,9 +141,11 @@ abbrev Fits : Option (PacketKind × State) → Type 0
 Fits None = Unit {0}
 Fits (Some x) = Listening x.0 x.1 × (inside x.0 ≡ true)
 
-fits_cond : (b : Bool) (x y : Option (PacketKind × State)) → Fits x → Fits y → Fits (cond b x y)
-fits_cond true x y f g = f
-fits_cond false x y f g = g
+-- what holds of either branch
+module _ {A : Type 0} (P : A → Type 0) where
+  pub by_cond : (b : Bool) (x y : A) → P x → P y → P (cond b x y)
+  by_cond true x y f g = f
+  by_cond false x y f g = g
 
 ended_listens : (r : Request) (more : Bool) → stance (ended r more) ≡ quiet
 ended_listens r true = refl
@@ -165,9 +154,7 @@ ended_listens r false = refl
 enter_listens : (b : After) → stance (enter b) ≡ quiet
 enter_listens (after.Rows r) = refl
 enter_listens (after.Columns zero) = refl
-enter_listens (after.Columns (suc n)) = refl
-enter_listens after.End = refl
-enter_listens after.Rest = refl
+enter_listens _ = refl
 
 defined_listens : (d : Bool) (b : After) → stance (defined d b) ≡ quiet
 defined_listens true b = enter_listens b
@@ -185,20 +172,6 @@ counted_listens : (d : Bool) (n : ℕ) (follow : Bool) (b : After) → stance (c
 counted_listens d n true b = define_listens n b
 counted_listens d n false b = defined_listens d b
 
-pub answers_listens : (r : Answer) → is_quit r ≡ false → stance (answers r) ≡ quiet
-answers_listens (answer.Results r) h = refl
-answers_listens answer.Prepared h = refl
-answers_listens answer.Rows h = refl
-answers_listens (answer.Acknowledgement may_end) h = refl
-answers_listens answer.Text h = refl
-answers_listens answer.Fields h = refl
-answers_listens answer.Authentication h = refl
-answers_listens answer.Events h = refl
-answers_listens answer.Nothing h = refl
-answers_listens answer.Quit h = absurd cc
-answers_listens answer.Clone h = refl
-answers_listens answer.SessionError h = refl
-
 -- a command that may end the connection
 abbrev pub may_shut : Answer → Bool
 may_shut answer.Quit = true
@@ -208,28 +181,11 @@ may_shut _ = false
 -- no command comes after COM_QUIT
 pub answers_shut : (r : Answer) → is_shut (answers r) ≡ is_quit r
 answers_shut (answer.Results r) = refl
-answers_shut answer.Prepared = refl
-answers_shut answer.Rows = refl
-answers_shut (answer.Acknowledgement may_end) = refl
-answers_shut answer.Text = refl
-answers_shut answer.Fields = refl
-answers_shut answer.Authentication = refl
-answers_shut answer.Events = refl
-answers_shut answer.Nothing = refl
-answers_shut answer.Quit = refl
-answers_shut answer.Clone = refl
-answers_shut answer.SessionError = refl
+answers_shut _ = refl
 
 pub answers_quiet : (r : Answer) → listens (answers r) ≡ false
 answers_quiet answer.Quit = refl
-answers_quiet r = elim (cases_Bool (is_quit r)) [
-  | inl q ↦ quit_quiet r q
-  | inr n ↦ stance_listens (answers r) false (answers_listens r n)
-]
-  where
-    quit_quiet : (r : Answer) → is_quit r ≡ true → listens (answers r) ≡ false
-    quit_quiet answer.Quit h = refl
-    quit_quiet _ h = absurd cc
+answers_quiet _ = refl
 
 ending_asks : (d : Bool) → asks (ending d) ≡ false
 ending_asks true = refl
@@ -242,45 +198,45 @@ ending_inside false = refl
 fits_end : (d : Bool) (m : State) → stance m ≡ quiet → Fits (Some (ending d, m))
 fits_end d m h = (h ∙ asking false (asks (ending d)) (sym (ending_asks d)), ending_inside d)
 
-module _ (P : PacketKind → Type 0) where
-  pub by_cond : (b : Bool) (x y : PacketKind) → P x → P y → P (cond b x y)
-  by_cond true x y f g = f
-  by_cond false x y f g = g
+-- what a server sends during authentication, with or without next factors
+abbrev pub kind_by : Bool → List ℕ → PacketKind
+kind_by factors p =
+    cond (first_is 0xfe p) (cond (is_one_byte p) kind.OldAuthSwitch kind.AuthSwitch)
+    (cond (first_is 1 p) kind.AuthMoreData (cond (first_is 2 p && factors) kind.AuthNextFactor kind.AuthPluginData))
+
+pub by_kind : (P : PacketKind → Type 0) (factors : Bool) (p : List ℕ) → P kind.OldAuthSwitch → P kind.AuthSwitch → P kind.AuthMoreData → (factors ≡ true → P kind.AuthNextFactor) → P kind.AuthPluginData
+    → P (kind_by factors p)
+by_kind P factors p old switch more factor plugin =
+    by_cond P (first_is 0xfe p) _ _ (by_cond P (is_one_byte p) _ _ old switch)
+    (by_cond P (first_is 1 p) _ _ more (cond_both (first_is 2 p && factors) _ _ P (λ e. factor (and_parts (first_is 2 p) factors e).1) (λ e. plugin)))
 
 kind_asks : (a : Agreed) (p : List ℕ) → asks (authentication_kind a p) ≡ true
-kind_asks a p = by_cond (λ k. asks k ≡ true) (first_is 0xfe p) _ _ (by_cond (λ k. asks k ≡ true) (is_one_byte p) _ _ refl refl)
-    (by_cond (λ k. asks k ≡ true) (first_is 1 p) _ _ refl (by_cond (λ k. asks k ≡ true) (first_is 2 p && asks_factors a) _ _ refl refl))
+kind_asks a p = by_kind (λ k. asks k ≡ true) (asks_factors a) p refl refl refl (λ e. refl) refl
 
 kind_inside : (a : Agreed) (p : List ℕ) → inside (authentication_kind a p) ≡ true
-kind_inside a p = by_cond (λ k. inside k ≡ true) (first_is 0xfe p) _ _ (by_cond (λ k. inside k ≡ true) (is_one_byte p) _ _ refl refl)
-    (by_cond (λ k. inside k ≡ true) (first_is 1 p) _ _ refl (by_cond (λ k. inside k ≡ true) (first_is 2 p && asks_factors a) _ _ refl refl))
+kind_inside a p = by_kind (λ k. inside k ≡ true) (asks_factors a) p refl refl refl (λ e. refl) refl
 
 fits_status : (status : Option StatusFlags) → Fits (logged_in status)
 fits_status None = tt
-fits_status (Some status) = fits_cond (has_more status) _ _ tt (refl, refl)
+fits_status (Some status) = by_cond Fits (has_more status) _ _ tt (refl, refl)
 
 fits_authentication : (a : Agreed) (p : List ℕ) (status : Option StatusFlags) → Fits (authentication_step a false p status)
-fits_authentication a p status = fits_cond (first_is 0 p) _ _ (fits_status status) (asking true (asks (authentication_kind a p)) (sym (kind_asks a p)), kind_inside a p)
+fits_authentication a p status = by_cond Fits (first_is 0 p) _ _ (fits_status status) (asking true (asks (authentication_kind a p)) (sym (kind_asks a p)), kind_inside a p)
 
 -- the same for a login
 abbrev FitsLogin : Option (PacketKind × State) → Type 0
 FitsLogin None = Unit {0}
 FitsLogin (Some x) = (listens x.1 ≡ asks x.0) × (inside x.0 ≡ true) × (is_shut x.1 ≡ false) × (is_in (name_of x.0) (name.Error ∷ []) ≡ false)
 
-login_cond : (b : Bool) (x y : Option (PacketKind × State)) → FitsLogin x → FitsLogin y → FitsLogin (cond b x y)
-login_cond true x y f g = f
-login_cond false x y f g = g
-
 login_status : (status : Option StatusFlags) → FitsLogin (logged_in status)
 login_status None = tt
-login_status (Some status) = login_cond (has_more status) _ _ tt (refl, refl, refl, refl)
+login_status (Some status) = by_cond FitsLogin (has_more status) _ _ tt (refl, refl, refl, refl)
 
 kind_no_error : (a : Agreed) (p : List ℕ) → is_in (name_of (authentication_kind a p)) (name.Error ∷ []) ≡ false
-kind_no_error a p = by_cond (λ k. is_in (name_of k) (name.Error ∷ []) ≡ false) (first_is 0xfe p) _ _ (by_cond (λ k. is_in (name_of k) (name.Error ∷ []) ≡ false) (is_one_byte p) _ _ refl refl)
-    (by_cond (λ k. is_in (name_of k) (name.Error ∷ []) ≡ false) (first_is 1 p) _ _ refl (by_cond (λ k. is_in (name_of k) (name.Error ∷ []) ≡ false) (first_is 2 p && asks_factors a) _ _ refl refl))
+kind_no_error a p = by_kind (λ k. is_in (name_of k) (name.Error ∷ []) ≡ false) (asks_factors a) p refl refl refl (λ e. refl) refl
 
 fits_login : (a : Agreed) (p : List ℕ) (status : Option StatusFlags) → FitsLogin (authentication_step a true p status)
-fits_login a p status = login_cond (first_is 0 p) _ _ (login_status status) (sym (kind_asks a p), kind_inside a p, refl, kind_no_error a p)
+fits_login a p status = by_cond FitsLogin (first_is 0 p) _ _ (login_status status) (sym (kind_asks a p), kind_inside a p, refl, kind_no_error a p)
 
 fits_reply : (d : Bool) (r : Request) (x : Option Reply) → Fits (reply_step d r x)
 fits_reply d r None = tt
@@ -289,25 +245,20 @@ fits_reply d r (Some reply.Infile) = (refl, refl)
 fits_reply d r (Some (reply.Columns n follow)) = (counted_listens d n follow (after.Rows r), refl)
 
 fits_infile_reply : (r : Request) (x : Option Reply) → Fits (infile_reply_step r x)
-fits_infile_reply r None = tt
 fits_infile_reply r (Some (reply.Ok more)) = (ended_listens r more, refl)
-fits_infile_reply r (Some reply.Infile) = tt
-fits_infile_reply r (Some (reply.Columns n follow)) = tt
+fits_infile_reply r _ = tt
 
 fits_columns : (status : StatusFlags) (r : Request) → Fits (columns_step status r)
 fits_columns status Query = (refl, refl)
 fits_columns status Execution = (refl, refl)
-fits_columns status Cursor = fits_cond (opens_cursor status) _ _ (ended_listens Cursor (has_more status), refl) (refl, refl)
+fits_columns status Cursor = by_cond Fits (opens_cursor status) _ _ (ended_listens Cursor (has_more status), refl) (refl, refl)
 
 fits_definitions_end : (b : After) (o : Option StatusFlags) → Fits (definitions_end_step b o)
-fits_definitions_end (after.Rows r) None = tt
-fits_definitions_end (after.Columns n) None = tt
-fits_definitions_end after.End None = tt
-fits_definitions_end after.Rest None = tt
 fits_definitions_end (after.Rows r) (Some status) = fits_columns status r
 fits_definitions_end (after.Columns n) (Some status) = (enter_listens (after.Columns n), refl)
 fits_definitions_end after.End (Some status) = (refl, refl)
 fits_definitions_end after.Rest (Some status) = (refl, refl)
+fits_definitions_end _ _ = tt
 
 fits_event : (b : Bool) (o : Option StatusFlags) → Fits (event_step b o)
 fits_event true o = (refl, refl)
@@ -344,13 +295,11 @@ fits_prepared d (Some s) = (prepared_listens d (definitions_follow s) (num_colum
 
 -- only after the OK packet that answers COM_CLONE, no more commands come
 fits_last_ok : (r : Option Reply) → Fits (last_ok state.Rest r)
-fits_last_ok (Some (reply.Ok more)) = fits_cond more _ _ tt (refl, refl)
-fits_last_ok (Some reply.Infile) = tt
-fits_last_ok (Some (reply.Columns n follow)) = tt
-fits_last_ok None = tt
+fits_last_ok (Some (reply.Ok more)) = by_cond Fits more _ _ tt (refl, refl)
+fits_last_ok _ = tt
 
 fits_last_end : (d may_end more : Bool) → Fits (last_end d may_end more)
-fits_last_end d may_end more = fits_cond (more || not may_end) _ _ tt (fits_end d state.Rest refl)
+fits_last_end d may_end more = by_cond Fits (more || not may_end) _ _ tt (fits_end d state.Rest refl)
 
 fits_acknowledgement : (d may_end : Bool) (l : Option Line) (r : Option Reply) → Fits (acknowledgement_step d may_end l r)
 fits_acknowledgement d may_end (Some (line.End more)) r = fits_last_end d may_end more
@@ -364,8 +313,6 @@ is_plain state.CloneReply = false
 is_plain s = not (rests s)
 
 fits_serve : (a : Agreed) (s : State) (p : List ℕ) → is_plain s ≡ true → Fits (serve a s p)
-fits_serve a state.Rest p h = absurd cc
-fits_serve a (state.Authentication true b) p h = absurd cc
 fits_serve a (state.Authentication false b) p h = fits_authentication a p (ok_status a p)
 fits_serve a (state.Infile r) p h = tt
 fits_serve a (state.Reply r) p h = fits_reply (deprecates_eof a) r (reply_of a p)
@@ -380,10 +327,7 @@ fits_serve a state.Text p h = (refl, refl)
 fits_serve a state.Fields p h = fits_last (deprecates_eof a) kind.FieldListColumn state.Fields (line_of a Text p) refl refl
 fits_serve a state.Events p h = fits_event (first_is 0 p) (old_end_of a p)
 fits_serve a state.SessionError p h = tt
-fits_serve a state.CloneReply p h = absurd cc
-fits_serve a state.Clone p h = absurd cc
-fits_serve a state.Quit p h = absurd cc
-fits_serve a state.Over p h = absurd cc
+fits_serve a _ p h = absurd cc
 
 fits_infile : (r : Request) (p : List ℕ) → Fits (infile_step r p)
 fits_infile r [] = (refl, refl)
@@ -399,22 +343,12 @@ fits_client state.Rest p h = absurd cc
 fits_client (state.Authentication true b) p h = absurd cc
 fits_client (state.Authentication false b) p h = fits_answer b
 fits_client (state.Infile r) p h = fits_infile r p
-fits_client (state.Reply r) p h = tt
-fits_client (state.InfileReply r) p h = tt
-fits_client (state.Definitions n b) p h = tt
-fits_client (state.DefinitionsEnd b) p h = tt
-fits_client (state.Rows r) p h = tt
-fits_client state.Prepared p h = tt
-fits_client state.Fetch p h = tt
-fits_client (state.Acknowledgement may_end) p h = tt
-fits_client state.Text p h = tt
-fits_client state.Fields p h = tt
-fits_client state.Events p h = fits_cond (first_is 0xef p) _ _ (refl, refl) tt
-fits_client state.SessionError p h = tt
+fits_client state.Events p h = by_cond Fits (first_is 0xef p) _ _ (refl, refl) tt
 fits_client state.CloneReply p h = absurd cc
 fits_client state.Clone p h = absurd cc
 fits_client state.Quit p h = absurd cc
 fits_client state.Over p h = absurd cc
+fits_client _ p h = tt
 
 fitting : (o : Option (PacketKind × State)) (k : PacketKind) (m : State) → Fits o → o ≡ Some (k, m) → Fits (Some (k, m))
 fitting o k m f e = subst (λ o. Fits o) e f
@@ -433,20 +367,7 @@ plain_shuts state.CloneReply h = absurd cc
 plain_shuts state.Clone h = absurd cc
 plain_shuts state.Quit h = absurd cc
 plain_shuts state.Over h = absurd cc
-plain_shuts (state.Authentication false b) h = (refl, refl)
-plain_shuts (state.Infile r) h = (refl, refl)
-plain_shuts (state.Reply r) h = (refl, refl)
-plain_shuts (state.InfileReply r) h = (refl, refl)
-plain_shuts (state.Definitions n b) h = (refl, refl)
-plain_shuts (state.DefinitionsEnd b) h = (refl, refl)
-plain_shuts (state.Rows r) h = (refl, refl)
-plain_shuts state.Prepared h = (refl, refl)
-plain_shuts state.Fetch h = (refl, refl)
-plain_shuts (state.Acknowledgement may_end) h = (refl, refl)
-plain_shuts state.Text h = (refl, refl)
-plain_shuts state.Fields h = (refl, refl)
-plain_shuts state.Events h = (refl, refl)
-plain_shuts state.SessionError h = (refl, refl)
+plain_shuts _ h = (refl, refl)
 
 plain_says : (s : State) (k : PacketKind) (m : State) → is_plain s ≡ true → Fits (Some (k, m)) → Says s k m
 plain_says s k m h f =
@@ -460,69 +381,22 @@ of_one : (s : State) (j k : PacketKind) (n m : State) → ◌≡◌ {A = Option 
 of_one s j k n m e = subst (λ (x : PacketKind × State). Says s x.0 x.1) (some_is e)
 
 clone_ok_says : (r : Option Reply) (k : PacketKind) (m : State) → last_ok state.Clone r ≡ Some (k, m) → Says state.CloneReply k m
-clone_ok_says (Some (reply.Ok true)) k m h = absurd cc
 clone_ok_says (Some (reply.Ok false)) k m h = of_one state.CloneReply kind.Ok k state.Clone m h (refl, refl, refl)
-clone_ok_says (Some reply.Infile) k m h = absurd cc
-clone_ok_says (Some (reply.Columns n follow)) k m h = absurd cc
-clone_ok_says None k m h = absurd cc
+clone_ok_says _ k m h = absurd cc
 
--- which states are special, and which are plain
-abbrev pub Special : State → Type 0
-Special s = (s ≡ state.Rest) ⊎ (((b : Bool) × (s ≡ state.Authentication true b)) ⊎ ((s ≡ state.CloneReply) ⊎ ((s ≡ state.Clone) ⊎ ((s ≡ state.Over) ⊎ ((s ≡ state.Quit) ⊎ (is_plain s ≡ true))))))
+served_says : (a : Agreed) (s : State) (p : List ℕ) (k : PacketKind) (m : State) → serve a s p ≡ Some (k, m) → Says s k m
+served_says a state.Rest p k m h = absurd cc
+served_says a (state.Authentication true b) p k m h = login_says b _ k m (fits_login a p (ok_status a p)) h
+served_says a state.CloneReply p k m h = clone_ok_says (reply_of a p) k m h
+served_says a state.Clone p k m h = of_one state.Clone kind.Clone k state.Clone m h (refl, refl, refl)
+served_says a state.Over p k m h = absurd cc
+served_says a state.Quit p k m h = absurd cc
+served_says a s p k m h = plain_says s k m refl (fitting (serve a s p) k m (fits_serve a s p refl) h)
 
-pub special : (s : State) → Special s
-special state.Rest = inl refl
-special (state.Authentication true b) = inr (inl (b, refl))
-special state.CloneReply = inr (inr (inl refl))
-special state.Clone = inr (inr (inr (inl refl)))
-special state.Over = inr (inr (inr (inr (inl refl))))
-special state.Quit = inr (inr (inr (inr (inr (inl refl)))))
-special (state.Authentication false b) = inr (inr (inr (inr (inr (inr refl)))))
-special (state.Infile r) = inr (inr (inr (inr (inr (inr refl)))))
-special (state.Reply r) = inr (inr (inr (inr (inr (inr refl)))))
-special (state.InfileReply r) = inr (inr (inr (inr (inr (inr refl)))))
-special (state.Definitions n b) = inr (inr (inr (inr (inr (inr refl)))))
-special (state.DefinitionsEnd b) = inr (inr (inr (inr (inr (inr refl)))))
-special (state.Rows r) = inr (inr (inr (inr (inr (inr refl)))))
-special state.Prepared = inr (inr (inr (inr (inr (inr refl)))))
-special state.Fetch = inr (inr (inr (inr (inr (inr refl)))))
-special (state.Acknowledgement may_end) = inr (inr (inr (inr (inr (inr refl)))))
-special state.Text = inr (inr (inr (inr (inr (inr refl)))))
-special state.Fields = inr (inr (inr (inr (inr (inr refl)))))
-special state.Events = inr (inr (inr (inr (inr (inr refl)))))
-special state.SessionError = inr (inr (inr (inr (inr (inr refl)))))
-
-served_says : (a : Agreed) (s : State) (p : List ℕ) (k : PacketKind) (m : State) → Special s → serve a s p ≡ Some (k, m) → Says s k m
-served_says a s p k m (inl e) h = let no : serve a state.Rest p ≡ Some (k, m) = subst (λ s. serve a s p ≡ Some (k, m)) e h in absurd cc
-served_says a s p k m (inr (inl e)) h =
-    subst (λ s. Says s k m) (sym e.1) (login_says e.0 _ k m (fits_login a p (ok_status a p)) (subst (λ s. serve a s p ≡ Some (k, m)) e.1 h))
-served_says a s p k m (inr (inr (inl e))) h = subst (λ s. Says s k m) (sym e) (clone_ok_says (reply_of a p) k m (subst (λ s. serve a s p ≡ Some (k, m)) e h))
-served_says a s p k m (inr (inr (inr (inl e)))) h =
-    subst (λ s. Says s k m) (sym e) (of_one state.Clone kind.Clone k state.Clone m (subst (λ s. serve a s p ≡ Some (k, m)) e h) (refl, refl, refl))
-served_says a s p k m (inr (inr (inr (inr (inl e))))) h = let no : serve a state.Over p ≡ Some (k, m) = subst (λ s. serve a s p ≡ Some (k, m)) e h in absurd cc
-served_says a s p k m (inr (inr (inr (inr (inr (inl e)))))) h = let no : serve a state.Quit p ≡ Some (k, m) = subst (λ s. serve a s p ≡ Some (k, m)) e h in absurd cc
-served_says a s p k m (inr (inr (inr (inr (inr (inr e)))))) h = plain_says s k m e (fitting (serve a s p) k m (fits_serve a s p e) h)
-
--- an error ends a running exchange other than a login and COM_CLONE
-pub plain_error : (s : State) → is_plain s ≡ true → error_step s ≡ Some (kind.Error, state.Rest)
-plain_error state.Rest h = absurd cc
-plain_error (state.Authentication true b) h = absurd cc
-plain_error state.CloneReply h = absurd cc
-plain_error state.Clone h = absurd cc
-plain_error state.Quit h = absurd cc
-plain_error state.Over h = absurd cc
-plain_error (state.Authentication false b) h = refl
-plain_error _ h = refl
-
-error_says : (s : State) (k : PacketKind) (m : State) → Special s → error_step s ≡ Some (k, m) → Says s k m
-error_says s k m (inl e) h = subst (λ s. Says s k m) (sym e) (of_one state.Rest kind.UnsolicitedError k state.Over m (subst (λ s. error_step s ≡ Some (k, m)) e h) (refl, refl, refl))
-error_says s k m (inr (inl e)) h =
-    subst (λ s. Says s k m) (sym e.1) (of_one (state.Authentication true e.0) kind.Error k state.Over m (subst (λ s. error_step s ≡ Some (k, m)) e.1 h) (refl, refl, refl))
-error_says s k m (inr (inr (inl e))) h = subst (λ s. Says s k m) (sym e) (of_one state.CloneReply kind.Error k state.Rest m (subst (λ s. error_step s ≡ Some (k, m)) e h) (refl, refl, refl))
-error_says s k m (inr (inr (inr (inl e)))) h = subst (λ s. Says s k m) (sym e) (of_one state.Clone kind.Clone k state.Clone m (subst (λ s. error_step s ≡ Some (k, m)) e h) (refl, refl, refl))
-error_says s k m (inr (inr (inr (inr (inl e))))) h = let no : error_step state.Over ≡ Some (k, m) = subst (λ s. error_step s ≡ Some (k, m)) e h in absurd cc
-error_says s k m (inr (inr (inr (inr (inr (inl e)))))) h = subst (λ s. Says s k m) (sym e) (of_one state.Quit kind.UnsolicitedError k state.Over m (subst (λ s. error_step s ≡ Some (k, m)) e h) (refl, refl, refl))
-error_says s k m (inr (inr (inr (inr (inr (inr e)))))) h = plain_says s k m e (fitting (error_step s) k m (subst (λ o. Fits o) (sym (plain_error s e)) (refl, refl)) h)
+error_says : (s : State) (k : PacketKind) (m : State) → error_step s ≡ Some (k, m) → Says s k m
+error_says (state.Authentication true b) k m h = of_one (state.Authentication true b) kind.Error k state.Over m h (refl, refl, refl)
+error_says state.Over k m h = absurd cc
+error_says s k m h = of_one s _ k _ m h (refl, refl, refl)
 
 pub failed_clone : (r : Bool) → failed r state.Clone ≡ Some (kind.Clone, state.Clone)
 failed_clone true = refl
@@ -540,14 +414,14 @@ failed_no_report _ = refl
 
 failed_says : (r : Bool) (s : State) (k : PacketKind) (m : State) → failed r s ≡ Some (k, m) → Says s k m
 failed_says r s k m h = elim (failed_is r s k m h) [
-  | inl e ↦ error_says s k m (special s) e.1
+  | inl e ↦ error_says s k m e.1
   | inr e ↦ subst (λ s. Says s k m) (sym e.0) (subst (λ k. Says state.Clone k m) e.1 (subst (λ m. Says state.Clone kind.Clone m) e.2 (refl, refl, refl)))
 ]
 
 step_says : (a : Agreed) (s : State) (p : List ℕ) (k : PacketKind) (m : State) → step a s Server p ≡ Some (k, m) → Says s k m
 step_says a s p k m h = elim (chosen (first_is 0xff p) _ _ _ h) [
   | inl e ↦ failed_says (is_report a p) s k m e.1
-  | inr e ↦ served_says a s p k m (special s) e.1
+  | inr e ↦ served_says a s p k m e.1
 ]
 
 due_shuts : (s : State) → is_due s ≡ true → (is_shut s ≡ false) × (is_in name.ProgressReport (shutting_names s) ≡ false)
@@ -556,7 +430,6 @@ due_shuts state.Clone h = absurd cc
 due_shuts state.Quit h = absurd cc
 due_shuts state.Over h = absurd cc
 due_shuts (state.Authentication true b) h = (refl, refl)
-due_shuts (state.Authentication false b) h = (refl, refl)
 due_shuts _ h = (refl, refl)
 
 take_says : (a : Agreed) (s : State) (p : List ℕ) (k : PacketKind) (m : State) → take_step a s Server p ≡ Some (k, m) → Says s k m
@@ -581,47 +454,33 @@ login_client : (b : Bool) (k : PacketKind) (m : State) → answer_step true b �
 login_client true k m h = subst (λ (x : PacketKind × State). (listens x.1 ≡ asks x.0) × (inside x.0 ≡ true)) (some_is h) (refl, refl)
 login_client false k m h = absurd cc
 
-client_listens : (s : State) (p : List ℕ) (k : PacketKind) (m : State) → Special s → client_step s p ≡ Some (k, m) → (listens m ≡ asks k) × (inside k ≡ not (rests s))
-client_listens s p k m (inl e) h =
-    let c = begun_listens (code_of p) (answering (code_of p) (asks_cursor p)) k m (subst (λ s. client_step s p ≡ Some (k, m)) e h) in
-    (c.0, c.1 ∙ ap not (sym (ap rests e)))
-client_listens s p k m (inr (inl e)) h =
-    let c = login_client e.0 k m (subst (λ s. client_step s p ≡ Some (k, m)) e.1 h) in
-    (c.0, c.1 ∙ ap not (sym (ap rests e.1)))
-client_listens s p k m (inr (inr (inl e))) h = let no : client_step state.CloneReply p ≡ Some (k, m) = subst (λ s. client_step s p ≡ Some (k, m)) e h in absurd cc
-client_listens s p k m (inr (inr (inr (inl e)))) h =
-    let c : client_step state.Clone p ≡ Some (k, m) = subst (λ s. client_step s p ≡ Some (k, m)) e h in
-    let f = subst (λ (x : PacketKind × State). (listens x.1 ≡ asks x.0) × (inside x.0 ≡ false)) (some_is c) (refl, refl) in
-    (f.0, f.1 ∙ ap not (sym (ap rests e)))
-client_listens s p k m (inr (inr (inr (inr (inl e))))) h = let no : client_step state.Over p ≡ Some (k, m) = subst (λ s. client_step s p ≡ Some (k, m)) e h in absurd cc
-client_listens s p k m (inr (inr (inr (inr (inr (inl e)))))) h = let no : client_step state.Quit p ≡ Some (k, m) = subst (λ s. client_step s p ≡ Some (k, m)) e h in absurd cc
-client_listens s p k m (inr (inr (inr (inr (inr (inr e)))))) h =
-    let f = fitting (client_step s p) k m (fits_client s p e) h in
-    (stance_listens m (asks k) f.0, f.1 ∙ ap not (sym (plain_shuts s e).0))
+client_listens : (s : State) (p : List ℕ) (k : PacketKind) (m : State) → client_step s p ≡ Some (k, m) → (listens m ≡ asks k) × (inside k ≡ not (rests s))
+client_listens state.Rest p k m h = begun_listens (code_of p) (answering (code_of p) (asks_cursor p)) k m h
+client_listens (state.Authentication true b) p k m h = login_client b k m h
+client_listens state.CloneReply p k m h = absurd cc
+client_listens state.Clone p k m h = subst (λ (x : PacketKind × State). (listens x.1 ≡ asks x.0) × (inside x.0 ≡ false)) (some_is h) (refl, refl)
+client_listens state.Over p k m h = absurd cc
+client_listens state.Quit p k m h = absurd cc
+client_listens s p k m h =
+    let f = fitting (client_step s p) k m (fits_client s p refl) h in
+    (stance_listens m (asks k) f.0, f.1)
 
 -- ---- of both
 
 -- a packet's kind says whether the client is asked after it, and a packet is inside an exchange exactly if one is running
 pub step_listens : (a : Agreed) (s : State) (side : Side) (p : List ℕ) (k : PacketKind) (m : State) → step a s side p ≡ Some (k, m) → (listens m ≡ asks k) × (inside k ≡ not (rests s))
-step_listens a s Client p k m h = client_listens s p k m (special s) h
+step_listens a s Client p k m h = client_listens s p k m h
 step_listens a s Server p k m h = let f = step_says a s p k m h in (f.0, f.1)
 
 pub take_listens : (a : Agreed) (s : State) (side : Side) (p : List ℕ) (k : PacketKind) (m : State) → take_step a s side p ≡ Some (k, m) → (listens m ≡ asks k) × (inside k ≡ not (rests s))
-take_listens a s Client p k m h = client_listens s p k m (special s) h
+take_listens a s Client p k m h = client_listens s p k m h
 take_listens a s Server p k m h = let f = take_says a s p k m h in (f.0, f.1)
 
 -- ---- no login begins in an exchange
 
 answers_login : (r : Answer) → is_login (answers r) ≡ false
 answers_login answer.Quit = refl
-answers_login r = elim (cases_Bool (is_quit r)) [
-  | inl q ↦ quit_login r q
-  | inr n ↦ stance_login (answers r) false (answers_listens r n)
-]
-  where
-    quit_login : (r : Answer) → is_quit r ≡ true → is_login (answers r) ≡ false
-    quit_login answer.Quit h = refl
-    quit_login _ h = absurd cc
+answers_login _ = refl
 
 abbrev NoLogin : Option (PacketKind × State) → Type 0
 NoLogin None = Unit {0}
@@ -640,36 +499,29 @@ begun_no_login code (Some r) = answers_login r
 
 clone_no_login : (r : Option Reply) → NoLogin (last_ok state.Clone r)
 clone_no_login (Some (reply.Ok false)) = refl
-clone_no_login (Some (reply.Ok true)) = tt
-clone_no_login (Some reply.Infile) = tt
-clone_no_login (Some (reply.Columns n follow)) = tt
-clone_no_login None = tt
+clone_no_login _ = tt
 
-client_no_login : (s : State) (p : List ℕ) → Special s → is_login s ≡ false → NoLogin (client_step s p)
-client_no_login s p (inl e) l = subst (λ s. NoLogin (client_step s p)) (sym e) (begun_no_login (code_of p) (answering (code_of p) (asks_cursor p)))
-client_no_login s p (inr (inl e)) l = let no : is_login s ≡ true = ap is_login e.1 in absurd cc
-client_no_login s p (inr (inr (inl e))) l = subst (λ s. NoLogin (client_step s p)) (sym e) tt
-client_no_login s p (inr (inr (inr (inl e)))) l = subst (λ s. NoLogin (client_step s p)) (sym e) refl
-client_no_login s p (inr (inr (inr (inr (inl e))))) l = subst (λ s. NoLogin (client_step s p)) (sym e) tt
-client_no_login s p (inr (inr (inr (inr (inr (inl e)))))) l = subst (λ s. NoLogin (client_step s p)) (sym e) tt
-client_no_login s p (inr (inr (inr (inr (inr (inr e)))))) l = fits_no_login (client_step s p) (fits_client s p e)
+client_no_login : (s : State) (p : List ℕ) → is_login s ≡ false → NoLogin (client_step s p)
+client_no_login state.Rest p l = begun_no_login (code_of p) (answering (code_of p) (asks_cursor p))
+client_no_login (state.Authentication true b) p l = absurd cc
+client_no_login state.CloneReply p l = tt
+client_no_login state.Clone p l = refl
+client_no_login state.Over p l = tt
+client_no_login state.Quit p l = tt
+client_no_login s p l = fits_no_login (client_step s p) (fits_client s p refl)
 
-serve_no_login : (a : Agreed) (s : State) (p : List ℕ) → Special s → is_login s ≡ false → NoLogin (serve a s p)
-serve_no_login a s p (inl e) l = subst (λ s. NoLogin (serve a s p)) (sym e) tt
-serve_no_login a s p (inr (inl e)) l = let no : is_login s ≡ true = ap is_login e.1 in absurd cc
-serve_no_login a s p (inr (inr (inl e))) l = subst (λ s. NoLogin (serve a s p)) (sym e) (clone_no_login (reply_of a p))
-serve_no_login a s p (inr (inr (inr (inl e)))) l = subst (λ s. NoLogin (serve a s p)) (sym e) refl
-serve_no_login a s p (inr (inr (inr (inr (inl e))))) l = subst (λ s. NoLogin (serve a s p)) (sym e) tt
-serve_no_login a s p (inr (inr (inr (inr (inr (inl e)))))) l = subst (λ s. NoLogin (serve a s p)) (sym e) tt
-serve_no_login a s p (inr (inr (inr (inr (inr (inr e)))))) l = fits_no_login (serve a s p) (fits_serve a s p e)
+serve_no_login : (a : Agreed) (s : State) (p : List ℕ) → is_login s ≡ false → NoLogin (serve a s p)
+serve_no_login a state.Rest p l = tt
+serve_no_login a (state.Authentication true b) p l = absurd cc
+serve_no_login a state.CloneReply p l = clone_no_login (reply_of a p)
+serve_no_login a state.Clone p l = refl
+serve_no_login a state.Over p l = tt
+serve_no_login a state.Quit p l = tt
+serve_no_login a s p l = fits_no_login (serve a s p) (fits_serve a s p refl)
 
 error_no_login : (s : State) → NoLogin (error_step s)
-error_no_login state.Rest = refl
 error_no_login (state.Authentication true b) = refl
-error_no_login (state.Authentication false b) = refl
 error_no_login state.Over = tt
-error_no_login state.Quit = refl
-error_no_login state.Clone = refl
 error_no_login _ = refl
 
 failed_no_login : (r : Bool) (s : State) (k : PacketKind) (m : State) → failed r s ≡ Some (k, m) → is_login m ≡ false
@@ -679,37 +531,31 @@ failed_no_login r s k m h = elim (failed_is r s k m h) [
 ]
 
 pub stays_no_login : (a : Agreed) (s : State) (side : Side) (p : List ℕ) (k : PacketKind) (m : State) → is_login s ≡ false → step a s side p ≡ Some (k, m) → is_login m ≡ false
-stays_no_login a s Client p k m l h = no_login (client_step s p) k m (client_no_login s p (special s) l) h
+stays_no_login a s Client p k m l h = no_login (client_step s p) k m (client_no_login s p l) h
 stays_no_login a s Server p k m l h = elim (chosen (first_is 0xff p) _ _ _ h) [
   | inl e ↦ failed_no_login (is_report a p) s k m e.1
-  | inr e ↦ no_login (serve a s p) k m (serve_no_login a s p (special s) l) e.1
+  | inr e ↦ no_login (serve a s p) k m (serve_no_login a s p l) e.1
 ]
 
 -- ---- a packet's kind says whether a login is over after it
 
 pub login_is : (s : State) → is_login s ≡ true → (b : Bool) × (s ≡ state.Authentication true b)
 login_is (state.Authentication true b) h = (b, refl)
-login_is (state.Authentication false b) h = absurd cc
 login_is _ h = absurd cc
 
 kind_goes_on : (a : Agreed) (p : List ℕ) → ends_login (authentication_kind a p) ≡ false
-kind_goes_on a p = by_cond (λ k. ends_login k ≡ false) (first_is 0xfe p) _ _ (by_cond (λ k. ends_login k ≡ false) (is_one_byte p) _ _ refl refl)
-    (by_cond (λ k. ends_login k ≡ false) (first_is 1 p) _ _ refl (by_cond (λ k. ends_login k ≡ false) (first_is 2 p && asks_factors a) _ _ refl refl))
+kind_goes_on a p = by_kind (λ k. ends_login k ≡ false) (asks_factors a) p refl refl refl (λ e. refl) refl
 
 abbrev Ends : Option (PacketKind × State) → Type 0
 Ends None = Unit {0}
 Ends (Some x) = is_login x.1 ≡ not (ends_login x.0)
 
-ends_cond : (b : Bool) (x y : Option (PacketKind × State)) → Ends x → Ends y → Ends (cond b x y)
-ends_cond true x y f g = f
-ends_cond false x y f g = g
-
 ends_status : (status : Option StatusFlags) → Ends (logged_in status)
 ends_status None = tt
-ends_status (Some status) = ends_cond (has_more status) _ _ tt refl
+ends_status (Some status) = by_cond Ends (has_more status) _ _ tt refl
 
 ends_served : (a : Agreed) (p : List ℕ) (status : Option StatusFlags) → Ends (authentication_step a true p status)
-ends_served a p status = ends_cond (first_is 0 p) _ _ (ends_status status) (ap not (sym (kind_goes_on a p)))
+ends_served a p status = by_cond Ends (first_is 0 p) _ _ (ends_status status) (ap not (sym (kind_goes_on a p)))
 
 ends_failed : (is_report b : Bool) → Ends (failed is_report (state.Authentication true b))
 ends_failed true b = tt
@@ -721,7 +567,7 @@ ends_client false = tt
 
 ends_step : (a : Agreed) (b : Bool) (side : Side) (p : List ℕ) → Ends (step a (state.Authentication true b) side p)
 ends_step a b Client p = ends_client b
-ends_step a b Server p = ends_cond (first_is 0xff p) _ _ (ends_failed (is_report a p) b) (ends_served a p (ok_status a p))
+ends_step a b Server p = by_cond Ends (first_is 0xff p) _ _ (ends_failed (is_report a p) b) (ends_served a p (ok_status a p))
 
 pub step_login : (a : Agreed) (s : State) (side : Side) (p : List ℕ) (k : PacketKind) (m : State) → step a s side p ≡ Some (k, m) → is_login m ≡ (is_login s && not (ends_login k))
 step_login a s side p k m h = elim (cases_Bool (is_login s)) [
@@ -732,15 +578,12 @@ step_login a s side p k m h = elim (cases_Bool (is_login s)) [
 
 -- an error ends the running exchange, unless it is a login
 pub error_rests : (s : State) → rests s ≡ false → is_login s ≡ false → error_step s ≡ Some (kind.Error, state.Rest)
-error_rests s n l = elim (special s) [
-  | inl e ↦ (let no : rests s ≡ true = ap rests e in absurd cc)
-  | inr (inl e) ↦ (let no : is_login s ≡ true = ap is_login e.1 in absurd cc)
-  | inr (inr (inl e)) ↦ ap error_step e
-  | inr (inr (inr (inl e))) ↦ (let no : rests s ≡ true = ap rests e in absurd cc)
-  | inr (inr (inr (inr (inl e)))) ↦ (let no : rests s ≡ true = ap rests e in absurd cc)
-  | inr (inr (inr (inr (inr (inl e))))) ↦ (let no : rests s ≡ true = ap rests e in absurd cc)
-  | inr (inr (inr (inr (inr (inr e))))) ↦ plain_error s e
-]
+error_rests state.Rest n l = absurd cc
+error_rests (state.Authentication true b) n l = absurd cc
+error_rests state.Clone n l = absurd cc
+error_rests state.Over n l = absurd cc
+error_rests state.Quit n l = absurd cc
+error_rests _ n l = refl
 
 -- an error ends the running exchange
 pub error_ends : (s : State) → rests s ≡ false → (m : State) × (error_step s ≡ Some (kind.Error, m)) × (rests m ≡ true)
@@ -751,7 +594,6 @@ error_ends s n = elim (cases_Bool (is_login s)) [
   where
     login_error : (s : State) → is_login s ≡ true → error_step s ≡ Some (kind.Error, state.Over)
     login_error (state.Authentication true b) h = refl
-    login_error (state.Authentication false b) h = absurd cc
     login_error _ h = absurd cc
 
 -- no packet inside an exchange is a command

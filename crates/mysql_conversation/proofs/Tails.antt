@@ -110,10 +110,8 @@ answered_file a f items mid rest x (inr b) = last_result a f items rest (inr (in
 
 opening : (a : Agreed) (f : Request) (d more : Bool) (n : ℕ) (items mid rest : List Packet)
     → c.columns a n items mid → cursor a f d more mid rest → c.opened a f d more items rest
-opening a Query d more n items mid rest x h = absurd h
-opening a Execution d more n items mid rest x h = absurd h
-opening a Cursor true more n items mid rest x h = absurd h
 opening a Cursor false more n items mid rest x h = (n, (mid, x, h))
+opening a _ _ more n items mid rest x h = absurd h
 
 -- columns, and what follows them
 pub answered_columns : (a : Agreed) (f : Request) (n : ℕ) (items mid rest : List Packet)
@@ -127,11 +125,8 @@ answered_columns a f n items mid rest x (inr (inl h)) = more_results a f items h
 answered_columns a f n items mid rest x (inr (inr h)) = last_result a f items rest (inr (inr (inr (opening a f (deprecates_eof a) false n items mid rest x h))))
 
 pub entered : (a : Agreed) (b : After) (items rest : List Packet) → tail_of a (enter b) items rest → following a b items rest
-entered a (after.Rows f) items rest h = h
 entered a (after.Columns zero) items rest h = (items, refl, h)
-entered a (after.Columns (suc n)) items rest h = h
-entered a after.End items rest h = h
-entered a after.Rest items rest h = h
+entered a _ items rest h = h
 
 columns_end_none : (a : Agreed) (f : Request) (items rest : List Packet) → following a (after.Rows f) items rest → following_columns a f true items rest
 columns_end_none a Query items rest h = inl (items, refl, h)

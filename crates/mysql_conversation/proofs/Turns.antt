@@ -48,18 +48,9 @@ pub begin_due : (c : Command) → (begin c ≡ state.Rest) ⊎ ((is_quit c.answe
 begin_due c = answers_due c.answer
   where
     answers_due : (r : Answer) → (answers r ≡ state.Rest) ⊎ ((is_quit r ≡ true) ⊎ (is_due (answers r) ≡ true))
-    answers_due (answer.Results r) = inr (inr refl)
-    answers_due answer.Prepared = inr (inr refl)
-    answers_due answer.Rows = inr (inr refl)
-    answers_due (answer.Acknowledgement may_end) = inr (inr refl)
-    answers_due answer.Text = inr (inr refl)
-    answers_due answer.Fields = inr (inr refl)
-    answers_due answer.Authentication = inr (inr refl)
-    answers_due answer.Events = inr (inr refl)
     answers_due answer.Nothing = inl refl
     answers_due answer.Quit = inr (inl refl)
-    answers_due answer.Clone = inr (inr refl)
-    answers_due answer.SessionError = inr (inr refl)
+    answers_due _ = inr (inr refl)
 
 -- the client's packets in a running exchange are no commands
 pub running_kind : (d : Agreed) (s : State) (p : List ℕ) (k : PacketKind) (m : State) → rests s ≡ false → take_step d s Client p ≡ Some (k, m) → commands k ≡ false
@@ -84,24 +75,12 @@ ack_refused p c h = rw (no_ack p c h) refl
 pub no_aside : (d : Agreed) (s : State) (p : List ℕ) (c : Command) → is_due s ≡ true → command_of p ≡ Some c → take_step d s Client p ≡ None
 no_aside d state.Rest p c h e = absurd cc
 no_aside d (state.Authentication login true) p c h e = absurd cc
-no_aside d (state.Authentication login false) p c h e = refl
-no_aside d (state.Reply r) p c h e = refl
 no_aside d (state.Infile r) p c h e = absurd cc
-no_aside d (state.InfileReply r) p c h e = refl
-no_aside d (state.Definitions n b) p c h e = refl
-no_aside d (state.DefinitionsEnd b) p c h e = refl
-no_aside d (state.Rows r) p c h e = refl
-no_aside d state.Prepared p c h e = refl
-no_aside d state.Fetch p c h e = refl
-no_aside d (state.Acknowledgement may_end) p c h e = refl
-no_aside d state.Text p c h e = refl
-no_aside d state.Fields p c h e = refl
 no_aside d state.Events p c h e = ack_refused p c e
-no_aside d state.SessionError p c h e = refl
-no_aside d state.CloneReply p c h e = refl
 no_aside d state.Clone p c h e = absurd cc
 no_aside d state.Quit p c h e = absurd cc
 no_aside d state.Over p c h e = absurd cc
+no_aside d _ p c h e = refl
 
 kind_at : (k : PacketKind) (m : State) (r : Option Command) → command_step r ≡ Some (k, m) → commands k ≡ true
 kind_at k m None h = absurd cc

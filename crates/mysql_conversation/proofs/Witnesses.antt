@@ -153,7 +153,6 @@ ok_acknowledges a may_end = ap (λ l. acknowledgement_step (deprecates_eof a) ma
 
 each_served : (a : Agreed) (s : State) → All (Comes a s Server) (served_names a s)
 unfolding row_bytes
-each_served a state.Rest = tt
 each_served a (state.Authentication login b) =
     also (comes_served a (state.Authentication login b) name.Ok ok_bytes kind.Ok state.Rest refl refl (rw (ok_read a) refl))
     (comes_asked a login b (asks_factors a) refl)
@@ -162,7 +161,6 @@ each_served a (state.Reply r) =
     (also (comes_served a (state.Reply r) name.LocalInfile (0xfb ∷ []) kind.LocalInfile (state.Infile r) refl refl (ap (reply_step (deprecates_eof a) r) (reply_infile a (0xfb ∷ []) refl)))
     (also (comes_served a (state.Reply r) name.ColumnCount count_bytes (kind.ColumnCount 1 true) (counted (deprecates_eof a) 1 true (after.Rows r)) refl count_is_no_error (ap (reply_step (deprecates_eof a) r) (is_count a)))
     tt))
-each_served a (state.Infile r) = tt
 each_served a (state.InfileReply r) = (comes_served a (state.InfileReply r) name.Ok ok_bytes kind.Ok (ended r false) refl refl (ap (infile_reply_step r) (ok_reply a)), tt)
 each_served a (state.Definitions n b) = (comes_served a (state.Definitions n b) name.Column [] kind.Column _ refl refl refl, tt)
 each_served a (state.DefinitionsEnd b) =
@@ -196,11 +194,9 @@ each_served a state.Events =
     also (comes_served a state.Events name.BinlogEvent row_bytes kind.BinlogEvent state.Events refl refl refl)
     (also (comes_served a state.Events name.Eof old_end_bytes kind.Eof state.Rest refl refl (ap (event_step false) (old_end_at a)))
     tt)
-each_served a state.SessionError = tt
 each_served a state.CloneReply = (comes_served a state.CloneReply name.Ok ok_bytes kind.Ok state.Clone refl refl (ap (last_ok state.Clone) (ok_reply a)), tt)
 each_served a state.Clone = (comes_served a state.Clone name.Clone [] kind.Clone state.Clone refl refl refl, tt)
-each_served a state.Quit = tt
-each_served a state.Over = tt
+each_served a _ = tt
 
 comes_error_at : (a : Agreed) (s : State) (n : PacketKindTag) (k : PacketKind) (m : State) → name_of k ≡ n → error_step s ≡ Some (k, m) → Comes a s Server n
 comes_error_at a s n k m e h = (0xff ∷ [], k, m, e, rw (short_report a) (failed_no_report s ∙ h))
@@ -230,24 +226,10 @@ with_report a s false h = each_served a s
 each_sent : (a : Agreed) (s : State) → All (Comes a s Client) (sent_names s)
 each_sent a state.Rest = ((0x0e ∷ [], kind.Command 0x0e, state.Acknowledgement false, refl, refl), tt)
 each_sent a (state.Authentication login true) = (([], kind.AuthData, state.Authentication login false, refl, refl), tt)
-each_sent a (state.Authentication login false) = tt
-each_sent a (state.Reply r) = tt
 each_sent a (state.Infile r) = ((0 ∷ [], kind.InfileContent, state.Infile r, refl, refl), (([], kind.InfileEnd, state.InfileReply r, refl, refl), tt))
-each_sent a (state.InfileReply r) = tt
-each_sent a (state.Definitions n b) = tt
-each_sent a (state.DefinitionsEnd b) = tt
-each_sent a (state.Rows r) = tt
-each_sent a state.Prepared = tt
-each_sent a state.Fetch = tt
-each_sent a (state.Acknowledgement may_end) = tt
-each_sent a state.Text = tt
-each_sent a state.Fields = tt
 each_sent a state.Events = ((0xef ∷ [], kind.SemiSyncAck, state.Events, refl, refl), tt)
-each_sent a state.SessionError = tt
-each_sent a state.CloneReply = tt
 each_sent a state.Clone = (([], kind.Clone, state.Clone, refl, refl), tt)
-each_sent a state.Quit = tt
-each_sent a state.Over = tt
+each_sent a _ = tt
 
 -- ---- of both
 

@@ -17,24 +17,10 @@ use Rattle.mysql_conversation.specs.declared.state.State.TheVariants as state
 abbrev pub sent_names : State → List PacketKindTag
 sent_names state.Rest = name.Command ∷ []
 sent_names (state.Authentication login true) = name.AuthData ∷ []
-sent_names (state.Authentication login false) = []
-sent_names (state.Reply r) = []
 sent_names (state.Infile r) = name.InfileContent ∷ name.InfileEnd ∷ []
-sent_names (state.InfileReply r) = []
-sent_names (state.Definitions n b) = []
-sent_names (state.DefinitionsEnd b) = []
-sent_names (state.Rows r) = []
-sent_names state.Prepared = []
-sent_names state.Fetch = []
-sent_names (state.Acknowledgement may_end) = []
-sent_names state.Text = []
-sent_names state.Fields = []
 sent_names state.Events = name.SemiSyncAck ∷ []
-sent_names state.SessionError = []
-sent_names state.CloneReply = []
 sent_names state.Clone = name.Clone ∷ []
-sent_names state.Quit = []
-sent_names state.Over = []
+sent_names _ = []
 
 -- the kind of an end
 abbrev pub end_name : Bool → PacketKindTag
@@ -53,10 +39,8 @@ asked_names false = name.AuthSwitch ∷ name.OldAuthSwitch ∷ name.AuthMoreData
 
 -- from the server, except for an error or a progress report
 abbrev pub served_names : Agreed → State → List PacketKindTag
-served_names a state.Rest = []
 served_names a (state.Authentication login is_asked) = name.Ok ∷ asked_names (asks_factors a)
 served_names a (state.Reply r) = name.Ok ∷ name.LocalInfile ∷ name.ColumnCount ∷ []
-served_names a (state.Infile r) = []
 served_names a (state.InfileReply r) = name.Ok ∷ []
 served_names a (state.Definitions n b) = name.Column ∷ []
 served_names a (state.DefinitionsEnd b) = name.Eof ∷ []
@@ -68,11 +52,9 @@ served_names a (state.Acknowledgement false) = name.Ok ∷ []
 served_names a state.Text = name.Statistics ∷ []
 served_names a state.Fields = name.FieldListColumn ∷ end_name (deprecates_eof a) ∷ []
 served_names a state.Events = name.BinlogEvent ∷ name.Eof ∷ []
-served_names a state.SessionError = []
 served_names a state.CloneReply = name.Ok ∷ []
 served_names a state.Clone = name.Clone ∷ []
-served_names a state.Quit = []
-served_names a state.Over = []
+served_names a _ = []
 
 -- packets that begin with ff, except for a report
 abbrev pub error_names : State → List PacketKindTag

@@ -173,22 +173,9 @@ abbrev pub client_step : State → List ℕ → Option (PacketKind × State)
 client_step state.Rest p = command_step p
 client_step (state.Authentication login is_asked) p = answer_step login is_asked
 client_step (state.Infile r) p = infile_step r p
-client_step (state.Reply r) p = None
-client_step (state.InfileReply r) p = None
-client_step (state.Definitions n b) p = None
-client_step (state.DefinitionsEnd b) p = None
-client_step (state.Rows r) p = None
-client_step state.Prepared p = None
-client_step state.Fetch p = None
-client_step (state.Acknowledgement may_end) p = None
-client_step state.Text p = None
-client_step state.Fields p = None
 client_step state.Events p = ack_step p
-client_step state.SessionError p = None
-client_step state.CloneReply p = None
 client_step state.Clone p = Some (kind.Clone, state.Clone)
-client_step state.Quit p = None
-client_step state.Over p = None
+client_step _ p = None
 
 -- an event, or the EOF packet after the last one
 abbrev pub event_step : Bool → Option StatusFlags → Option (PacketKind × State)
@@ -217,10 +204,8 @@ reply_step deprecates r (Some reply.Infile) = Some (kind.LocalInfile, state.Infi
 reply_step deprecates r (Some (reply.Columns n follow)) = Some (kind.ColumnCount n follow, counted deprecates n follow (after.Rows r))
 
 abbrev pub infile_reply_step : Request → Option Reply → Option (PacketKind × State)
-infile_reply_step r None = None
 infile_reply_step r (Some (reply.Ok more)) = Some (kind.Ok, ended r more)
-infile_reply_step r (Some reply.Infile) = None
-infile_reply_step r (Some (reply.Columns n follow)) = None
+infile_reply_step r _ = None
 
 -- the state after the EOF packet of a result's definitions: rows follow, unless the requested cursor is open
 abbrev pub columns_step : StatusFlags → Request → Option (PacketKind × State)
@@ -280,9 +265,7 @@ prepared_step deprecates (Some s) =
 -- an OK packet, after which no results follow
 abbrev pub last_ok : State → Option Reply → Option (PacketKind × State)
 last_ok m (Some (reply.Ok more)) = if more then None else Some (kind.Ok, m)
-last_ok m (Some reply.Infile) = None
-last_ok m (Some (reply.Columns n follow)) = None
-last_ok m None = None
+last_ok m _ = None
 
 -- an end, if the server may send one
 abbrev pub last_end : Bool → Bool → Bool → Option (PacketKind × State)
@@ -295,9 +278,7 @@ acknowledgement_step deprecates may_end None r = None
 
 -- a packet of the server that is no error
 abbrev pub serve : Agreed → State → List ℕ → Option (PacketKind × State)
-serve a state.Rest p = None
 serve a (state.Authentication login is_asked) p = authentication_step a login p (ok_status a p)
-serve a (state.Infile r) p = None
 serve a (state.Reply r) p = reply_step (deprecates_eof a) r (reply_of a p)
 serve a (state.InfileReply r) p = infile_reply_step r (reply_of a p)
 serve a (state.Definitions n b) p = Some (kind.Column, less (deprecates_eof a) n b)
@@ -309,11 +290,9 @@ serve a (state.Acknowledgement may_end) p = acknowledgement_step (deprecates_eof
 serve a state.Text p = Some (kind.Statistics, state.Rest)
 serve a state.Fields p = last_step (deprecates_eof a) kind.FieldListColumn state.Fields (line_of a Text p)
 serve a state.Events p = event_step (first_is 0 p) (old_end_of a p)
-serve a state.SessionError p = None
 serve a state.CloneReply p = last_ok state.Clone (reply_of a p)
 serve a state.Clone p = Some (kind.Clone, state.Clone)
-serve a state.Quit p = None
-serve a state.Over p = None
+serve a _ p = None
 
 -- ---- turns
 

@@ -132,13 +132,8 @@ SessionTaken s items = TakenIn s.phase items
 
 -- how many commands may wait in the conversation, once the client has logged in
 abbrev pub limit_in : ℕ → Phase → ℕ
-limit_in n phase.Greeting = n
-limit_in n phase.Refused = n
-limit_in n phase.NoLogin = n
-limit_in n (phase.Login server) = n
-limit_in n (phase.Encrypted server) = n
-limit_in n (phase.InTls server) = n
 limit_in n (phase.Commands p) = pipe.limit p
+limit_in n _ = n
 
 abbrev pub limit : Session → ℕ
 limit s = limit_in s.limit s.phase

@@ -15,63 +15,63 @@ use crate::packet_kind::{PacketKind, RowFormat};
 #[derive(Clone, Copy, Debug, PartialEq, Eq)]
 pub enum PacketKindTag {
     /// The server's greeting, the initial handshake.
-    Handshake,
+    Handshake = 0,
     /// A request for TLS.
-    SslRequest,
+    SslRequest = 1,
     /// The client's response to the greeting.
-    Login,
+    Login = 2,
     /// The server's request for another authentication plugin, during a login or a change of user.
-    AuthSwitch,
+    AuthSwitch = 3,
     /// A switch to the old plugin: the single byte `fe`.
-    OldAuthSwitch,
+    OldAuthSwitch = 4,
     /// Further authentication data, after the byte `01`.
-    AuthMoreData,
+    AuthMoreData = 5,
     /// A request for the next factor, after the byte `02`.
-    AuthNextFactor,
+    AuthNextFactor = 6,
     /// Data of an authentication plugin of the server.
-    AuthPluginData,
+    AuthPluginData = 7,
     /// The client's answer to any of these.
-    AuthData,
+    AuthData = 8,
     /// A command, with its first byte.
-    Command,
+    Command = 9,
     /// An OK packet.
-    Ok,
+    Ok = 10,
     /// An error. It ends the answer to a command.
-    Error,
+    Error = 11,
     /// An error that answers no command: the server ends the connection.
-    UnsolicitedError,
+    UnsolicitedError = 12,
     /// A progress report.
-    ProgressReport,
+    ProgressReport = 13,
     /// The server's request for a local file.
-    LocalInfile,
+    LocalInfile = 14,
     /// A part of the file.
-    InfileContent,
+    InfileContent = 15,
     /// The file's end: an empty packet.
-    InfileEnd,
+    InfileEnd = 16,
     /// The number of columns, and whether their definitions follow.
-    ColumnCount,
+    ColumnCount = 17,
     /// The definition of a column or a parameter.
-    Column,
+    Column = 18,
     /// The definition of a column in the answer to `COM_FIELD_LIST`, with its default value.
-    FieldListColumn,
+    FieldListColumn = 19,
     /// An EOF packet: the end of definitions or rows, or, under any capabilities, of a stream of events.
-    Eof,
+    Eof = 20,
     /// The end of rows as an OK packet, under `CLIENT_DEPRECATE_EOF`.
-    OkTerminator,
+    OkTerminator = 21,
     /// A row of the text protocol.
-    TextRow,
+    TextRow = 22,
     /// A row of the binary protocol.
-    BinaryRow,
+    BinaryRow = 23,
     /// A prepared statement: the counts of its columns and of its parameters, and whether their definitions follow.
-    PrepareOk,
+    PrepareOk = 24,
     /// The text in the answer to `COM_STATISTICS`.
-    Statistics,
+    Statistics = 25,
     /// An event of a binary log stream.
-    BinlogEvent,
+    BinlogEvent = 26,
     /// A replica's acknowledgement of an event.
-    SemiSyncAck,
+    SemiSyncAck = 27,
     /// After `COM_CLONE`, a packet of the clone plugin's own protocol, from either side.
-    Clone,
+    Clone = 28,
 }
 
 impl PacketKindTag {

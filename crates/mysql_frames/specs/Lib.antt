@@ -1,4 +1,5 @@
 pub mod FrameHeader
 pub mod FrameReader
 pub mod Frames
+pub mod Places
 pub mod Unfinished

@@ -1,7 +1,8 @@
 //! Frames, one by one.
 
-ghost use Rattle.std.specs.Prelude.{◌≡◌, ◌<◌, ◌↔◌, IfSome, IfNone, IsTrue, List, ℕ, length};
+ghost use Rattle.std.specs.Prelude.{◌≡◌, ◌+◌, ◌<◌, ◌↔◌, IfSome, IfNone, IsTrue, List, ℕ, length};
 ghost use Rattle.mysql_frames.specs.Frames.{IsFrame, most};
+ghost use Rattle.mysql_frames.specs.Places.{at};
 
 use crate::header::{HEADER_LEN, MAX_FRAME_LEN, length_in};
 
@@ -41,15 +42,21 @@ impl<'a> Frame<'a> {
 pub fn next_frame(bytes: &[u8]) -> Option<(Frame<'_>, &[u8])>
     ensures there { IfSome result (λ x. IsFrame x.0.sequence_id x.0.content.now bytes.now x.1.now) }
     ensures none { IfNone result ((number : ℕ) (content rest : List ℕ) → IsFrame number content bytes.now rest → ⊥) }
+    // Both are parts of the bytes themselves.
+    ensures content { IfSome result (λ x. x.0.content.ref_ptr ≡ at 4 bytes.entry.ref_ptr) }
+    ensures rest { IfSome result (λ x. x.1.ref_ptr ≡ at (4 + length x.0.content.now) bytes.entry.ref_ptr) }
 {
     if bytes.len() < HEADER_LEN {
         return None;
     }
-    let (head, after) = bytes.split_at(HEADER_LEN);
-    let (content, rest) = after.split_at_checked(length_in(head))?;
+    let (head, after) = (&bytes[..HEADER_LEN], &bytes[HEADER_LEN..]);
+    let len = length_in(head);
+    if after.len() < len {
+        return None;
+    }
     let frame = Frame {
         sequence_id: head[3],
-        content,
+        content: &after[..len],
     };
-    Some((frame, rest))
+    Some((frame, &after[len..]))
 }

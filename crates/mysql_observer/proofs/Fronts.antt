@@ -35,14 +35,8 @@ number_long a b c d e f g r =
     rw (one, four) refl
 
 number_cut : (p : List ℕ) → number_at (cut p) ≡ number_at p
-number_cut [] = refl
-number_cut (a ∷ []) = refl
-number_cut (a ∷ b ∷ []) = refl
-number_cut (a ∷ b ∷ c ∷ []) = refl
-number_cut (a ∷ b ∷ c ∷ d ∷ []) = refl
-number_cut (a ∷ b ∷ c ∷ d ∷ e ∷ []) = refl
-number_cut (a ∷ b ∷ c ∷ d ∷ e ∷ f ∷ []) = refl
 number_cut (a ∷ b ∷ c ∷ d ∷ e ∷ f ∷ g ∷ r) = ap number_at (cut_long a b c d e f g r) ∙ number_long a b c d e f g r
+number_cut _ = refl
 
 data_long : (b c d e f g : ℕ) (r : List ℕ) → data_at (0x18 ∷ b ∷ c ∷ d ∷ e ∷ f ∷ g ∷ []) ≡ data_at (0x18 ∷ b ∷ c ∷ d ∷ e ∷ f ∷ g ∷ r)
 unfolding data_at long_data bytes number raw const_byte
@@ -77,12 +71,10 @@ branch false x y u v f g = g refl
 one_same : {A : Type 0} (b17 bfa b1c b19 b1a : Bool) (closed reset fetched bulk bulk' single single' : A) → (b17 || bfa || b1c || b19 || b1a) ≡ true → (b17 || bfa) ≡ false
     → (if b19 then closed else (if b1a then reset else (if b1c then fetched else (if bfa then bulk else single))))
     ≡ (if b19 then closed else (if b1a then reset else (if b1c then fetched else (if bfa then bulk' else single'))))
-one_same true bfa b1c b19 b1a closed reset fetched bulk bulk' single single' e n = absurd cc
-one_same false true b1c b19 b1a closed reset fetched bulk bulk' single single' e n = absurd cc
 one_same false false b1c true b1a closed reset fetched bulk bulk' single single' e n = refl
 one_same false false b1c false true closed reset fetched bulk bulk' single single' e n = refl
 one_same false false true false false closed reset fetched bulk bulk' single single' e n = refl
-one_same false false false false false closed reset fetched bulk bulk' single single' e n = absurd cc
+one_same _ _ _ _ _ closed reset fetched bulk _ single _ e n = absurd cc
 
 asked_one_same : (a : Agreed) (code : ℕ) (p q : List ℕ) (id : Option ℕ) (t : Table) → is_of_one code ≡ true → (code == 0x17 || code == 0xfa) ≡ false → asked_one a code q id t ≡ asked_one a code p id t
 asked_one_same a code p q None t e n = refl

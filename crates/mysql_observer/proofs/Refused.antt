@@ -6,7 +6,5 @@ use Rattle.mysql_wire.specs.declared.fault.FaultOf.TheVariants as fault
 use Rattle.mysql_observer.specs.Event.{Marks, header_in}
 
 pub header_fault : (n : ℕ) (e : FaultOf) (read : Reading Marks) → Faults false e read → header_in n read ≡ false
-header_fault n fault.UnexpectedEof read h = ap (header_in n) h
-header_fault n (fault.InvalidData text) read h = ap (header_in n) h
-header_fault n (fault.InvalidInput text) read h = ap (header_in n) h
 header_fault n fault.Memory read h = absurd cc
+header_fault n _ read h = ap (header_in n) h

@@ -245,6 +245,7 @@ pub use Rattle.mysql_commands.specs.StmtExecute
 pub use Rattle.mysql_commands.specs.Unknown
 pub use Rattle.mysql_frames.specs.FrameReader
 pub use Rattle.mysql_frames.specs.Frames
+pub use Rattle.mysql_frames.specs.Places
 pub use Rattle.mysql_conversation.specs.Agreements
 pub use Rattle.mysql_conversation.specs.Conversation
 pub use Rattle.mysql_conversation.specs.ConversationState

@@ -131,6 +131,7 @@ pub use mysql_replies::ColumnAttributeRef;
 pub use mysql_replies::ColumnAttributes;
 pub use mysql_replies::ColumnCount;
 pub use mysql_replies::ColumnDefinitionCatalog;
+pub use mysql_replies::ColumnNamesRef;
 pub use mysql_replies::ColumnRef;
 pub use mysql_replies::CommonOkPacket;
 pub use mysql_replies::ErrPacket;

@@ -15,6 +15,7 @@ use Rattle.mysql_wire.specs.Writing.{saturated}
 use Rattle.mysql_wire.specs.declared.codes.column_type.ColumnType.{ColumnType}
 use Rattle.mysql_wire.specs.declared.codes.column_type.ColumnType.TheVariants as column_type
 use Rattle.mysql_packets_c.proofs.BulkCells.{swapped}
+use Rattle.mysql_packets_c.proofs.Nulls.{bits-clear, is-null, nulls-more}
 use Rattle.mysql_packets_c.specs.ColumnType.{type_of, unsigned_of}
 use Rattle.mysql_packets_c.specs.BinaryRow.{cell_in, has_null, is_null_value, takes_value}
 use Rattle.mysql_packets_c.specs.Rows.{row_fits}
@@ -72,30 +73,10 @@ longlong-saturated c v two is = rw two (rw is (sym (integer-saturated column_typ
 
 -- ---- NULL
 
-null-bytes : (t : ColumnType) (v : Content) → is_null v ≡ true → bin_in t v ≡ []
-null-bytes t NULL h = refl
-null-bytes t (Bytes bytes) h = absurd cc
-null-bytes t (Int n) h = absurd cc
-null-bytes t (UInt n) h = absurd cc
-null-bytes t (Float bits) h = absurd cc
-null-bytes t (Double bits) h = absurd cc
-null-bytes t (Date date) h = absurd cc
-null-bytes t (Time time) h = absurd cc
-
--- what takes bytes is not NULL
-not-null : (c : CColumnType) (v : CValue) (n : ℕ) → n ≡ saturated (length (cell_in c v)) → n ≢ 0 → is_null_value v ≡ false
-unfolding saturated
-not-null c v n is some = pick (is_null_value v) refl
-  where
-    pick : (b : Bool) → is_null_value v ≡ b → is_null_value v ≡ false
-    pick false e = e
-    pick true e = absurd (some (let none = ap length (null-bytes (type_of c) (value_content v) e) in omega (arith, is, none)))
-
 -- one more value that takes bytes
 pub nulls-next : (c : CColumnType) (values : List CValue) (i : ℕ) (v : CValue) (n : ℕ) → i < length values → has_null (take i values) ≡ false
     → n ≡ saturated (length (cell_in c (get_or values i v))) → n ≢ 0 → has_null (take (i + 1) values) ≡ false
-nulls-next c values i v n lt before is some =
-    list_any_more is_null_value values i v lt ∙ ap (λ (b : Bool). b || is_null_value (get_or values i v)) before ∙ not-null c (get_or values i v) n is some
+nulls-next c = nulls-more value_content (cell_in c) (λ v null. ap (bin_in (type_of c)) (is-null (value_content v) null))
 
 -- what the values before a place take, and whether one of them may be NULL
 pub record SoFar (columns : List CColumnType) (values : List CValue) (i len : ℕ) (has_empty : Bool) : Type 0 where
@@ -129,15 +110,6 @@ one-more columns values i len has_empty more next next_empty k lt fits is_more i
       nulls = λ none. nulls-next column values i no_value more lt (k.nulls (empty none).0) is_more (empty none).1;
     }
 
-or-parts : (a b : Bool) → (a || b) ≡ false → (a ≡ false) × (b ≡ false)
-or-parts true b h = absurd cc
-or-parts false b h = (refl, h)
-
-bits-clear : (values : List CValue) → has_null values ≡ false → (i : ℕ) → get_or (map null_bit (values_contents values)) i 0 ≡ 0
-bits-clear [] h i = omega arith
-bits-clear (v ∷ values) h zero = ap (λ (b : Bool). if b then 1 else 0) (or-parts (is_null_value v) (has_null values) h).0
-bits-clear (v ∷ values) h (suc i) = bits-clear values (or-parts (is_null_value v) (has_null values) h).1 i
-
 -- a bitmap without a bit is that of values without NULL
 pub clear-marks : (values : List CValue) (nulls : List ℕ) → has_null values ≡ false → nulls ≡ replicate (bytes_for 2 (length values)) 0 → MarksNulls 2 (values_contents values) nulls
 clear-marks values nulls none clear = rw clear (record {
@@ -148,7 +120,7 @@ clear-marks values nulls none clear = rw clear (record {
     bit : (i : ℕ) → get_or (null_bits 2 (values_contents values)) i 0 ≡ 0
     bit zero = refl
     bit (suc zero) = refl
-    bit (suc (suc i)) = bits-clear values none i
+    bit (suc (suc i)) = bits-clear value_content values none i
 
 pub ruleset binary_rows = (fits-from, fits-end, as-many, integer-saturated, clear-marks)
 

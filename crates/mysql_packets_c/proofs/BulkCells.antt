@@ -139,24 +139,6 @@ pub plain-len : (column : CColumnType) (v : CValue) (n m : ℕ) → is_plain col
 unfolding saturated
 plain-len column v n m h is sum = omega (arith, is, sum, ap length (plain-value column v h).2)
 
--- ---- loops over what is written
-
-module _ (held cell rest left front whole : List ℕ) (parts : left ≡ cell ++ rest) (so_far : held ++ left ≡ front ++ whole) where
-  pub items-more : (longer : List ℕ) → longer ≡ held ++ cell → longer ++ rest ≡ front ++ whole
-  items-more longer is = ap (λ (l : List ℕ). l ++ rest) is ∙ append_assoc held cell rest ∙ ap (λ (l : List ℕ). held ++ l) (sym parts) ∙ so_far
-
-  pub fits-more : (least capacity : ℕ) → length front + length whole ≤ least → least ≤ capacity → length held + length cell ≤ capacity
-  fits-more least capacity enough more =
-      omega (arith, ap length so_far, ap length parts, length-append held left, length-append cell rest, length-append front whole, enough, more)
-
-pub less-more : (cell rest left : List ℕ) (whole : ℕ) → left ≡ cell ++ rest → length left ≤ whole → length rest ≤ whole
-less-more cell rest left whole parts le = omega (arith, ap length parts, length-append cell rest, le)
-
-pub after-more : (before middle after cell rest left : List ℕ) (whole : ℕ) → left ≡ cell ++ rest → length left ≤ whole → middle ≡ drop (whole - length left) before → after ≡ drop (length cell) middle → after ≡ drop (whole - length rest) before
-after-more before middle after cell rest left whole parts le at is =
-    let further : (whole - length left) + length cell ≡ whole - length rest = omega (arith, ap length parts, length-append cell rest, le) in
-    is ∙ ap (drop (length cell)) at ∙ drop-drop (length cell) (whole - length left) before ∙ ap (λ k. drop k before) further
-
 -- ---- one value more of a row
 
 pub swapped : (a b c d : Bool) → ((a && b) && (c && d)) ≡ ((a && c) && (b && d))

@@ -17,11 +17,13 @@ use Rattle.mysql_stmt.specs.ExecuteRead.{TypedParam}
 use Rattle.mysql_stmt.specs.ExecuteWithOptions.{asked}
 use Rattle.mysql_stmt.specs.Execution.{execution_bytes}
 use Rattle.mysql_stmt.specs.NullMarks.{bitmap_of, first_eight, is_null, packed}
+use Rattle.mysql_stmt.specs.SentNulls.{bitmap_with}
 use Rattle.mysql_stmt.specs.SentParam.{bytes_under, first_unspelled, is_spelled_under, type_bytes, value_bytes}
 use Rattle.mysql_stmt.specs.declared.execute_head.ComStmtExecuteHead.{ComStmtExecuteHead}
 use Rattle.mysql_stmt.specs.declared.execute_with_options.ComStmtExecuteOptionsBuilder.{ComStmtExecuteOptionsBuilder}
 use Rattle.mysql_stmt.proofs.PackedBits.{bitmap-long, bytes-long, packed-more}
 use Rattle.mysql_stmt.proofs.SentBytes.{first-sent, length-type}
+use Rattle.mysql_packets_c.proofs.Nulls.{bits-clear, is-null, nulls-more}
 use Rattle.mysql_packets_c.specs.CheckedParams.{bitmap_for, bits_of, has_null, is_null_sent, may_send, plainly, sent_bytes, type_sent}
 use Rattle.mysql_packets_c.specs.Execution.{is_set}
 use Rattle.mysql_packets_c.specs.Output.{PutsUnlessTooLong}
@@ -32,21 +34,11 @@ use Rattle.mysql_packets_c.specs.declared.parameter.CParameter.{CParameter}
 
 -- ---- what NULL takes
 
-null-content : (t : ParamType) (v : Content) → is_null v ≡ true → bytes_under false t (Sent (Plain v)) ≡ []
-null-content t NULL h = refl
-null-content t (Bytes bytes) h = absurd cc
-null-content t (Int n) h = absurd cc
-null-content t (UInt n) h = absurd cc
-null-content t (Float bits) h = absurd cc
-null-content t (Double bits) h = absurd cc
-null-content t (Date date) h = absurd cc
-null-content t (Time time) h = absurd cc
-
 null-cases : (ahead value offset : Bool) (t : ParamType) (c : Content) (d : DateTimeWithOffset)
     → is_null (value_of (if ahead then SentAhead else Sent (if value then Plain c else if offset then WithOffset d else Plain NULL))) ≡ true
     → bytes_under false t (if ahead then SentAhead else Sent (if value then Plain c else if offset then WithOffset d else Plain NULL)) ≡ []
 null-cases true value offset t c d h = absurd cc
-null-cases false true offset t c d h = null-content t c h
+null-cases false true offset t c d h = ap (λ (x : Content). bytes_under false t (Sent (Plain x))) (is-null c h)
 null-cases false false true t c d h = absurd cc
 null-cases false false false t c d h = refl
 
@@ -54,31 +46,12 @@ null-sends-nothing : (p : CParameter) → is_null_sent p ≡ true → sent_bytes
 null-sends-nothing p h =
     null-cases (is_set p.is_sent_ahead) (is_value p.value) (is_offset_date p.value) (named_type p).param_type (value_content p.value) (date_with_offset_of p.value) h
 
--- what takes bytes is not NULL
-not-null : (p : CParameter) (n : ℕ) → n ≡ saturated (length (sent_bytes p)) → n ≢ 0 → is_null_sent p ≡ false
-unfolding saturated
-not-null p n is some = pick (is_null_sent p) refl
-  where
-    pick : (b : Bool) → is_null_sent p ≡ b → is_null_sent p ≡ false
-    pick false e = e
-    pick true e = absurd (some (let none = ap length (null-sends-nothing p e) in omega (arith, is, none)))
-
 -- one more value other than NULL
 pub nulls-next : (items : List CParameter) (i : ℕ) (p : CParameter) (n : ℕ) → i < length items → has_null (take i items) ≡ false
     → n ≡ saturated (length (sent_bytes (get_or items i p))) → n ≢ 0 → has_null (take (i + 1) items) ≡ false
-nulls-next items i p n lt before is some =
-    list_any_more is_null_sent items i p lt ∙ ap (λ (b : Bool). b || is_null_sent (get_or items i p)) before ∙ not-null (get_or items i p) n is some
+nulls-next = nulls-more (λ p. value_of (param_given p)) sent_bytes null-sends-nothing
 
 -- ---- a bitmap without a bit
-
-or-parts : (a b : Bool) → (a || b) ≡ false → (a ≡ false) × (b ≡ false)
-or-parts true b h = absurd cc
-or-parts false b h = (refl, h)
-
-bits-clear : (items : List CParameter) → has_null items ≡ false → (i : ℕ) → get_or (bits_of items) i 0 ≡ 0
-bits-clear [] h i = omega arith
-bits-clear (p ∷ items) h zero = ap (λ (b : Bool). if b then 1 else 0) (or-parts (is_null_sent p) (has_null items) h).0
-bits-clear (p ∷ items) h (suc i) = bits-clear items (or-parts (is_null_sent p) (has_null items) h).1 i
 
 packed-clear : (n : ℕ) (bits : List ℕ) → ((i : ℕ) → get_or bits i 0 ≡ 0) → packed n bits ≡ replicate n 0
 packed-clear zero bits h = refl
@@ -104,10 +77,14 @@ packed-clear (suc n) bits h =
 pub bitmap-for-long : (items : List CParameter) → length (bitmap_for items) ≡ bytes_for 0 (length items)
 bitmap-for-long items = bitmap-long (contents param_given items) ∙ ap (bytes_for 0) (length-map items (λ p. value_of (param_given p)))
 
+-- the bitmap of parameters without attributes
+pub no-attributes : (items : List CParameter) → bitmap_with param_given param_given items [] ≡ bitmap_for items
+no-attributes items = ap bitmap_of (append-nil (contents param_given items))
+
 pub clear-bitmap : (items : List CParameter) → has_null items ≡ false → bitmap_for items ≡ replicate (bytes_for 0 (length items)) 0
 clear-bitmap items h =
     ap (λ (n : ℕ). packed (bytes_for 0 n) (bits_of items)) (length-map items (λ p. value_of (param_given p)))
-    ∙ packed-clear (bytes_for 0 (length items)) (bits_of items) (bits-clear items h)
+    ∙ packed-clear (bytes_for 0 (length items)) (bits_of items) (bits-clear (λ p. value_of (param_given p)) items h)
 
 -- ---- types
 
@@ -243,7 +220,7 @@ puts-short bytes len code old new written is fits is_written put small =
 
 pub ruleset checked = (nulls-next)
 
-pub ruleset bitmaps = (bitmap-for-long, packed-more, bytes-long)
+pub ruleset bitmaps = (bitmap-for-long)
 
 pub ruleset types = (type-long, types-long)
 

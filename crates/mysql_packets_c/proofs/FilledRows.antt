@@ -7,12 +7,13 @@ use Rattle.mysql_wire.specs.declared.fault.FaultKind.{FaultKind}
 use Rattle.mysql_wire.specs.declared.fault.FaultOf.{FaultOf}
 use Rattle.mysql_wire.specs.declared.fault.FaultOf.TheVariants as fault
 use Rattle.mysql_wire.specs.Reading.{Reading, Faults}
+use Rattle.mysql_values.specs.ContentEq.{kind_of}
 use Rattle.mysql_values.specs.ParamValue.{ParamContent, Plain, WithOffset}
 use Rattle.mysql_values.specs.Value.{Content, NULL, Bytes, Int, UInt, Float, Double, Date, Time}
 use Rattle.mysql_stmt.specs.RowView.{Gives, IsBinaryRow, RowLeft, IsDone, RefusesNext, read_to, read_of, row_front, text_row_left}
 use Rattle.mysql_packets_c.specs.ColumnType.{type_of, unsigned_of}
 use Rattle.mysql_packets_c.specs.Rows.{Fills, FillsGood, good_after, good_binary, good_text, values_held}
-use Rattle.mysql_packets_c.specs.Value.{IsSet, Sets, SetsParam, date_with_offset_of, kind_of, param_content, value_content}
+use Rattle.mysql_packets_c.specs.Value.{IsSet, Sets, SetsParam, date_with_offset_of, param_content, value_content}
 use Rattle.mysql_packets_c.specs.declared.rows.CColumnType.{CColumnType}
 use Rattle.mysql_packets_c.specs.declared.value.CValue.{CValue}
 

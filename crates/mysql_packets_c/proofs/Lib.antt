@@ -1,3 +1,4 @@
+pub mod Appends
 pub mod CheckedExecutions
 pub mod CheckedParams
 pub mod Codes
@@ -8,6 +9,7 @@ pub mod Answers
 pub mod Changes
 pub mod MergedNames
 pub mod Mixed
+pub mod Nulls
 pub mod BinaryRows
 pub mod BulkRows
 pub mod BulkCells

@@ -23,10 +23,6 @@ use Rattle.mysql_packets_c.specs.declared.parameter.CParameter.{CParameter}
 
 -- ---- builders
 
-pub and-first : (a b : Bool) → (a && b) ≡ true → a ≡ true
-and-first true b h = refl
-and-first false b h = absurd cc
-
 pub and-second : (a b : Bool) → (a && b) ≡ true → b ≡ true
 and-second true b h = h
 and-second false b h = absurd cc

@@ -1,7 +1,7 @@
 -- Parameters of an execution that were checked, and their bytes, where they have no names.
 use Rattle.std.specs.Prelude.{◌≡◌, ℕ, Bool, true, false, ◌&&◌, List, None, Option, MatchOption, map, length}
 use Rattle.std.specs.List.{list_all, list_any}
-use Rattle.mysql_stmt.specs.ExecuteParam.{Param, contents, param_bytes, value_of}
+use Rattle.mysql_stmt.specs.ExecuteParam.{contents, param_bytes, value_of}
 use Rattle.mysql_stmt.specs.Execution.{Execution}
 use Rattle.mysql_stmt.specs.NullMarks.{bitmap_of, is_null, null_bit}
 use Rattle.mysql_stmt.specs.SentParam.{bytes_under, is_spelled_under}
@@ -48,11 +48,8 @@ abbrev pub has_null : List CParameter → Bool
 has_null items = list_any is_null_sent items
 
 -- the bits of the bitmap of NULLs
-abbrev pub bits_under : {V : Type 0} → (V → Param) → List V → List ℕ
-bits_under param items = map null_bit (contents param items)
-
 abbrev pub bits_of : List CParameter → List ℕ
-bits_of items = bits_under param_given items
+bits_of items = map null_bit (contents param_given items)
 
 abbrev pub bitmap_for : List CParameter → List ℕ
 bitmap_for items = bitmap_of (contents param_given items)

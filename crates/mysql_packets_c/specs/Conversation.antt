@@ -1,5 +1,5 @@
 -- Which packet comes next, in C.
-use Rattle.std.specs.Prelude.{◌≡◌, ℕ, ◌<◌, ◌==◌, List, [], ◌∷◌, ◌++◌, ◌⊎◌, Bool, false, Option, Some, None, if◌then◌else◌}
+use Rattle.std.specs.Prelude.{◌≡◌, ◌≢◌, ◌↔◌, ◌≤◌, ℕ, ◌<◌, ◌==◌, List, [], ◌∷◌, ◌++◌, ◌⊎◌, Bool, false, Option, Some, None, if◌then◌else◌}
 use Rattle.mysql_conversation.specs.Agreements.{Agreed}
 use Rattle.mysql_conversation.specs.LoginState as login
 use Rattle.mysql_conversation.specs.LoginState.{StandsAt}
@@ -162,3 +162,18 @@ AgreesToCompress c side payload = (session : Session) × StandsAt (login_state_o
 
 abbrev pub Compresses : CConversation → ℕ → List ℕ → Type 0
 Compresses c from payload = (side : Side) × (side_of from ≡ Some side) × AgreesToCompress c side payload
+
+-- ---- the next packet
+
+-- the code that a call returns for the next packet, and both structs after it
+pub record Classified (old : CConversation) (from : ℕ) (payload : List ℕ) (code : ℕ) (new : CConversation) (out_old out : CPacket) : Type 0 where
+  pub taken : code ≡ 0 → Goes old from payload new out
+  pub under : code ≡ 0 → (IsLogin old → ⊥) → IsUnder (agreed_of old) (opening_of old.opening) new
+  pub begun : code ≡ 0 → IsBegun new
+  pub refused : code ≡ 2 → ComesNot old from payload
+  pub compressed : code ≡ 9 → Compresses old from payload
+  pub full : (code ≡ 10) ↔ Fills old from payload
+  pub comes : code ≡ 10 → Comes old from payload
+  pub state : (code ≡ 3) ↔ ((2 ≤ from) ⊎ (IsBegun old → ⊥))
+  pub stays : code ≢ 0 → (new ≡ old) × (out ≡ out_old)
+  pub known : (code ≡ 0) ⊎ ((code ≡ 2) ⊎ ((code ≡ 3) ⊎ ((code ≡ 9) ⊎ (code ≡ 10))))

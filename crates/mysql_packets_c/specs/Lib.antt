@@ -1,3 +1,4 @@
+pub mod Appends
 pub mod Attributes
 pub mod AuthMoreData
 pub mod AuthSwitch
@@ -30,7 +31,6 @@ pub mod GtidDump
 pub mod GtidEntries
 pub mod GtidText
 pub mod Handshake
-pub mod Header
 pub mod Input
 pub mod LocalInfile
 pub mod Login

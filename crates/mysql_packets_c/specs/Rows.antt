@@ -1,9 +1,9 @@
 -- Rows in C.
 use Rattle.std.specs.List.{AllZip, list_all}
-use Rattle.std.specs.Prelude.{◌≡◌, ◌≤◌, ◌-◌, ◌++◌, ℕ, List, [], length, take, drop, map, Option, Some, Result, Ok, Err, false, None, Bool, if◌then◌else◌, ◌==◌, ◌&&◌, nat_lt}
+use Rattle.std.specs.Prelude.{◌≡◌, ◌≤◌, ◌-◌, ◌++◌, ℕ, List, [], length, take, drop, map, Option, Some, Result, Ok, Err, OnOk, OnErr, IfErr, false, None, Bool, if◌then◌else◌, ◌==◌, ◌&&◌, nat_lt}
 use Rattle.mysql_stmt.specs.BinaryRow.{IsRowBytes, row_len, takes_row}
 use Rattle.mysql_stmt.specs.Bitmap.{Bitmap}
-use Rattle.mysql_stmt.specs.RowView.{RowLeft, ref_cell, row_front, row_left, text_row_left}
+use Rattle.mysql_stmt.specs.RowView.{Gives, RefusesNext, RowLeft, ref_cell, row_front, row_left, text_row_left}
 use Rattle.mysql_values.specs.Value.{Content}
 use Rattle.mysql_wire.specs.Reading.{Reading, Faults}
 use Rattle.mysql_wire.specs.declared.fault.FaultOf.{FaultOf}
@@ -11,7 +11,7 @@ use Rattle.mysql_packets_c.specs.Code.{kind_code}
 use Rattle.mysql_packets_c.specs.ColumnType.{type_of, unsigned_of}
 use Rattle.mysql_packets_c.specs.Input.{used_of}
 use Rattle.mysql_packets_c.specs.Output.{PutsSuchUnlessTooLong}
-use Rattle.mysql_packets_c.specs.Value.{IsSet, SetsFirst, value_content, is_value, values_contents}
+use Rattle.mysql_packets_c.specs.Value.{IsSet, Sets, SetsFirst, value_content, is_value, values_contents}
 use Rattle.mysql_packets_c.specs.declared.rows.CColumnType.{CColumnType}
 use Rattle.mysql_packets_c.specs.declared.value.CValue.{CValue}
 
@@ -26,6 +26,13 @@ pub record Fills (old new : RowLeft) (before after : List CValue) : Type 0 where
   pub set : AllZip IsSet (take (old.left - new.left) before) (take (old.left - new.left) after)
   pub others : drop (old.left - new.left) after ≡ drop (old.left - new.left) before
   pub len : length after ≡ length before
+
+-- the next value of a row is in its place; after an error the row and the place are unchanged
+pub record PutsNext (result : Result (Unit {0}) FaultOf) (old new : RowLeft) (before after : CValue) : Type 0 where
+  pub value : OnOk result (Gives old (value_content after) new)
+  pub set : OnOk result (Sets (value_content after) before after)
+  pub refused : IfErr result (λ e. RefusesNext e new)
+  pub stays : OnErr result ((new ≡ old) × (after ≡ before))
 
 -- the values of a row before its first fault: all of them without one
 abbrev pub good_text : ℕ → List ℕ → List Content

@@ -2,6 +2,7 @@
 use Rattle.std.specs.Prelude.{◌≡◌, ◌<◌, ◌^◌, ℕ, Bool, ◌==◌, ◌-◌, ◌&&◌, ◌||◌, not, nat_le, nat_lt, List, [], map, take, drop, if◌then◌else◌}
 use Rattle.std.specs.List.{AllZip}
 use Rattle.std.specs.Int.{w64, cast_signed}
+use Rattle.mysql_values.specs.ContentEq.{kind_of}
 use Rattle.mysql_values.specs.Value.{Content, NULL, Bytes, Int, UInt, Float, Double, Date, Time, date_of, time_of}
 use Rattle.mysql_values.specs.ParamValue.{ParamContent, Plain, WithOffset}
 use Rattle.mysql_values.specs.declared.date_time_with_offset.DateTimeWithOffset.{DateTimeWithOffset}
@@ -59,16 +60,6 @@ abbrev pub values_contents : List CValue → List Content
 values_contents values = map value_content values
 
 -- ---- the caller's struct after a value is stored in it
-
-abbrev pub kind_of : Content → ℕ
-kind_of NULL = 0
-kind_of (Bytes bytes) = 1
-kind_of (Int n) = 2
-kind_of (UInt n) = 3
-kind_of (Float bits) = 4
-kind_of (Double bits) = 5
-kind_of (Date fields) = 6
-kind_of (Time fields) = 7
 
 abbrev pub bytes_of : Content → List ℕ
 bytes_of (Bytes bytes) = bytes

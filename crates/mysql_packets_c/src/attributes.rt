@@ -1,17 +1,20 @@
 //! The attributes of a connection.
 #![tactic(auto, using(crate::proofs::Codes::codes))]
 
-ghost use Rattle.std.specs.Prelude.{[], ◌≡◌, ◌≢◌, ◌+◌, ◌++◌, ◌<◌, ◌≤◌, drop, length, option_map};
+ghost use Rattle.std.specs.Prelude.{[], ◌≡◌, ◌≢◌, ◌+◌, ◌<◌, ◌≤◌, length, option_map};
 ghost use Rattle.std.specs.Str.{is_utf8};
 ghost use Rattle.mysql_auth.specs.Attributes.{attribute, pairs_bytes};
 ghost use Rattle.mysql_wire.specs.Writing.{saturated};
+ghost use Rattle.mysql_packets_c.specs.Appends.{Appends};
+ghost use Rattle.mysql_packets_c.specs.Input.{IsRestOf};
 ghost use Rattle.mysql_packets_c.specs.Attributes as given;
 ghost use Rattle.mysql_packets_c.specs.Attributes.{NextInto};
 
 use crate::code::{END, OK, code_of};
+use crate::input::read_front;
 use crate::text::CBytes;
 use mysql_auth::ConnectAttributeRef;
-use mysql_wire::{Buffer, IntRepr, LenEnc, MySerialize, ParseBuf, Parts, RawBytes, Sink, parts};
+use mysql_wire::{Buffer, IntRepr, LenEnc, MySerialize, Parts, RawBytes, Sink, parts};
 use std::alloc::Global;
 use std::borrow::CowSlice;
 
@@ -25,19 +28,20 @@ pub extern "C" fn myp_next_connection_attribute<'a>(
 ) -> u32
     ensures end { rest.old.bytes.now ≡ [] → (result ≡ 7) × (rest.new ≡ rest.old) × (name.new ≡ name.old) × (value.new ≡ value.old) }
     ensures value { rest.old.bytes.now ≢ [] → NextInto ((attribute.form tt).reads rest.old.bytes.now) result rest.old rest.new name.old name.new value.old value.new }
+    ensures place { IsRestOf rest.new rest.old }
 {
     if rest.bytes.is_empty() {
         return END;
     }
-    let mut buf = ParseBuf::new(alloc, rest.bytes);
-    let pair: ConnectAttributeRef<'a> = match buf.parse(()) {
-        Ok(pair) => pair,
-        Err(fault) => return code_of(&fault),
-    };
-    name.bytes = pair.key();
-    value.bytes = pair.value();
-    rest.bytes = buf.eat_all();
-    OK
+    match read_front::<ConnectAttributeRef<'a>>(alloc, rest.bytes, ()) {
+        Ok((pair, after)) => {
+            name.bytes = pair.key();
+            value.bytes = pair.value();
+            rest.move_to(&after);
+            OK
+        }
+        Err(fault) => code_of(&fault),
+    }
 }
 
 /// `myp_connection_attribute` of the C header.
@@ -135,10 +139,7 @@ fn pairs_len(attributes: &[CAttribute<'_>]) -> usize
 /// Writes the pairs to the end of a buffer that has capacity for them.
 fn append_pairs<O: Buffer>(attributes: &[CAttribute<'_>], out: &mut O)
     requires { length (O.held out.old) + length (pairs_bytes (given.merged_pairs attributes.now)) ≤ O.capacity out.old }
-    ensures items { O.held out.new ≡ O.held out.old ++ pairs_bytes (given.merged_pairs attributes.now) }
-    ensures after { O.after out.new ≡ drop (length (pairs_bytes (given.merged_pairs attributes.now))) (O.after out.old) }
-    ensures capacity { O.capacity out.old ≤ O.capacity out.new }
-    ensures kept { O.kept out.new ≡ O.kept out.old }
+    ensures { Appends O.held O.after O.capacity O.kept (pairs_bytes (given.merged_pairs attributes.now)) out.old out.new }
 {
     for place in 0..attributes.len() {
         if let Some(pair) = first_at(attributes, place) {

@@ -1,7 +1,7 @@
 //! Writes binary rows: each value is visited once to compute its length, and once to write it.
 #![tactic(auto, using(crate::proofs::BinaryRows::binary_rows))]
 
-ghost use Rattle.std.specs.Prelude.{◌≡◌, ◌≢◌, ◌+◌, ◌*◌, ◌++◌, ◌<◌, ◌≤◌, ◌^◌, ℕ, IsTrue, MatchOption, drop, false, length, replicate, true};
+ghost use Rattle.std.specs.Prelude.{◌≡◌, ◌≢◌, ◌+◌, ◌*◌, ◌<◌, ◌≤◌, ◌^◌, ℕ, IsTrue, MatchOption, false, length, replicate, true};
 ghost use Rattle.mysql_wire.specs.Writing.{saturated};
 ghost use Rattle.mysql_stmt.specs.BinaryRow.{IsRowBytes, bin_in, takes, values_bytes};
 ghost use Rattle.mysql_stmt.specs.BinaryRow as row;
@@ -10,6 +10,7 @@ ghost use Rattle.mysql_stmt.specs.ExecuteParam.{contents, value_of};
 ghost use Rattle.mysql_stmt.specs.NullMarks.{MarksNulls, is_null};
 ghost use Rattle.mysql_values.specs.Value.{Bytes};
 ghost use Rattle.mysql_values.specs.ValueRef.{ref_content};
+ghost use Rattle.mysql_packets_c.specs.Appends.{Appends};
 ghost use Rattle.mysql_packets_c.specs.BinaryRow.{cell_in, has_null, takes_value};
 ghost use Rattle.mysql_packets_c.specs.ColumnType.{type_of, unsigned_of};
 ghost use Rattle.mysql_packets_c.specs.Execution.{param};
@@ -202,10 +203,7 @@ fn put_nulls(values: &[CValue<'_>], may_have_null: bool, nulls: &mut [u8])
 #[inline(never)]
 fn append_any<O: Buffer>(column: &CColumnType, value: &CValue<'_>, out: &mut O)
     requires { length (O.held out.old) + length (bin_in (type_of column.now) (value_of (param value.now))) ≤ O.capacity out.old }
-    ensures items { O.held out.new ≡ O.held out.old ++ bin_in (type_of column.now) (value_of (param value.now)) }
-    ensures after { O.after out.new ≡ drop (length (bin_in (type_of column.now) (value_of (param value.now)))) (O.after out.old) }
-    ensures capacity { O.capacity out.old ≤ O.capacity out.new }
-    ensures kept { O.kept out.new ≡ O.kept out.old }
+    ensures { Appends O.held O.after O.capacity O.kept (bin_in (type_of column.now) (value_of (param value.now))) out.old out.new }
 {
     value.append_cell(column.value_type(), out);
 }
@@ -215,10 +213,7 @@ fn append_any<O: Buffer>(column: &CColumnType, value: &CValue<'_>, out: &mut O)
 #[inline(always)]
 fn append_apart<O: Buffer>(column: &CColumnType, value: &CValue<'_>, out: &mut O)
     requires { length (O.held out.old) + length (bin_in (type_of column.now) (value_of (param value.now))) ≤ O.capacity out.old }
-    ensures items { O.held out.new ≡ O.held out.old ++ bin_in (type_of column.now) (value_of (param value.now)) }
-    ensures after { O.after out.new ≡ drop (length (bin_in (type_of column.now) (value_of (param value.now)))) (O.after out.old) }
-    ensures capacity { O.capacity out.old ≤ O.capacity out.new }
-    ensures kept { O.kept out.new ≡ O.kept out.old }
+    ensures { Appends O.held O.after O.capacity O.kept (bin_in (type_of column.now) (value_of (param value.now))) out.old out.new }
 {
     let mut taken = out.taken();
     append_any(column, value, &mut taken);
@@ -231,10 +226,7 @@ fn append_apart<O: Buffer>(column: &CColumnType, value: &CValue<'_>, out: &mut O
 fn append_integer<O: Buffer>(column: &CColumnType, value: &CValue<'_>, out: &mut O)
     requires capacity { length (O.held out.old) + length (bin_in (type_of column.now) (value_of (param value.now))) ≤ O.capacity out.old }
     requires integer { value.now.kind ≡ 2 }
-    ensures items { O.held out.new ≡ O.held out.old ++ bin_in (type_of column.now) (value_of (param value.now)) }
-    ensures after { O.after out.new ≡ drop (length (bin_in (type_of column.now) (value_of (param value.now)))) (O.after out.old) }
-    ensures capacity { O.capacity out.old ≤ O.capacity out.new }
-    ensures kept { O.kept out.new ≡ O.kept out.old }
+    ensures { Appends O.held O.after O.capacity O.kept (bin_in (type_of column.now) (value_of (param value.now))) out.old out.new }
 {
     match column.value_type() {
         ColumnType::MYSQL_TYPE_LONGLONG => ValueRef::Int(value.number.cast_signed()).append_cell(
@@ -250,10 +242,7 @@ fn append_integer<O: Buffer>(column: &CColumnType, value: &CValue<'_>, out: &mut
 #[tactic(auto, unfolding(crate::specs::Value::value_content))]
 fn append_cell<O: Buffer>(column: &CColumnType, value: &CValue<'_>, out: &mut O)
     requires { length (O.held out.old) + length (bin_in (type_of column.now) (value_of (param value.now))) ≤ O.capacity out.old }
-    ensures items { O.held out.new ≡ O.held out.old ++ bin_in (type_of column.now) (value_of (param value.now)) }
-    ensures after { O.after out.new ≡ drop (length (bin_in (type_of column.now) (value_of (param value.now)))) (O.after out.old) }
-    ensures capacity { O.capacity out.old ≤ O.capacity out.new }
-    ensures kept { O.kept out.new ≡ O.kept out.old }
+    ensures { Appends O.held O.after O.capacity O.kept (bin_in (type_of column.now) (value_of (param value.now))) out.old out.new }
 {
     match value.kind {
         1 => ValueRef::Bytes(value.bytes).append(out),
@@ -268,10 +257,7 @@ fn append_cell<O: Buffer>(column: &CColumnType, value: &CValue<'_>, out: &mut O)
 fn append_values<O: Buffer>(columns: &[CColumnType], values: &[CValue<'_>], out: &mut O)
     requires same { length columns.now ≡ length values.now }
     requires capacity { length (O.held out.old) + length (values_bytes type_of unsigned_of columns.now (contents param values.now)) ≤ O.capacity out.old }
-    ensures items { O.held out.new ≡ O.held out.old ++ values_bytes type_of unsigned_of columns.now (contents param values.now) }
-    ensures after { O.after out.new ≡ drop (length (values_bytes type_of unsigned_of columns.now (contents param values.now))) (O.after out.old) }
-    ensures capacity { O.capacity out.old ≤ O.capacity out.new }
-    ensures kept { O.kept out.new ≡ O.kept out.old }
+    ensures { Appends O.held O.after O.capacity O.kept (values_bytes type_of unsigned_of columns.now (contents param values.now)) out.old out.new }
 {
     let mut bytes = out.taken();
     for place in 0..values.len() {

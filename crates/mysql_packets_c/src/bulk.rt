@@ -1,10 +1,9 @@
 //! Bulk requests of as many rows as fit.
 #![tactic(auto, using(crate::proofs::BulkRows::bulk_rows))]
 
-ghost use Rattle.std.specs.List.{list_all};
-ghost use Rattle.std.specs.Prelude.{◌==◌, ◌≡◌, ◌≢◌, ◌+◌, ◌++◌, ◌*◌, ◌<◌, ◌≤◌, ◌^◌, true, false, [], drop, length, IfOk, IfErr};
+ghost use Rattle.std.specs.Prelude.{◌==◌, ◌≡◌, ◌≢◌, ◌+◌, ◌*◌, ◌<◌, ◌≤◌, ◌^◌, true, false, [], length, IfOk, IfErr};
 ghost use Rattle.mysql_bulk.specs.Request.{request_flags};
-ghost use Rattle.mysql_bulk.specs.ValueRows.{rows_bytes};
+ghost use Rattle.mysql_packets_c.specs.Appends.{Appends};
 ghost use Rattle.mysql_packets_c.specs.Bulk as spec;
 
 use crate::bulk_cell::{append_row, row_len};
@@ -148,10 +147,7 @@ pub(crate) fn bulk_flags(flags: u32) -> StmtBulkExecuteFlags
 #[tactic(auto, using(mysql_wire::proofs::Packets::packets, crate::proofs::BulkRows::heads), unfolding(mysql_bulk::specs::Head::head))]
 fn append_head<O: Buffer>(call: &BulkCall<'_>, out: &mut O)
     requires { length (O.held out.old) + length (spec.head_with call.now) ≤ O.capacity out.old }
-    ensures items { O.held out.new ≡ O.held out.old ++ spec.head_with call.now }
-    ensures after { O.after out.new ≡ drop (length (spec.head_with call.now)) (O.after out.old) }
-    ensures capacity { O.capacity out.old ≤ O.capacity out.new }
-    ensures kept { O.kept out.new ≡ O.kept out.old }
+    ensures { Appends O.held O.after O.capacity O.kept (spec.head_with call.now) out.old out.new }
 {
     let header = ComStmtBulkExecuteHeader::new();
     let stmt_id = RawInt::<LeU32>::new(call.statement_id);
@@ -168,10 +164,7 @@ fn append_head<O: Buffer>(call: &BulkCall<'_>, out: &mut O)
 fn append_rows<O: Buffer>(columns: &[CColumnType], values: &[CValue<'_>], count: usize, out: &mut O)
     requires within { count * length columns.now ≤ length values.now }
     requires capacity { length (O.held out.old) + length (spec.rows_from columns.now count 0 values.now) ≤ O.capacity out.old }
-    ensures items { O.held out.new ≡ O.held out.old ++ spec.rows_from columns.now count 0 values.now }
-    ensures after { O.after out.new ≡ drop (length (spec.rows_from columns.now count 0 values.now)) (O.after out.old) }
-    ensures capacity { O.capacity out.old ≤ O.capacity out.new }
-    ensures kept { O.kept out.new ≡ O.kept out.old }
+    ensures { Appends O.held O.after O.capacity O.kept (spec.rows_from columns.now count 0 values.now) out.old out.new }
 {
     for place in 0..count {
         append_row(columns, row_after(values, columns.len(), place), out);

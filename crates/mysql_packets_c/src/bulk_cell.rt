@@ -1,12 +1,13 @@
 //! A row of a bulk request: values, DEFAULT and IGNORE, each after its indicator and under the type of its column.
 #![tactic(auto, using(crate::proofs::BulkCells::bulk_cells, mysql_wire::proofs::After::after), unfolding(mysql_wire::specs::Writing::saturated))]
 
-ghost use Rattle.std.specs.Prelude.{◌≡◌, ◌+◌, ◌++◌, ◌<◌, ◌≤◌, MatchOption, drop, false, if◌then◌else◌, length, true};
+ghost use Rattle.std.specs.Prelude.{◌≡◌, ◌+◌, ◌<◌, ◌≤◌, MatchOption, false, if◌then◌else◌, length, true};
 ghost use Rattle.mysql_bulk.specs.BulkValue.{Given, cell_bytes};
 ghost use Rattle.mysql_stmt.specs.NullMarks.{is_null};
 ghost use Rattle.mysql_values.specs.Value.{NULL};
 ghost use Rattle.mysql_values.specs.ValueRef.{ref_content};
 ghost use Rattle.mysql_wire.specs.Writing.{saturated};
+ghost use Rattle.mysql_packets_c.specs.Appends.{Appends};
 ghost use Rattle.mysql_packets_c.specs.Bulk as spec;
 ghost use Rattle.mysql_packets_c.specs.Value.{is_value, value_content};
 
@@ -151,10 +152,7 @@ pub(crate) fn row_len(columns: &[CColumnType], row: &[CValue<'_>]) -> Option<usi
 #[inline(always)]
 fn append_typed<O: Buffer>(param_type: ParamType, value: ValueRef<'_>, out: &mut O)
     requires { length (O.held out.old) + length (cell_bytes param_type (Given (ref_content value))) ≤ O.capacity out.old }
-    ensures items { O.held out.new ≡ O.held out.old ++ cell_bytes param_type (Given (ref_content value.entry)) }
-    ensures after { O.after out.new ≡ drop (length (cell_bytes param_type (Given (ref_content value.entry)))) (O.after out.old) }
-    ensures capacity { O.capacity out.old ≤ O.capacity out.new }
-    ensures kept { O.kept out.new ≡ O.kept out.old }
+    ensures { Appends O.held O.after O.capacity O.kept (cell_bytes param_type (Given (ref_content value.entry))) out.old out.new }
 {
     if let Some(typed) = TypedValue::new(param_type, value) {
         out.push_byte(indicator_of(&value));
@@ -167,10 +165,7 @@ fn append_typed<O: Buffer>(param_type: ParamType, value: ValueRef<'_>, out: &mut
 #[inline(never)]
 fn append_any<O: Buffer>(column: &CColumnType, value: &CValue<'_>, out: &mut O)
     requires { length (O.held out.old) + length (spec.value_bytes column.now value.now) ≤ O.capacity out.old }
-    ensures items { O.held out.new ≡ O.held out.old ++ spec.value_bytes column.now value.now }
-    ensures after { O.after out.new ≡ drop (length (spec.value_bytes column.now value.now)) (O.after out.old) }
-    ensures capacity { O.capacity out.old ≤ O.capacity out.new }
-    ensures kept { O.kept out.new ≡ O.kept out.old }
+    ensures { Appends O.held O.after O.capacity O.kept (spec.value_bytes column.now value.now) out.old out.new }
 {
     match value.kind {
         KIND_DEFAULT => out.push_byte(INDICATOR_DEFAULT),
@@ -184,10 +179,7 @@ fn append_any<O: Buffer>(column: &CColumnType, value: &CValue<'_>, out: &mut O)
 #[inline(always)]
 fn append_apart<O: Buffer>(column: &CColumnType, value: &CValue<'_>, out: &mut O)
     requires { length (O.held out.old) + length (spec.value_bytes column.now value.now) ≤ O.capacity out.old }
-    ensures items { O.held out.new ≡ O.held out.old ++ spec.value_bytes column.now value.now }
-    ensures after { O.after out.new ≡ drop (length (spec.value_bytes column.now value.now)) (O.after out.old) }
-    ensures capacity { O.capacity out.old ≤ O.capacity out.new }
-    ensures kept { O.kept out.new ≡ O.kept out.old }
+    ensures { Appends O.held O.after O.capacity O.kept (spec.value_bytes column.now value.now) out.old out.new }
 {
     let mut taken = out.taken();
     append_any(column, value, &mut taken);
@@ -198,10 +190,7 @@ fn append_apart<O: Buffer>(column: &CColumnType, value: &CValue<'_>, out: &mut O
 #[inline(always)]
 fn append_value<O: Buffer>(column: &CColumnType, value: &CValue<'_>, out: &mut O)
     requires { length (O.held out.old) + length (spec.value_bytes column.now value.now) ≤ O.capacity out.old }
-    ensures items { O.held out.new ≡ O.held out.old ++ spec.value_bytes column.now value.now }
-    ensures after { O.after out.new ≡ drop (length (spec.value_bytes column.now value.now)) (O.after out.old) }
-    ensures capacity { O.capacity out.old ≤ O.capacity out.new }
-    ensures kept { O.kept out.new ≡ O.kept out.old }
+    ensures { Appends O.held O.after O.capacity O.kept (spec.value_bytes column.now value.now) out.old out.new }
 {
     if is_plain(column, value) {
         let held = plain(value);
@@ -219,10 +208,7 @@ fn append_value<O: Buffer>(column: &CColumnType, value: &CValue<'_>, out: &mut O
 pub(crate) fn append_row<O: Buffer>(columns: &[CColumnType], row: &[CValue<'_>], out: &mut O)
     requires lengths { length columns.now ≡ length row.now }
     requires capacity { length (O.held out.old) + length (spec.row_bytes columns.now row.now) ≤ O.capacity out.old }
-    ensures items { O.held out.new ≡ O.held out.old ++ spec.row_bytes columns.now row.now }
-    ensures after { O.after out.new ≡ drop (length (spec.row_bytes columns.now row.now)) (O.after out.old) }
-    ensures capacity { O.capacity out.old ≤ O.capacity out.new }
-    ensures kept { O.kept out.new ≡ O.kept out.old }
+    ensures { Appends O.held O.after O.capacity O.kept (spec.row_bytes columns.now row.now) out.old out.new }
 {
     let mut bytes = out.taken();
     for place in 0..row.len() {

@@ -8,6 +8,7 @@ ghost use Rattle.mysql_bulk.specs.ReadRows.{row_of_columns};
 ghost use Rattle.mysql_values.specs.ParamType.{param_type};
 ghost use Rattle.mysql_wire.specs.Reading.{Answers};
 ghost use Rattle.mysql_wire.specs.Seq.{counted};
+ghost use Rattle.mysql_packets_c.specs.Input.{IsRestOf};
 ghost use Rattle.mysql_packets_c.specs.ColumnType.{type_of, unsigned_of};
 ghost use Rattle.mysql_packets_c.specs.BulkRow as spec;
 
@@ -55,11 +56,12 @@ pub extern "C" fn myp_read_bulk_types<'a>(
 ) -> u32
     ensures value { spec.TypesInto ((types_block true (length types.old)).reads rest.old.bytes.now) result rest.old rest.new types.new }
     ensures places { spec.FillsTypes (spec.good_block (length types.old) rest.old.bytes.now) types.old types.new }
+    ensures place { IsRestOf rest.new rest.old }
 {
     let mut buf = ParseBuf::new(alloc, rest.bytes);
     match fill_types(types, &mut buf) {
         Ok(()) => {
-            rest.bytes = buf.eat_all();
+            rest.move_to(&buf);
             OK
         }
         Err(fault) => code_of(&fault),
@@ -126,6 +128,7 @@ pub extern "C" fn myp_next_bulk_row<'a>(
         → spec.ContentsInto ((row_of_columns (map spec.column_of types.now)).reads rest.old.bytes.now) result (take (length types.now) values.new) rest.new.bytes.now }
     ensures places { rest.old.bytes.now ≢ [] → types.now ≢ [] → length types.now ≤ length values.old → length types.now ≤ length indicators.old
         → spec.FillsRow (spec.good_row types.now rest.old.bytes.now) values.old values.new indicators.old indicators.new }
+    ensures place { IsRestOf rest.new rest.old }
 {
     if rest.bytes.is_empty() {
         return END;
@@ -139,7 +142,7 @@ pub extern "C" fn myp_next_bulk_row<'a>(
     let mut buf = ParseBuf::new(alloc, rest.bytes);
     match fill_row(types, &mut buf, values, indicators) {
         Ok(()) => {
-            rest.bytes = buf.eat_all();
+            rest.move_to(&buf);
             OK
         }
         Err(fault) => code_of(&fault),

@@ -2,8 +2,6 @@
 #![tactic(auto, using(crate::proofs::Codes::codes))]
 
 ghost use Rattle.std.specs.Prelude.{◌≡◌, ◌≢◌, ◌<◌, None, Some, option_map};
-ghost use Rattle.mysql_replies.specs.ColumnFields.{column_fields};
-ghost use Rattle.mysql_replies.specs.ColumnNames.{column_meta};
 ghost use Rattle.mysql_replies.specs.ExtendedColumn.{attribute_bytes, extended_column};
 ghost use Rattle.mysql_wire.specs.ColumnType.{column_type_of};
 ghost use Rattle.mysql_wire.specs.declared.codes.column_type.ColumnType.{ColumnType};
@@ -17,14 +15,9 @@ use crate::code::{INVALID_INPUT, OK, code_of};
 use crate::flags::{column_flags_of, mariadb_of};
 use crate::input::read;
 use crate::output::put_packet;
-use mysql_replies::{ColumnDefinitionCatalog, ExtendedColumnRef, FixedLengthFieldsLen};
-use mysql_wire::{
-    ColumnFlags, ColumnType, Const, ConstBytes, ConstU8, ConstValue, LeU16, LeU32, LenEnc, Parts,
-    RawBytes, RawInt, Sink, Skip, parts,
-};
+use mysql_replies::{ColumnNamesRef, ColumnRef, ExtendedColumnRef};
+use mysql_wire::{ColumnType, ConstValue};
 use std::alloc::Global;
-use std::borrow::CowSlice;
-use std::marker::Model;
 
 /// `myp_column` of the C header.
 #[repr(C)]
@@ -101,141 +94,36 @@ pub extern "C" fn myp_read_column<'a>(
     }
 }
 
-/// The caller's names of a column, borrowed. In a clause they are those names.
-#[derive(Drop)]
-pub(crate) struct SentNames<'a> {
-    schema: RawBytes<'a, LenEnc>,
-    table: RawBytes<'a, LenEnc>,
-    org_table: RawBytes<'a, LenEnc>,
-    name: RawBytes<'a, LenEnc>,
-    org_name: RawBytes<'a, LenEnc>,
-}
-
-impl<'a> Model for SentNames<'a> {
-    ghost use Rattle.mysql_replies.specs.ColumnNames.{meta_of};
-    ghost use Rattle.mysql_replies.specs.declared.column_names.ColumnMeta.{ColumnMeta};
-
-    ghost Value = { ColumnMeta };
-
-    ghost view = { λ c. meta_of c.schema c.table c.org_table c.name c.org_name };
-}
-
-#[tactic(auto, using(mysql_wire::proofs::Packets::packets), unfolding(mysql_replies::specs::ColumnNames::column_meta))]
-impl Parts for SentNames<'_> {
-    ghost bytes = { column_meta.bytes };
-
-    #[inline(always)]
-    fn put<S: Sink>(&self, sink: &mut S) {
-        sink.part(&parts!(
-            self.schema,
-            self.table,
-            self.org_table,
-            self.name,
-            self.org_name
-        ));
-    }
-}
-
-/// The fixed fields of a column. In a clause they are those fields.
-#[derive(Drop)]
-pub(crate) struct SentFields {
-    character_set: RawInt<LeU16>,
-    column_length: RawInt<LeU32>,
-    column_type: Const<ColumnType, u8>,
-    flags: Const<ColumnFlags, LeU16>,
-    decimals: RawInt<u8>,
-}
-
-impl Model for SentFields {
-    ghost use Rattle.mysql_replies.specs.ColumnFields.{fields_of};
-    ghost use Rattle.mysql_replies.specs.declared.column_fields.ColumnFields.{ColumnFields};
-
-    ghost Value = { ColumnFields };
-
-    ghost view = { λ c. fields_of c.character_set.0 c.column_length.0 c.column_type.0 c.flags.0 c.decimals.0 };
-}
-
-#[tactic(auto, using(mysql_wire::proofs::Packets::packets), unfolding(mysql_replies::specs::ColumnFields::column_fields))]
-impl Parts for SentFields {
-    ghost bytes = { column_fields.bytes };
-
-    #[inline(always)]
-    fn put<S: Sink>(&self, sink: &mut S) {
-        let len: FixedLengthFieldsLen = ConstU8::new();
-        let filler: Skip<2> = Skip;
-        sink.part(&parts!(
-            len,
-            self.character_set,
-            self.column_length,
-            self.column_type,
-            self.flags,
-            self.decimals,
-            filler
-        ));
-    }
-}
-
-/// A column with the caller's names and metadata, borrowed. In a clause it is that column.
-#[derive(Drop)]
-pub(crate) struct SentColumn<'a> {
-    names: SentNames<'a>,
-    metadata: Option<RawBytes<'a, LenEnc>>,
-    fields: SentFields,
-}
-
-impl<'a> Model for SentColumn<'a> {
-    ghost use Rattle.mysql_replies.specs.Column.{column_with};
-    ghost use Rattle.mysql_replies.specs.ExtendedColumn.{extended};
-    ghost use Rattle.mysql_replies.specs.declared.extended_column.ExtendedColumn.{ExtendedColumn};
-
-    ghost Value = { ExtendedColumn };
-
-    ghost view = { λ c. extended (column_with c.names c.fields) c.metadata };
-}
-
-#[tactic(auto, using(mysql_wire::proofs::Packets::packets), unfolding(mysql_replies::specs::ExtendedColumn::extended_column))]
-impl Parts for SentColumn<'_> {
-    ghost bytes = { extended_column.bytes };
-
-    #[inline(always)]
-    fn put<S: Sink>(&self, sink: &mut S) {
-        let catalog: ColumnDefinitionCatalog = ConstBytes::new();
-        sink.part(&parts!(catalog, self.names, self.metadata, self.fields));
-    }
-}
-
-/// The caller's metadata, if any.
-fn metadata_of<'a>(column: &CColumn<'a>) -> Option<RawBytes<'a, LenEnc>>
-    ensures value { result ≡ spec.metadata_given column.now }
+/// Returns the bytes, if the flag says that there are any.
+pub(crate) fn given_bytes<'a>(is_given: u8, bytes: &'a [u8]) -> Option<&'a [u8]>
+    ensures value { option_map (λ b. b.now) result ≡ if_set is_given bytes.now }
 {
-    if column.has_metadata != 0 {
-        Some(RawBytes::new(CowSlice::Borrowed(column.metadata)))
-    } else {
-        None
-    }
+    if is_given != 0 { Some(bytes) } else { None }
 }
 
 /// Returns the column of this type, and of the caller's other fields.
-pub(crate) fn sent_column<'a>(column_type: ColumnType, fields: &CColumn<'a>) -> SentColumn<'a>
+pub(crate) fn sent_column<'a>(
+    column_type: ColumnType,
+    fields: &CColumn<'a>,
+) -> ExtendedColumnRef<'a>
     ensures value { result ≡ spec.column_given column_type fields.now }
 {
-    SentColumn {
-        names: SentNames {
-            schema: RawBytes::new(CowSlice::Borrowed(fields.schema)),
-            table: RawBytes::new(CowSlice::Borrowed(fields.table)),
-            org_table: RawBytes::new(CowSlice::Borrowed(fields.org_table)),
-            name: RawBytes::new(CowSlice::Borrowed(fields.name)),
-            org_name: RawBytes::new(CowSlice::Borrowed(fields.org_name)),
-        },
-        metadata: metadata_of(fields),
-        fields: SentFields {
-            character_set: RawInt::new(fields.character_set),
-            column_length: RawInt::new(fields.column_length),
-            column_type: Const::new(column_type),
-            flags: Const::new(column_flags_of(fields.flags)),
-            decimals: RawInt::new(fields.decimals),
-        },
-    }
+    let names = ColumnNamesRef {
+        schema: fields.schema,
+        table: fields.table,
+        org_table: fields.org_table,
+        name: fields.name,
+        org_name: fields.org_name,
+    };
+    let column = ColumnRef::new(
+        names,
+        fields.character_set,
+        fields.column_length,
+        column_type,
+        column_flags_of(fields.flags),
+        fields.decimals,
+    );
+    ExtendedColumnRef::new(column, given_bytes(fields.has_metadata, fields.metadata))
 }
 
 /// Writes `Protocol::ColumnDefinition41`, with extended metadata, if any. Errors: 5 if the buffer is too small,

@@ -1,18 +1,18 @@
 //! The attributes in the extended metadata of a column, one after another.
 #![tactic(auto, using(crate::proofs::Codes::codes, crate::proofs::Changes::changes, crate::proofs::AttributeKinds::kinds))]
 
-ghost use Rattle.std.specs.Prelude.{◌≡◌, ◌≢◌, [], IfErr, IfOk, Ok, false};
+ghost use Rattle.std.specs.Prelude.{◌≡◌, ◌≢◌, []};
 ghost use Rattle.mysql_replies.specs.ColumnAttribute.{attribute_of, column_attribute};
-ghost use Rattle.mysql_wire.specs.Reading.{Faults};
+ghost use Rattle.mysql_packets_c.specs.Input.{IsRestOf};
 ghost use Rattle.mysql_packets_c.specs.ColumnAttribute.{IsAttribute};
 ghost use Rattle.mysql_packets_c.specs.Output.{PutsUnlessTooLong};
 ghost use Rattle.mysql_packets_c.specs.SessionChange.{NextInto};
 
 use crate::code::{END, OK, code_of};
+use crate::input::read_front;
 use crate::output::put_packet;
 use crate::text::CBytes;
 use mysql_replies::{ColumnAttribute, ColumnAttributeKind, ColumnAttributeRef};
-use mysql_wire::{Fault, ParseBuf};
 use std::alloc::Global;
 use std::borrow::CowSlice;
 
@@ -24,20 +24,6 @@ pub struct CColumnAttribute<'a> {
     pub kind: u8,
 }
 
-/// Returns the attribute at the front of the bytes, and the bytes after it.
-#[inline(always)]
-fn next_attribute<'a>(
-    alloc: Global,
-    bytes: &'a [u8],
-) -> Result<(ColumnAttributeRef<'a>, &'a [u8]), Fault>
-    ensures good { IfOk result (λ x. (column_attribute.form tt).reads bytes.now ≡ Ok (x.0, x.1.now)) }
-    ensures refused { IfErr result (λ e. Faults false e ((column_attribute.form tt).reads bytes.now)) }
-{
-    let mut buf = ParseBuf::new(alloc, bytes);
-    let attribute: ColumnAttributeRef<'a> = buf.parse(())?;
-    Ok((attribute, buf.eat_all()))
-}
-
 /// Takes the next attribute off the front; returns 7 if none is left. After any other code, both outputs are unchanged.
 #[unsafe(no_mangle)]
 pub extern "C" fn myp_next_column_attribute<'a>(
@@ -47,15 +33,16 @@ pub extern "C" fn myp_next_column_attribute<'a>(
 ) -> u32
     ensures end { rest.old.bytes.now ≡ [] → (result ≡ 7) × (rest.new ≡ rest.old) × (out.new ≡ out.old) }
     ensures value { rest.old.bytes.now ≢ [] → NextInto IsAttribute ((column_attribute.form tt).reads rest.old.bytes.now) result rest.old rest.new out.old out.new }
+    ensures place { IsRestOf rest.new rest.old }
 {
     if rest.bytes.is_empty() {
         return END;
     }
-    match next_attribute(alloc, rest.bytes) {
+    match read_front::<ColumnAttributeRef<'a>>(alloc, rest.bytes, ()) {
         Ok((attribute, after)) => {
             out.text = attribute.text();
             out.kind = attribute.kind().code();
-            rest.bytes = after;
+            rest.move_to(&after);
             OK
         }
         Err(fault) => code_of(&fault),

@@ -229,16 +229,7 @@ fn next_of_any(
     payload: &[u8],
     out: &mut CPacket,
 ) -> u32
-    ensures taken { result ≡ 0 → spec.Goes conversation.old from payload.now conversation.new out.new }
-    ensures under { result ≡ 0 → (spec.IsLogin conversation.old → ⊥) → spec.IsUnder (spec.agreed_of conversation.old) (spec.opening_of conversation.old.opening) conversation.new }
-    ensures begun { result ≡ 0 → spec.IsBegun conversation.new }
-    ensures refused { result ≡ 2 → spec.ComesNot conversation.old from payload.now }
-    ensures compressed { result ≡ 9 → spec.Compresses conversation.old from payload.now }
-    ensures full { (result ≡ 10) ↔ spec.Fills conversation.old from payload.now }
-    ensures comes { result ≡ 10 → spec.Comes conversation.old from payload.now }
-    ensures state { (result ≡ 3) ↔ ((2 ≤ from) ⊎ (spec.IsBegun conversation.old → ⊥)) }
-    ensures stays { result ≢ 0 → (conversation.new ≡ conversation.old) × (out.new ≡ out.old) }
-    ensures code { (result ≡ 0) ⊎ ((result ≡ 2) ⊎ ((result ≡ 3) ⊎ ((result ≡ 9) ⊎ (result ≡ 10)))) }
+    ensures { spec.Classified conversation.old from payload.now result conversation.new out.old out.new }
 {
     let Some(side) = side_of(from) else {
         return INVALID_INPUT;
@@ -263,16 +254,7 @@ pub extern "C" fn myp_next_packet(
     payload: &[u8],
     out: &mut CPacket,
 ) -> u32
-    ensures taken { result ≡ 0 → spec.Goes conversation.old from payload.now conversation.new out.new }
-    ensures under { result ≡ 0 → (spec.IsLogin conversation.old → ⊥) → spec.IsUnder (spec.agreed_of conversation.old) (spec.opening_of conversation.old.opening) conversation.new }
-    ensures begun { result ≡ 0 → spec.IsBegun conversation.new }
-    ensures refused { result ≡ 2 → spec.ComesNot conversation.old from payload.now }
-    ensures compressed { result ≡ 9 → spec.Compresses conversation.old from payload.now }
-    ensures full { (result ≡ 10) ↔ spec.Fills conversation.old from payload.now }
-    ensures comes { result ≡ 10 → spec.Comes conversation.old from payload.now }
-    ensures state { (result ≡ 3) ↔ ((2 ≤ from) ⊎ (spec.IsBegun conversation.old → ⊥)) }
-    ensures stays { result ≢ 0 → (conversation.new ≡ conversation.old) × (out.new ≡ out.old) }
-    ensures code { (result ≡ 0) ⊎ ((result ≡ 2) ⊎ ((result ≡ 3) ⊎ ((result ≡ 9) ⊎ (result ≡ 10)))) }
+    ensures { spec.Classified conversation.old from payload.now result conversation.new out.old out.new }
 {
     if from == 1 {
         if let Some((kind, exchange)) = row_of(conversation, payload) {

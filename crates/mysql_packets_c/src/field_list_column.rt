@@ -11,15 +11,13 @@ ghost use Rattle.mysql_packets_c.specs.FieldListColumn.{IsDefinition};
 ghost use Rattle.mysql_packets_c.specs.Output.{PutsUnlessTooLong};
 
 use crate::code::{INVALID_INPUT, OK, code_of};
-use crate::column::{CColumn, SentColumn, places_of, put_column, sent_column};
+use crate::column::{CColumn, given_bytes, places_of, put_column, sent_column};
 use crate::flags::mariadb_of;
 use crate::input::read;
 use crate::output::put_packet;
 use mysql_replies::FieldListColumn;
-use mysql_wire::{ColumnType, ConstValue, LenEnc, Parts, RawBytes, Sink, parts};
+use mysql_wire::{ColumnType, ConstValue};
 use std::alloc::Global;
-use std::borrow::CowSlice;
-use std::marker::Model;
 
 /// `myp_field_list_column` of the C header.
 #[repr(C)]
@@ -53,45 +51,6 @@ pub extern "C" fn myp_read_field_list_column<'a>(
     }
 }
 
-/// A definition with the caller's texts, borrowed. In a clause it is that definition.
-#[derive(Drop)]
-struct SentDefinition<'a> {
-    column: SentColumn<'a>,
-    default_value: Option<RawBytes<'a, LenEnc>>,
-}
-
-impl<'a> Model for SentDefinition<'a> {
-    ghost use Rattle.mysql_replies.specs.FieldListColumn.{Definition, definition};
-
-    ghost Value = { Definition };
-
-    ghost view = { λ c. definition c.column c.default_value };
-}
-
-#[tactic(auto, using(mysql_wire::proofs::Packets::packets), unfolding(mysql_replies::specs::FieldListColumn::field_list_column))]
-impl Parts for SentDefinition<'_> {
-    ghost bytes = { field_list_column.bytes };
-
-    #[inline(always)]
-    fn put<S: Sink>(&self, sink: &mut S) {
-        match &self.default_value {
-            Some(text) => sink.part(&parts!(self.column, *text)),
-            None => sink.part(&parts!(self.column, [0xfbu8])),
-        }
-    }
-}
-
-/// The caller's default value: NULL if there is none.
-fn default_of<'a>(definition: &CFieldListColumn<'a>) -> Option<RawBytes<'a, LenEnc>>
-    ensures value { result ≡ spec.default_given definition.now }
-{
-    if definition.has_default_value != 0 {
-        Some(RawBytes::new(CowSlice::Borrowed(definition.default_value)))
-    } else {
-        None
-    }
-}
-
 /// Writes a column in the answer to `COM_FIELD_LIST`. Errors: 5 if the buffer is too small, with the length needed; 4 if the
 /// length overflows; 3 for an unknown type.
 #[unsafe(no_mangle)]
@@ -107,9 +66,7 @@ pub extern "C" fn myp_write_field_list_column(
         *written = 0;
         return INVALID_INPUT;
     };
-    let packet = SentDefinition {
-        column: sent_column(column_type, &definition.column),
-        default_value: default_of(definition),
-    };
-    put_packet(&packet, out, written)
+    let default_value = given_bytes(definition.has_default_value, definition.default_value);
+    let column = sent_column(column_type, &definition.column);
+    put_packet(&FieldListColumn::new(column, default_value), out, written)
 }

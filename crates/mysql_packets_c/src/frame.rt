@@ -1,7 +1,8 @@
 //! Frames, one after another.
 #![tactic(auto)]
 
-ghost use Rattle.std.specs.Prelude.{◌≡◌, ◌≢◌, ◌<◌, ◌↔◌, List, ℕ, length};
+ghost use Rattle.std.specs.Prelude.{◌≡◌, ◌≢◌, ◌<◌, ◌↔◌, List, ℕ, length, ◌+◌};
+ghost use Rattle.mysql_frames.specs.Places.{at};
 ghost use Rattle.mysql_frames.specs.Frames.{IsFrame, most};
 
 use crate::code::{END, OK};
@@ -25,6 +26,9 @@ pub extern "C" fn myp_next_frame<'a>(rest: &mut CBytes<'a>, out: &mut CFrame<'a>
     ensures is_flag { result ≡ 0 → out.new.is_last < 2 }
     ensures none { result ≢ 0 → (number : ℕ) (content after : List ℕ) → IsFrame number content rest.old.bytes.now after → ⊥ }
     ensures stays { result ≢ 0 → (result ≡ 7) × (rest.new ≡ rest.old) × (out.new ≡ out.old) }
+    // Both are parts of the bytes themselves.
+    ensures content { result ≡ 0 → out.new.content.ref_ptr ≡ at 4 rest.old.bytes.ref_ptr }
+    ensures place { result ≡ 0 → rest.new.bytes.ref_ptr ≡ at (4 + length out.new.content.now) rest.old.bytes.ref_ptr }
 {
     match next_frame(rest.bytes) {
         Some((frame, after)) => {

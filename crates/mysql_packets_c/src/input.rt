@@ -1,6 +1,7 @@
 //! Reading packets.
 
-ghost use Rattle.std.specs.Prelude.{◌≡◌, ◌-◌, length, List, ℕ, Ok, Err, OnErr};
+ghost use Rattle.std.specs.Prelude.{◌≡◌, ◌-◌, length, List, ℕ, Ok, Err, OnErr, IfOk, IfErr};
+ghost use Rattle.mysql_wire.specs.Reading.{Faults, IsTail};
 ghost use Rattle.mysql_packets_c.specs.Input.{ReadsWhole};
 
 use mysql_wire::{FaultOf, MyDeserialize, ParseBuf};
@@ -18,4 +19,20 @@ pub(crate) fn read<'s, 'a, T: MyDeserialize<'a> + Drop>(
     let mut buf = ParseBuf::new(alloc, packet);
     let value: T = buf.parse(ctx)?;
     Ok((value, packet.len().saturating_sub(buf.len())))
+}
+
+/// Reads a value from the front of the bytes, and returns it with a buffer of the bytes after it.
+#[inline(always)]
+pub(crate) fn read_front<'s, 'a, T: MyDeserialize<'a> + Drop>(
+    alloc: Global,
+    bytes: &'a [u8],
+    ctx: T::Ctx,
+) -> Result<(T, ParseBuf<'a>), FaultOf<'s>>
+    ensures good { IfOk result (λ x. (T.form ctx).reads bytes.now ≡ Ok (x.0, x.1)) }
+    ensures tail { IfOk result (λ x. IsTail x.1 bytes.now) }
+    ensures refused { IfErr result (λ e. Faults (T.takes_memory ctx bytes.now) e ((T.form ctx).reads bytes.now)) }
+{
+    let mut buf = ParseBuf::new(alloc, bytes);
+    let value: T = buf.parse(ctx)?;
+    Ok((value, buf))
 }

@@ -2,9 +2,10 @@
 #![tactic(auto, using(mysql_stmt::proofs::SentBytes::plain))]
 
 ghost use Rattle.std.specs.List.{list_all};
-ghost use Rattle.std.specs.Prelude.{◌≡◌, ◌≤◌, ◌+◌, ◌++◌, drop, length};
+ghost use Rattle.std.specs.Prelude.{◌≡◌, ◌≤◌, ◌+◌, length};
 ghost use Rattle.mysql_stmt.specs.ExecuteParam.{param_of};
 ghost use Rattle.mysql_stmt.specs.SentParam.{bytes_under};
+ghost use Rattle.mysql_packets_c.specs.Appends.{Appends};
 ghost use Rattle.mysql_packets_c.specs.Parameter as spec;
 
 use crate::bulk::declared_type;
@@ -46,10 +47,7 @@ fn typed<'r>(parameter: &'r CParameter<'_>) -> TypedExecuteParam<'r>
 #[inline(never)]
 fn append_typed<O: Buffer>(parameter: &CParameter<'_>, as_long_data: bool, out: &mut O)
     requires { length (O.held out.old) + length (bytes_under as_long_data (spec.named_type parameter.now).param_type (spec.param_given parameter.now)) ≤ O.capacity out.old }
-    ensures items { O.held out.new ≡ O.held out.old ++ bytes_under as_long_data (spec.named_type parameter.now).param_type (spec.param_given parameter.now) }
-    ensures after { O.after out.new ≡ drop (length (bytes_under as_long_data (spec.named_type parameter.now).param_type (spec.param_given parameter.now))) (O.after out.old) }
-    ensures capacity { O.capacity out.old ≤ O.capacity out.new }
-    ensures kept { O.kept out.new ≡ O.kept out.old }
+    ensures { Appends O.held O.after O.capacity O.kept (bytes_under as_long_data (spec.named_type parameter.now).param_type (spec.param_given parameter.now)) out.old out.new }
 {
     typed(parameter).append_sent(as_long_data, out);
 }
@@ -59,10 +57,7 @@ fn append_typed<O: Buffer>(parameter: &CParameter<'_>, as_long_data: bool, out: 
 #[inline(always)]
 fn append_apart<O: Buffer>(parameter: &CParameter<'_>, as_long_data: bool, out: &mut O)
     requires { length (O.held out.old) + length (bytes_under as_long_data (spec.named_type parameter.now).param_type (spec.param_given parameter.now)) ≤ O.capacity out.old }
-    ensures items { O.held out.new ≡ O.held out.old ++ bytes_under as_long_data (spec.named_type parameter.now).param_type (spec.param_given parameter.now) }
-    ensures after { O.after out.new ≡ drop (length (bytes_under as_long_data (spec.named_type parameter.now).param_type (spec.param_given parameter.now))) (O.after out.old) }
-    ensures capacity { O.capacity out.old ≤ O.capacity out.new }
-    ensures kept { O.kept out.new ≡ O.kept out.old }
+    ensures { Appends O.held O.after O.capacity O.kept (bytes_under as_long_data (spec.named_type parameter.now).param_type (spec.param_given parameter.now)) out.old out.new }
 {
     let mut taken = out.taken();
     append_typed(parameter, as_long_data, &mut taken);

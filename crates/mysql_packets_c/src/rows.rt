@@ -2,14 +2,13 @@
 #![tactic(auto, using(crate::proofs::Codes::codes, crate::proofs::FilledRows::rows))]
 
 ghost use Rattle.std.specs.List.{list_all};
-ghost use Rattle.std.specs.Prelude.{◌≡◌, ◌<◌, ◌≤◌, OnOk, OnErr, IfErr, take, length, IsFalse, IsTrue};
-ghost use Rattle.mysql_stmt.specs.RowView.{Gives, IsDone, RefusesNext, bin_row_of, text_row_of};
+ghost use Rattle.std.specs.Prelude.{◌≡◌, ◌<◌, ◌≤◌, OnOk, IfErr, take, length, IsFalse, IsTrue};
+ghost use Rattle.mysql_stmt.specs.RowView.{IsDone, RefusesNext, bin_row_of, text_row_of};
 ghost use Rattle.mysql_stmt.specs.TextRow.{text_row_bytes};
 ghost use Rattle.mysql_packets_c.specs.ColumnType.{type_of, unsigned_of};
 ghost use Rattle.mysql_packets_c.specs.Output.{PutsUnlessTooLong};
 ghost use Rattle.mysql_packets_c.specs.Rows as spec;
 ghost use Rattle.mysql_packets_c.specs.Rows.{Fills, FillsGood, RowInto, TakesRow};
-ghost use Rattle.mysql_packets_c.specs.Value.{Sets, value_content};
 
 use crate::binary_row::{put_row, row_len};
 use crate::code::{BUFFER_TOO_SMALL, INVALID_INPUT, OK, code_of};
@@ -62,10 +61,7 @@ fn put_next<'a>(
     place: &mut CValue<'a>,
 ) -> Result<(), Fault>
     requires { 0 < row.old.left }
-    ensures value { OnOk result (Gives row.old (value_content place.new) row.new) }
-    ensures set { OnOk result (Sets (value_content place.new) place.old place.new) }
-    ensures refused { IfErr result (λ e. RefusesNext e row.new) }
-    ensures stays { OnErr result ((row.new ≡ row.old) × (place.new ≡ place.old)) }
+    ensures { spec.PutsNext result row.old row.new place.old place.new }
 {
     if let Some(value) = row.next_value()? {
         put_ref(place, value);
@@ -81,10 +77,7 @@ fn put_by_type<'a>(
     place: &mut CValue<'a>,
 ) -> Result<(), Fault>
     requires { 0 < row.old.left }
-    ensures value { OnOk result (Gives row.old (value_content place.new) row.new) }
-    ensures set { OnOk result (Sets (value_content place.new) place.old place.new) }
-    ensures refused { IfErr result (λ e. RefusesNext e row.new) }
-    ensures stays { OnErr result ((row.new ≡ row.old) × (place.new ≡ place.old)) }
+    ensures { spec.PutsNext result row.old row.new place.old place.new }
 {
     let (code, is_unsigned) = match row.next_column() {
         Some(column) => (column.column_type, column.is_unsigned),

@@ -4,10 +4,11 @@
 //! are written. The most frequent kinds are found by one comparison before the others: a table of all kinds
 //! takes seven instructions for each value.
 
-ghost use Rattle.std.specs.Prelude.{◌≡◌, ◌≤◌, ◌⊎◌, ◌+◌, ◌++◌, Bool, drop, false, length};
+ghost use Rattle.std.specs.Prelude.{◌≡◌, ◌≤◌, ◌⊎◌, ◌+◌, Bool, false, length};
 ghost use Rattle.mysql_stmt.specs.ExecuteParam.{param_bytes};
 ghost use Rattle.mysql_stmt.specs.SentParam.{bytes_under};
 ghost use Rattle.mysql_wire.specs.Writing.{le_bytes};
+ghost use Rattle.mysql_packets_c.specs.Appends.{Appends};
 ghost use Rattle.mysql_packets_c.specs.Execution as spec;
 
 use crate::value::{CValue, is_offset_date, is_param, is_value, to_date_with_offset, to_ref};
@@ -35,10 +36,7 @@ pub(crate) fn eight_bytes(value: &CValue<'_>) -> u64
 #[tactic(auto, using(mysql_stmt::proofs::SentBytes::plain), unfolding(crate::specs::Value::value_content))]
 fn append_any<O: Buffer>(value: &CValue<'_>, as_long_data: bool, out: &mut O)
     requires { length (O.held out.old) + length (param_bytes as_long_data (spec.param value.now)) ≤ O.capacity out.old }
-    ensures items { O.held out.new ≡ O.held out.old ++ param_bytes as_long_data (spec.param value.now) }
-    ensures after { O.after out.new ≡ drop (length (param_bytes as_long_data (spec.param value.now))) (O.after out.old) }
-    ensures capacity { O.capacity out.old ≤ O.capacity out.new }
-    ensures kept { O.kept out.new ≡ O.kept out.old }
+    ensures { Appends O.held O.after O.capacity O.kept (param_bytes as_long_data (spec.param value.now)) out.old out.new }
 {
     value.as_execute_param().append_sent(as_long_data, out);
 }
@@ -49,10 +47,7 @@ fn append_any<O: Buffer>(value: &CValue<'_>, as_long_data: bool, out: &mut O)
 #[tactic(auto, using(mysql_stmt::proofs::SentBytes::plain), unfolding(crate::specs::Value::value_content))]
 fn append_apart<O: Buffer>(value: &CValue<'_>, as_long_data: bool, out: &mut O)
     requires { length (O.held out.old) + length (param_bytes as_long_data (spec.param value.now)) ≤ O.capacity out.old }
-    ensures items { O.held out.new ≡ O.held out.old ++ param_bytes as_long_data (spec.param value.now) }
-    ensures after { O.after out.new ≡ drop (length (param_bytes as_long_data (spec.param value.now))) (O.after out.old) }
-    ensures capacity { O.capacity out.old ≤ O.capacity out.new }
-    ensures kept { O.kept out.new ≡ O.kept out.old }
+    ensures { Appends O.held O.after O.capacity O.kept (param_bytes as_long_data (spec.param value.now)) out.old out.new }
 {
     let mut taken = out.taken();
     append_any(value, as_long_data, &mut taken);

@@ -5,13 +5,15 @@ ghost use Rattle.std.specs.Prelude.{◌≡◌, ◌≢◌, [], IfErr, IfOk, Ok, f
 ghost use Rattle.mysql_replies.specs.SentChange.{info_of};
 ghost use Rattle.mysql_replies.specs.SessionStateInfo.{data_type, data_bytes, session_state_info};
 ghost use Rattle.mysql_session.specs.SystemVariable.{system_variable};
-ghost use Rattle.mysql_wire.specs.Reading.{Faults};
+ghost use Rattle.mysql_wire.specs.Reading.{Faults, IsTail};
 ghost use Rattle.mysql_wire.specs.SessionStateType.{session_state_type_of};
 ghost use Rattle.mysql_wire.specs.declared.codes.session_state_type.SessionStateType.{SessionStateType};
+ghost use Rattle.mysql_packets_c.specs.Input.{IsRestOf};
 ghost use Rattle.mysql_packets_c.specs.Output.{PutsUnlessTooLong};
 ghost use Rattle.mysql_packets_c.specs.SessionChange.{Entry, IsChange, IsVariable, NextInto, change_text, entry_in, tracked, variables_of};
 
 use crate::code::{END, INVALID_INPUT, OK, code_of};
+use crate::input::read_front;
 use crate::output::put_packet;
 use crate::text::CBytes;
 use mysql_replies::{SessionStateInfo, SessionStateInfoRef};
@@ -59,19 +61,26 @@ fn variables_in<'a>(data_type: SessionStateType, content: &'a [u8]) -> &'a [u8]
     }
 }
 
-/// Returns the entry at the front of the bytes, its change, and the bytes after it.
+/// Returns the entry at the front of the bytes, its change, and a buffer of the bytes after it.
 #[inline(always)]
 fn next_entry<'a>(
     alloc: Global,
     bytes: &'a [u8],
-) -> Result<(SessionStateInfoRef<'a>, SessionStateChangeRef<'a>, &'a [u8]), Fault>
-    ensures good { IfOk result (λ x. entry_in bytes.now ≡ Ok ((x.0, x.1), x.2.now)) }
+) -> Result<
+    (
+        SessionStateInfoRef<'a>,
+        SessionStateChangeRef<'a>,
+        ParseBuf<'a>,
+    ),
+    Fault,
+>
+    ensures good { IfOk result (λ x. entry_in bytes.now ≡ Ok ((x.0, x.1), x.2)) }
+    ensures tail { IfOk result (λ x. IsTail x.2 bytes.now) }
     ensures refused { IfErr result (λ e. Faults {A = Entry} false e (entry_in bytes.now)) }
 {
-    let mut buf = ParseBuf::new(alloc, bytes);
-    let info: SessionStateInfoRef<'a> = buf.parse(())?;
+    let (info, after) = read_front::<SessionStateInfoRef<'a>>(alloc, bytes, ())?;
     let change = info.decode_wire()?;
-    Ok((info, change, buf.eat_all()))
+    Ok((info, change, after))
 }
 
 /// Takes the next change off the front; returns 7 if none is left. After any other code, both outputs are unchanged.
@@ -83,6 +92,7 @@ pub extern "C" fn myp_next_change<'a>(
 ) -> u32
     ensures end { rest.old.bytes.now ≡ [] → (result ≡ 7) × (rest.new ≡ rest.old) × (out.new ≡ out.old) }
     ensures value { rest.old.bytes.now ≢ [] → NextInto IsChange (entry_in rest.old.bytes.now) result rest.old rest.new out.old out.new }
+    ensures place { IsRestOf rest.new rest.old }
 {
     if rest.bytes.is_empty() {
         return END;
@@ -95,22 +105,11 @@ pub extern "C" fn myp_next_change<'a>(
             out.variables = variables_in(info.data_type(), info.data_ref());
             out.change_type = info.data_type().code();
             out.is_tracked = is_tracked;
-            rest.bytes = after;
+            rest.move_to(&after);
             OK
         }
         Err(fault) => code_of(&fault),
     }
-}
-
-/// Returns the variable at the front of the bytes, and the bytes after it.
-#[inline(always)]
-fn next_pair<'a>(alloc: Global, bytes: &'a [u8]) -> Result<(SystemVariableRef<'a>, &'a [u8]), Fault>
-    ensures good { IfOk result (λ x. (system_variable.form tt).reads bytes.now ≡ Ok (x.0, x.1.now)) }
-    ensures refused { IfErr result (λ e. Faults false e ((system_variable.form tt).reads bytes.now)) }
-{
-    let mut buf = ParseBuf::new(alloc, bytes);
-    let variable: SystemVariableRef<'a> = buf.parse(())?;
-    Ok((variable, buf.eat_all()))
 }
 
 /// Takes the next variable off the front; returns 7 if none is left. After any other code, the outputs are unchanged.
@@ -123,15 +122,16 @@ pub extern "C" fn myp_next_variable<'a>(
 ) -> u32
     ensures end { rest.old.bytes.now ≡ [] → (result ≡ 7) × (rest.new ≡ rest.old) × (name.new ≡ name.old) × (value.new ≡ value.old) }
     ensures value { rest.old.bytes.now ≢ [] → NextInto IsVariable ((system_variable.form tt).reads rest.old.bytes.now) result rest.old rest.new (name.old, value.old) (name.new, value.new) }
+    ensures place { IsRestOf rest.new rest.old }
 {
     if rest.bytes.is_empty() {
         return END;
     }
-    match next_pair(alloc, rest.bytes) {
+    match read_front::<SystemVariableRef<'a>>(alloc, rest.bytes, ()) {
         Ok((variable, after)) => {
             name.bytes = variable.name();
             value.bytes = variable.value();
-            rest.bytes = after;
+            rest.move_to(&after);
             OK
         }
         Err(fault) => code_of(&fault),

@@ -7,6 +7,7 @@ ghost use Rattle.mysql_repl.specs.GnoInterval.{interval};
 ghost use Rattle.mysql_repl.specs.Sid as lib;
 ghost use Rattle.mysql_repl.specs.SidText.{read_sid};
 ghost use Rattle.mysql_repl.specs.declared.sid.Sid.{Sid};
+ghost use Rattle.mysql_packets_c.specs.Input.{IsRestOf};
 ghost use Rattle.mysql_packets_c.specs.Given.{is_set};
 ghost use Rattle.mysql_packets_c.specs.Sid as spec;
 ghost use Rattle.mysql_packets_c.specs.Sid.{PutsParts, RefusesText, SidInto, tag_held};
@@ -39,6 +40,7 @@ pub extern "C" fn myp_next_interval<'a>(
 ) -> u32
     ensures end { rest.old.bytes.now ≡ [] → (result ≡ 7) × (rest.new ≡ rest.old) × (out.new ≡ out.old) }
     ensures value { rest.old.bytes.now ≢ [] → spec.NextInterval ((interval.form tt).reads rest.old.bytes.now) result rest.old rest.new out.old out.new }
+    ensures place { IsRestOf rest.new rest.old }
 {
     if rest.bytes.is_empty() {
         return END;
@@ -50,7 +52,7 @@ pub extern "C" fn myp_next_interval<'a>(
     };
     out.start = next.start();
     out.end = next.end();
-    rest.bytes = buf.eat_all();
+    rest.move_to(&buf);
     OK
 }
 
@@ -86,6 +88,7 @@ pub extern "C" fn myp_next_sid<'a>(
 ) -> u32
     ensures end { rest.old.bytes.now ≡ [] → (result ≡ 7) × (rest.new ≡ rest.old) × (out.new ≡ out.old) }
     ensures value { rest.old.bytes.now ≢ [] → spec.NextSid (((lib.sid_as (is_set is_tagged)).form tt).reads rest.old.bytes.now) result rest.old rest.new out.old out.new }
+    ensures place { IsRestOf rest.new rest.old }
 {
     if rest.bytes.is_empty() {
         return END;
@@ -94,7 +97,7 @@ pub extern "C" fn myp_next_sid<'a>(
     match SidRef::parse_as(is_tagged != 0, &mut buf) {
         Ok(found) => {
             put_places(found, out);
-            rest.bytes = buf.eat_all();
+            rest.move_to(&buf);
             OK
         }
         Err(fault) => code_of(&fault),

@@ -1,20 +1,20 @@
 //! The request for the rows of a table.
 #![tactic(auto, using(crate::proofs::Codes::codes))]
 
-ghost use Rattle.std.specs.Prelude.{◌≡◌, ◌≢◌};
-ghost use Rattle.mysql_repl.specs.TableDump.{size-table_dump, table_dump};
+ghost use Rattle.std.specs.Prelude.{◌≡◌, ◌-◌, ℕ, List, Ok, IfErr, IfOk, false, length};
+ghost use Rattle.mysql_repl.specs.TableDump.{dump_of, table_dump};
+ghost use Rattle.mysql_wire.specs.Reading.{Faults};
 ghost use Rattle.mysql_packets_c.specs.Code.{ReadsInto};
+ghost use Rattle.mysql_packets_c.specs.Input.{used_of};
 ghost use Rattle.mysql_packets_c.specs.Output.{PutsUnlessTooLong};
 ghost use Rattle.mysql_packets_c.specs.TableDump.{IsTableDump, request_of};
 
 use crate::code::{OK, code_of};
-use crate::input::read;
 use crate::output::put_packet;
 use mysql_repl::{ComTableDump, ComTableDumpHeader};
-use mysql_wire::{AnyWidth, BytesRepr, FaultOf, MyDeserialize, ParseBuf, U8Bytes};
+use mysql_wire::{BytesRepr, Fault, ParseBuf, U8Bytes};
 use std::alloc::Global;
 use std::borrow::CowSlice;
-use std::marker::Model;
 
 /// `myp_table_dump` of the C header.
 #[repr(C)]
@@ -25,42 +25,18 @@ pub struct CTableDump<'a> {
     pub used: usize,
 }
 
-/// A request with borrowed names. In a clause it is that request.
-#[derive(Drop)]
-struct TableDumpRef<'a> {
-    database: &'a [u8],
-    table: &'a [u8],
-}
-
-impl<'a> Model for TableDumpRef<'a> {
-    ghost use Rattle.mysql_repl.specs.TableDump.{dump_of};
-    ghost use Rattle.mysql_repl.specs.declared.table_dump.ComTableDump.{ComTableDump};
-
-    ghost Value = { ComTableDump };
-
-    ghost view = { λ p. dump_of p.database.now p.table.now };
-}
-
+/// Reads the names of the database and of the table, and returns them with the number of bytes.
+#[inline(always)]
 #[tactic(auto, using(mysql_wire::proofs::Packets::packets), unfolding(mysql_repl::specs::TableDump::table_dump))]
-impl<'de> MyDeserialize<'de> for TableDumpRef<'de> {
-    const SIZE: Option<usize> = None;
-
-    type Size = AnyWidth;
-
-    type Ctx = ();
-
-    ghost form = { table_dump.form };
-
-    fn deserialize<'s>(_ctx: (), buf: &mut ParseBuf<'de>) -> Result<Self, FaultOf<'s>> {
-        let mut rest = buf.rest();
-        let _header: ComTableDumpHeader = rest.parse(())?;
-        let database = <U8Bytes as BytesRepr>::deserialize((), &mut rest)?.eat_all();
-        let table = <U8Bytes as BytesRepr>::deserialize((), &mut rest)?.eat_all();
-        *buf = rest;
-        Ok(TableDumpRef { database, table })
-    }
-
-    ghost size_is = { λ _. size-table_dump };
+fn read_names<'a>(alloc: Global, packet: &'a [u8]) -> Result<(&'a [u8], &'a [u8], usize), Fault>
+    ensures read { IfOk result (λ x. (rest : List ℕ) × ((table_dump.form tt).reads packet.now ≡ Ok (dump_of x.0.now x.1.now, rest)) × (x.2 ≡ used_of packet.now rest)) }
+    ensures refused { IfErr result (λ e. Faults false e ((table_dump.form tt).reads packet.now)) }
+{
+    let mut rest = ParseBuf::new(alloc, packet);
+    let _header: ComTableDumpHeader = rest.parse(())?;
+    let database = <U8Bytes as BytesRepr>::deserialize((), &mut rest)?.eat_all();
+    let table = <U8Bytes as BytesRepr>::deserialize((), &mut rest)?.eat_all();
+    Ok((database, table, packet.len().saturating_sub(rest.len())))
 }
 
 /// Reads `COM_TABLE_DUMP`. After an error (1 or 2) the struct is unchanged.
@@ -72,10 +48,10 @@ pub extern "C" fn myp_read_table_dump<'a>(
 ) -> u32
     ensures value { ReadsInto (IsTableDump packet.now) ((table_dump.form tt).reads packet.now) result out.old out.new }
 {
-    match read::<TableDumpRef<'a>>(alloc, packet, ()) {
-        Ok((found, used)) => {
-            out.database = found.database;
-            out.table = found.table;
+    match read_names(alloc, packet) {
+        Ok((database, table, used)) => {
+            out.database = database;
+            out.table = table;
             out.used = used;
             OK
         }

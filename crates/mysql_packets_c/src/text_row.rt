@@ -2,10 +2,11 @@
 #![tactic(auto, using(mysql_wire::proofs::After::after))]
 
 ghost use Rattle.std.specs.List.{flat_map, list_all};
-ghost use Rattle.std.specs.Prelude.{◌≡◌, ◌+◌, ◌++◌, ◌≤◌, MatchOption, drop, false, length, true};
+ghost use Rattle.std.specs.Prelude.{◌≡◌, ◌+◌, ◌≤◌, MatchOption, false, length, true};
 ghost use Rattle.mysql_wire.specs.LenEnc.{lenenc_string_bytes};
 ghost use Rattle.mysql_wire.specs.Writing.{saturated};
 ghost use Rattle.mysql_stmt.specs.TextRow.{text_cell_bytes, text_row_bytes};
+ghost use Rattle.mysql_packets_c.specs.Appends.{Appends};
 ghost use Rattle.mysql_packets_c.specs.Rows.{cell_of, cells_of, is_cell};
 
 use crate::left::Left;
@@ -80,10 +81,7 @@ pub(crate) fn cells_len(values: &[CValue<'_>]) -> Option<usize>
 #[inline(always)]
 fn append_cell<O: Buffer>(value: &CValue<'_>, out: &mut O)
     requires { length (O.held out.old) + length (text_cell_bytes (cell_of value.now)) ≤ O.capacity out.old }
-    ensures items { O.held out.new ≡ O.held out.old ++ text_cell_bytes (cell_of value.now) }
-    ensures after { O.after out.new ≡ drop (length (text_cell_bytes (cell_of value.now))) (O.after out.old) }
-    ensures capacity { O.capacity out.old ≤ O.capacity out.new }
-    ensures kept { O.kept out.new ≡ O.kept out.old }
+    ensures { Appends O.held O.after O.capacity O.kept (text_cell_bytes (cell_of value.now)) out.old out.new }
 {
     if value.kind == 0 {
         out.push_byte(NULL_CELL);
@@ -97,10 +95,7 @@ fn append_cell<O: Buffer>(value: &CValue<'_>, out: &mut O)
 #[inline(always)]
 fn append_cells<O: Buffer>(values: &[CValue<'_>], out: &mut O)
     requires { length (O.held out.old) + length (flat_map (λ v. text_cell_bytes (cell_of v)) values.now) ≤ O.capacity out.old }
-    ensures items { O.held out.new ≡ O.held out.old ++ flat_map (λ v. text_cell_bytes (cell_of v)) values.now }
-    ensures after { O.after out.new ≡ drop (length (flat_map (λ v. text_cell_bytes (cell_of v)) values.now)) (O.after out.old) }
-    ensures capacity { O.capacity out.old ≤ O.capacity out.new }
-    ensures kept { O.kept out.new ≡ O.kept out.old }
+    ensures { Appends O.held O.after O.capacity O.kept (flat_map (λ v. text_cell_bytes (cell_of v)) values.now) out.old out.new }
 {
     let mut bytes = out.taken();
     let mut left = Left { items: values };

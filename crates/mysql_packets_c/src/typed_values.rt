@@ -1,7 +1,8 @@
 //! Types and values of parameters, written in one pass: each to a buffer of its own.
 
 ghost use Rattle.std.specs.List.{flat_map};
-ghost use Rattle.std.specs.Prelude.{◌≡◌, ◌+◌, ◌++◌, ◌≤◌, drop, length};
+ghost use Rattle.std.specs.Prelude.{◌≡◌, ◌+◌, ◌≤◌, length};
+ghost use Rattle.mysql_packets_c.specs.Appends.{Appends};
 ghost use Rattle.mysql_packets_c.specs.CheckedParams.{sent_bytes, type_sent};
 
 use crate::left::Left;
@@ -17,14 +18,8 @@ use mysql_wire::{Buffer, BytesRepr, IntRepr, LeU64, LenEnc, MySerialize, SliceWr
 fn append_any<T: Buffer, V: Buffer>(parameter: &CParameter<'_>, types: &mut T, values: &mut V)
     requires type_fits { length (T.held types.old) + length (type_sent parameter.now) ≤ T.capacity types.old }
     requires value_fits { length (V.held values.old) + length (sent_bytes parameter.now) ≤ V.capacity values.old }
-    ensures type_items { T.held types.new ≡ T.held types.old ++ type_sent parameter.now }
-    ensures type_after { T.after types.new ≡ drop (length (type_sent parameter.now)) (T.after types.old) }
-    ensures type_capacity { T.capacity types.old ≤ T.capacity types.new }
-    ensures type_kept { T.kept types.new ≡ T.kept types.old }
-    ensures value_items { V.held values.new ≡ V.held values.old ++ sent_bytes parameter.now }
-    ensures value_after { V.after values.new ≡ drop (length (sent_bytes parameter.now)) (V.after values.old) }
-    ensures value_capacity { V.capacity values.old ≤ V.capacity values.new }
-    ensures value_kept { V.kept values.new ≡ V.kept values.old }
+    ensures types { Appends T.held T.after T.capacity T.kept (type_sent parameter.now) types.old types.new }
+    ensures values { Appends V.held V.after V.capacity V.kept (sent_bytes parameter.now) values.old values.new }
 {
     parameter.sent_type().append(types);
     parameter.append_sent(false, values);
@@ -36,14 +31,8 @@ fn append_any<T: Buffer, V: Buffer>(parameter: &CParameter<'_>, types: &mut T, v
 fn append_apart<T: Buffer, V: Buffer>(parameter: &CParameter<'_>, types: &mut T, values: &mut V)
     requires type_fits { length (T.held types.old) + length (type_sent parameter.now) ≤ T.capacity types.old }
     requires value_fits { length (V.held values.old) + length (sent_bytes parameter.now) ≤ V.capacity values.old }
-    ensures type_items { T.held types.new ≡ T.held types.old ++ type_sent parameter.now }
-    ensures type_after { T.after types.new ≡ drop (length (type_sent parameter.now)) (T.after types.old) }
-    ensures type_capacity { T.capacity types.old ≤ T.capacity types.new }
-    ensures type_kept { T.kept types.new ≡ T.kept types.old }
-    ensures value_items { V.held values.new ≡ V.held values.old ++ sent_bytes parameter.now }
-    ensures value_after { V.after values.new ≡ drop (length (sent_bytes parameter.now)) (V.after values.old) }
-    ensures value_capacity { V.capacity values.old ≤ V.capacity values.new }
-    ensures value_kept { V.kept values.new ≡ V.kept values.old }
+    ensures types { Appends T.held T.after T.capacity T.kept (type_sent parameter.now) types.old types.new }
+    ensures values { Appends V.held V.after V.capacity V.kept (sent_bytes parameter.now) values.old values.new }
 {
     let mut types_taken = types.taken();
     let mut values_taken = values.taken();
@@ -58,14 +47,8 @@ fn append_apart<T: Buffer, V: Buffer>(parameter: &CParameter<'_>, types: &mut T,
 fn append_one<T: Buffer, V: Buffer>(parameter: &CParameter<'_>, types: &mut T, values: &mut V)
     requires type_fits { length (T.held types.old) + length (type_sent parameter.now) ≤ T.capacity types.old }
     requires value_fits { length (V.held values.old) + length (sent_bytes parameter.now) ≤ V.capacity values.old }
-    ensures type_items { T.held types.new ≡ T.held types.old ++ type_sent parameter.now }
-    ensures type_after { T.after types.new ≡ drop (length (type_sent parameter.now)) (T.after types.old) }
-    ensures type_capacity { T.capacity types.old ≤ T.capacity types.new }
-    ensures type_kept { T.kept types.new ≡ T.kept types.old }
-    ensures value_items { V.held values.new ≡ V.held values.old ++ sent_bytes parameter.now }
-    ensures value_after { V.after values.new ≡ drop (length (sent_bytes parameter.now)) (V.after values.old) }
-    ensures value_capacity { V.capacity values.old ≤ V.capacity values.new }
-    ensures value_kept { V.kept values.new ≡ V.kept values.old }
+    ensures types { Appends T.held T.after T.capacity T.kept (type_sent parameter.now) types.old types.new }
+    ensures values { Appends V.held V.after V.capacity V.kept (sent_bytes parameter.now) values.old values.new }
 {
     if parameter.has_type == 0 && parameter.is_sent_ahead == 0 {
         match parameter.value.kind {
@@ -93,14 +76,8 @@ fn append_one<T: Buffer, V: Buffer>(parameter: &CParameter<'_>, types: &mut T, v
 fn append_all<T: Buffer, V: Buffer>(items: &[CParameter<'_>], types: &mut T, values: &mut V)
     requires type_fits { length (T.held types.old) + length (flat_map type_sent items.now) ≤ T.capacity types.old }
     requires value_fits { length (V.held values.old) + length (flat_map sent_bytes items.now) ≤ V.capacity values.old }
-    ensures type_items { T.held types.new ≡ T.held types.old ++ flat_map type_sent items.now }
-    ensures type_after { T.after types.new ≡ drop (length (flat_map type_sent items.now)) (T.after types.old) }
-    ensures type_capacity { T.capacity types.old ≤ T.capacity types.new }
-    ensures type_kept { T.kept types.new ≡ T.kept types.old }
-    ensures value_items { V.held values.new ≡ V.held values.old ++ flat_map sent_bytes items.now }
-    ensures value_after { V.after values.new ≡ drop (length (flat_map sent_bytes items.now)) (V.after values.old) }
-    ensures value_capacity { V.capacity values.old ≤ V.capacity values.new }
-    ensures value_kept { V.kept values.new ≡ V.kept values.old }
+    ensures types { Appends T.held T.after T.capacity T.kept (flat_map type_sent items.now) types.old types.new }
+    ensures values { Appends V.held V.after V.capacity V.kept (flat_map sent_bytes items.now) values.old values.new }
 {
     let mut types_taken = types.taken();
     let mut values_taken = values.taken();

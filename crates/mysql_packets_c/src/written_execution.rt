@@ -2,7 +2,7 @@
 #![tactic(auto, using(crate::proofs::WrittenExecutions::written_executions))]
 
 ghost use Rattle.std.specs.Option.{option_copied};
-ghost use Rattle.std.specs.Prelude.{◌≡◌, ◌≤◌, ◌-◌, ◌^◌, ◌&&◌, None, false, length, true};
+ghost use Rattle.std.specs.Prelude.{◌≡◌, ◌≤◌, ◌-◌, ◌^◌, ◌&&◌, List, None, false, length, true};
 ghost use Rattle.mysql_stmt.specs.Execution.{execution_bytes};
 ghost use Rattle.mysql_wire.specs.Writing.{saturated};
 ghost use Rattle.mysql_packets_c.specs.CheckedParams.{may_send};
@@ -12,6 +12,7 @@ ghost use Rattle.mysql_stmt.specs.ExecuteWithOptions as library;
 ghost use Rattle.mysql_packets_c.specs.Parameter.{are_parameters, if_agreed, named_type, param_given, sent};
 ghost use Rattle.mysql_packets_c.specs.WrittenExecution as spec;
 ghost use Rattle.mysql_packets_c.specs.WrittenExecution.{IsRefused, PutsExecution};
+ghost use Rattle.mysql_packets_c.specs.declared.parameter.CParameter.{CParameter};
 
 use crate::checked_execution::{CheckedExecution, put_over};
 use crate::checked_params::checked;
@@ -62,6 +63,25 @@ fn iterations_sent(count: u32) -> u32
     ensures { result ≡ spec.iterations_sent count }
 {
     if count == 0 { 1 } else { count }
+}
+
+/// Returns the builder of an execution with these attributes and options.
+#[inline(always)]
+fn builder_of<'r, 'a>(
+    statement_id: u32,
+    attributes: &'r [CParameter<'a>],
+    options: &CExecutionOptions,
+    capabilities: u32,
+) -> ComStmtExecuteOptionsBuilder<'r, CParameter<'a>>
+    ensures { (params : List CParameter) → library.asked param_given named_type result (sent params) ≡ spec.execution_of statement_id params attributes.now options.now capabilities }
+{
+    ComStmtExecuteOptionsBuilder {
+        stmt_id: statement_id,
+        flags: flags_sent(capabilities, options.flags),
+        iteration_count: iterations_sent(options.iteration_count),
+        sends_types: options.omits_types == 0,
+        attributes: if_agreed(capabilities, attributes),
+    }
 }
 
 /// Writes the execution that the builder builds of these parameters, or nothing if a type can't encode its value.
@@ -145,24 +165,6 @@ fn put_plain(
     put_counted(&execution, len, out, written)
 }
 
-/// Writes an execution with names, and with attributes if there are any.
-fn put_named(
-    builder: ComStmtExecuteOptionsBuilder<'_, CParameter<'_>>,
-    params: &[CParameter<'_>],
-    out: &mut [u8],
-    written: &mut usize,
-    as_long_data: &mut u8,
-) -> u32
-    ensures spelled { (are_parameters params.now && spec.is_spelled (library.asked param_given named_type builder.entry (sent params.now))) ≡ true → PutsExecution (library.asked param_given named_type builder.entry (sent params.now)) result out.old out.new written.new as_long_data.new }
-    ensures refused { (are_parameters params.now && spec.is_spelled (library.asked param_given named_type builder.entry (sent params.now))) ≡ false → IsRefused result out.old out.new written.new as_long_data.old as_long_data.new }
-{
-    if !are_parameters(params) {
-        *written = 0;
-        return INVALID_INPUT;
-    }
-    put_execution(builder, params, out, written, as_long_data)
-}
-
 /// Writes the execution that the builder builds of these parameters, if all are valid.
 fn put_asked(
     builder: ComStmtExecuteOptionsBuilder<'_, CParameter<'_>>,
@@ -174,11 +176,14 @@ fn put_asked(
     ensures spelled { (are_parameters params.now && spec.is_spelled (library.asked param_given named_type builder.entry (sent params.now))) ≡ true → PutsExecution (library.asked param_given named_type builder.entry (sent params.now)) result out.old out.new written.new as_long_data.new }
     ensures refused { (are_parameters params.now && spec.is_spelled (library.asked param_given named_type builder.entry (sent params.now))) ≡ false → IsRefused result out.old out.new written.new as_long_data.old as_long_data.new }
 {
-    if builder.attributes.is_some() {
-        put_named(builder, params, out, written, as_long_data)
-    } else {
-        put_plain(builder, params, out, written, as_long_data)
+    if builder.attributes.is_none() {
+        return put_plain(builder, params, out, written, as_long_data);
     }
+    if !are_parameters(params) {
+        *written = 0;
+        return INVALID_INPUT;
+    }
+    put_execution(builder, params, out, written, as_long_data)
 }
 
 /// Writes `COM_STMT_EXECUTE` with these parameters, and with attributes if both sides agreed on them.
@@ -203,12 +208,6 @@ pub extern "C" fn myp_write_execution(
         *written = 0;
         return INVALID_INPUT;
     }
-    let builder = ComStmtExecuteOptionsBuilder {
-        stmt_id: statement_id,
-        flags: flags_sent(capabilities, options.flags),
-        iteration_count: iterations_sent(options.iteration_count),
-        sends_types: options.omits_types == 0,
-        attributes: if_agreed(capabilities, attributes),
-    };
+    let builder = builder_of(statement_id, attributes, options, capabilities);
     put_asked(builder, params, out, written, as_long_data)
 }

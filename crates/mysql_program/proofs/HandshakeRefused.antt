@@ -8,9 +8,7 @@ use Rattle.mysql_program.specs.Answer.{Answer, IsFaultRefusal}
 use Rattle.mysql_program.specs.HandshakeLines.{AnswersReading}
 
 pub refused_handshake : (takes_memory : Bool) (e : FaultOf) (read : Reading HandshakePacket) (answer : Answer) → Faults takes_memory e read → IsFaultRefusal [] e answer → AnswersReading read answer
-refused_handshake takes_memory fault.UnexpectedEof read answer e is = rw e is
-refused_handshake takes_memory (fault.InvalidData text) read answer e is = rw e is
-refused_handshake takes_memory (fault.InvalidInput text) read answer e is = rw e is
 refused_handshake takes_memory fault.Memory read answer e is = absurd is
+refused_handshake takes_memory _ read answer e is = rw e is
 
 pub ruleset handshake_refusals = (refused_handshake)

@@ -11,21 +11,15 @@ use Rattle.mysql_program.specs.Answer.{Answer, IsFaultRefusal}
 use Rattle.mysql_program.specs.Ok.{packet_answer, with_session_state, with_change}
 
 pub refused_packet : (layout : ChangeLayout) (takes_memory : Bool) (e : FaultOf) (read : Reading OkPacket) (answer : Answer) → Faults takes_memory e read → IsFaultRefusal [] e answer → answer ≡ packet_answer layout read
-refused_packet layout takes_memory fault.UnexpectedEof read answer e is = rw e is
-refused_packet layout takes_memory (fault.InvalidData text) read answer e is = rw e is
-refused_packet layout takes_memory (fault.InvalidInput text) read answer e is = rw e is
 refused_packet layout takes_memory fault.Memory read answer e is = absurd is
+refused_packet layout takes_memory _ read answer e is = rw e is
 
 pub refused_state : (layout : ChangeLayout) (takes_memory : Bool) (e : FaultOf) (lines : List ℕ) (rest : ℕ) (read : Reading (List SessionStateInfo)) (answer : Answer) → Faults takes_memory e read → IsFaultRefusal lines e answer → answer ≡ with_session_state layout lines rest read
-refused_state layout takes_memory fault.UnexpectedEof lines rest read answer e is = rw e is
-refused_state layout takes_memory (fault.InvalidData text) lines rest read answer e is = rw e is
-refused_state layout takes_memory (fault.InvalidInput text) lines rest read answer e is = rw e is
 refused_state layout takes_memory fault.Memory lines rest read answer e is = absurd is
+refused_state layout takes_memory _ lines rest read answer e is = rw e is
 
 pub refused_change : (takes_memory : Bool) (e : FaultOf) (lines : List ℕ) (read : Reading SessionStateChange) (next : List ℕ → Answer) (answer : Answer) → Faults takes_memory e read → IsFaultRefusal lines e answer → answer ≡ with_change lines read next
-refused_change takes_memory fault.UnexpectedEof lines read next answer e is = rw e is
-refused_change takes_memory (fault.InvalidData text) lines read next answer e is = rw e is
-refused_change takes_memory (fault.InvalidInput text) lines read next answer e is = rw e is
 refused_change takes_memory fault.Memory lines read next answer e is = absurd is
+refused_change takes_memory _ lines read next answer e is = rw e is
 
 pub ruleset ok_refusals = (refused_packet, refused_state, refused_change)

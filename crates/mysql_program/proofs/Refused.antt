@@ -6,9 +6,7 @@ use Rattle.mysql_wire.specs.Reading.{Reading, Faults}
 use Rattle.mysql_program.specs.Answer.{Answer, of_reading, IsFaultRefusal}
 
 pub refused_reading : {A : Type 0} (takes_memory : Bool) (e : FaultOf) (lines : A → ℕ → List ℕ) (read : Reading A) (answer : Answer) → Faults takes_memory e read → IsFaultRefusal [] e answer → answer ≡ of_reading lines read
-refused_reading takes_memory fault.UnexpectedEof lines read answer e is = rw e is
-refused_reading takes_memory (fault.InvalidData text) lines read answer e is = rw e is
-refused_reading takes_memory (fault.InvalidInput text) lines read answer e is = rw e is
 refused_reading takes_memory fault.Memory lines read answer e is = absurd is
+refused_reading takes_memory _ lines read answer e is = rw e is
 
 pub ruleset refusals = (refused_reading)

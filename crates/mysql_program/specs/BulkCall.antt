@@ -55,9 +55,7 @@ options_of (word ∷ words) = if is_named word (codes "types") then after_types 
 
 abbrev pub with_options : Option ℕ → Option ℕ → Option Options → Option BulkCall
 with_options (Some stmt_id) (Some most) (Some options) = Some (record { stmt_id = stmt_id; max_allowed_packet = most; rule = options.0; columns = options.1 })
-with_options (Some stmt_id) (Some most) None = None
-with_options (Some stmt_id) None options = None
-with_options None most options = None
+with_options _ _ _ = None
 
 -- STMT MAX [types] [rows=K] [columns=TYPE,TYPE,..]. STMT has 32 bits; MAX is at least 4, and has 64 bits.
 abbrev pub bulk_call : List (List ℕ) → Option BulkCall

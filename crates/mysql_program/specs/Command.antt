@@ -35,10 +35,7 @@ err_call _ = None
 
 abbrev pub ok_command : Option OkKind → Option CapabilityFlags → Option (List ℕ) → Option ChangeLayout → Option Command
 ok_command (Some kind) (Some capabilities) (Some bytes) (Some layout) = Some (command.Ok kind capabilities bytes layout)
-ok_command (Some kind) (Some capabilities) (Some bytes) None = None
-ok_command (Some kind) (Some capabilities) None layout = None
-ok_command (Some kind) None bytes layout = None
-ok_command None capabilities bytes layout = None
+ok_command _ _ _ _ = None
 
 -- KIND CAPS HEX [as-sent]
 unfoldable pub ok_call : List (List ℕ) → Option Command

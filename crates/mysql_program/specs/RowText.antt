@@ -77,14 +77,11 @@ rows_read rows = map row_read rows
 
 -- a value that needs no declared type: NULL, bytes or an integer
 abbrev pub is_plain : Content → Bool
-is_plain NULL = true
-is_plain (Bytes bytes) = true
-is_plain (Int n) = true
-is_plain (UInt n) = true
 is_plain (Float bits) = false
 is_plain (Double bits) = false
 is_plain (Date date) = false
 is_plain (Time time) = false
+is_plain _ = true
 
 abbrev pub value_in : Cell → Option Content
 value_in (Given value) = if is_plain value then Some value else None

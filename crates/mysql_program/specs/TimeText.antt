@@ -29,10 +29,7 @@ number_at bits from count word = number_below (2 ^ bits) (take count (drop from 
 
 abbrev pub time_of_day_with : (hour minute second micros : Option ℕ) → Option TimeOfDay
 time_of_day_with (Some hour) (Some minute) (Some second) (Some micros) = Some (record { hour = hour; minute = minute; second = second; micros = micros })
-time_of_day_with (Some hour) (Some minute) (Some second) None = None
-time_of_day_with (Some hour) (Some minute) None micros = None
-time_of_day_with (Some hour) None second micros = None
-time_of_day_with None minute second micros = None
+time_of_day_with _ _ _ _ = None
 
 -- its length, and the separators between its numbers
 unfoldable pub has_time_marks : List ℕ → Bool
@@ -48,10 +45,7 @@ time_of_day word =
 
 abbrev pub date_with : (year month day : Option ℕ) → Option TimeOfDay → Option Content
 date_with (Some year) (Some month) (Some day) (Some t) = Some (Date (date_of year month day t.hour t.minute t.second t.micros))
-date_with (Some year) (Some month) (Some day) None = None
-date_with (Some year) (Some month) None t = None
-date_with (Some year) None day t = None
-date_with None month day t = None
+date_with _ _ _ _ = None
 
 -- the characters of a date, with the separators between its numbers
 unfoldable pub has_date_marks : List ℕ → Bool

@@ -9,7 +9,7 @@ use Rattle.mysql_show.specs.Appended.{Stays}
 use Rattle.mysql_show.specs.Fields.{Said}
 use Rattle.mysql_recorder.specs.declared.entry.Layout.{Layout}
 use Rattle.mysql_recorder.specs.declared.entry.Layout.TheVariants as layouts
-use Rattle.mysql_recorder.specs.Answers.{BeginsMade, Ends, EndsWith, error_line, error_name, FailsIn, GoesNoFurther, HasLost, IsAnswer, IsDone, IsErrorWritten, IsLineEnd, IsMade, IsRefused, lost_status, LostIn, RefusedIn, SaysError, SaysName, Takes}
+use Rattle.mysql_recorder.specs.Answers.{BeginsMade, Ends, EndsWith, error_line, error_name, FailsIn, IsAnswer, IsErrorWritten, IsLineEnd, IsMade, lost_status, LostIn, RefusedIn, SaysError, SaysName, Takes}
 use Rattle.mysql_recorder.specs.Losses.{IsAtFeed, IsLost, Loses, LosesIn}
 use Rattle.mysql_show.specs.Output.{Answer, IsWritten}
 use Rattle.mysql_recorder.specs.Recorded as recorded
@@ -157,11 +157,7 @@ ends_after false w text status answer h = (ap (λ (l : List ℕ). w ++ l) h.0, h
 
 whatever : (e : RecordingError) (P : Type 0) → P → IfRefused e (λ why. P)
 whatever (error.Refused why) P h = h
-whatever error.Memory P h = tt
-whatever error.Line P h = tt
-whatever error.OutOfOrder P h = tt
-whatever error.TooLong P h = tt
-whatever error.Missing P h = tt
+whatever _ _ h = tt
 
 line_named : (layout : Layout) (name : Option (List ℕ)) → (line : List ℕ) × SaysName layout name line
 line_named layout (Some name) = (error_line layout name, inl refl)
@@ -169,23 +165,6 @@ line_named layout None = ([], refl)
 
 line_for : (layout : Layout) (e : RecordingError) → (line : List ℕ) × SaysError layout e line
 line_for layout e = line_named layout (error_name e)
-
--- the first three
-done : (all : List PacketKindTag) (layout : Layout) (limit : ℕ) (sums : Bool) (at_end : Type 0) (input : List ℕ) (answer : Answer) → at_end → IsDone layout sums input answer
-    → IsAnswer all layout limit sums at_end input answer
-done all layout limit sums at_end input answer e h = inl (e, h)
-
-lost : (all : List PacketKindTag) (layout : Layout) (limit : ℕ) (sums : Bool) (at_end : Type 0) (input : List ℕ) (answer : Answer) → at_end → HasLost all layout limit sums input answer
-    → IsAnswer all layout limit sums at_end input answer
-lost all layout limit sums at_end input answer e h = inr (inl (e, h))
-
-refused : (all : List PacketKindTag) (layout : Layout) (limit : ℕ) (sums : Bool) (at_end : Type 0) (input : List ℕ) (answer : Answer) → IsRefused all layout sums input answer
-    → IsAnswer all layout limit sums at_end input answer
-refused all layout limit sums at_end input answer h = inr (inr (inl h))
-
-no_further : (all : List PacketKindTag) (layout : Layout) (limit : ℕ) (sums : Bool) (at_end : Type 0) (input : List ℕ) (answer : Answer) → GoesNoFurther all layout limit sums input answer
-    → IsAnswer all layout limit sums at_end input answer
-no_further all layout limit sums at_end input answer h = inr (inr (inr (inl h)))
 
 pub cut_off : (all : List PacketKindTag) (layout : Layout) (limit : ℕ) (sums : Bool) (at_end : Type 0) (r : Recording) (x w : List ℕ) → IsAmid all layout limit r x w
     → IsAnswer all layout limit sums at_end x (record { text = w; status = 3 })
@@ -195,57 +174,40 @@ cut_off all layout limit sums at_end r x w h = inr (inr (inr (inr (record { made
 begins_made : (all : List PacketKindTag) (layout : Layout) (limit : ℕ) (r : Recording) (x p w t : List ℕ) → IsAmid all layout limit r x w → BeginsMade all layout limit (x ++ p) (w ++ t)
 begins_made all layout limit r x p w t h = (x, p, w, refl, amid_made all layout limit r x w h, (t, refl))
 
+-- for another reason
+for_another : (all : List PacketKindTag) (layout : Layout) (limit : ℕ) (sums : Bool) (at_end : Type 0) (r : Recording) (x p w t line : List ℕ) (e : RecordingError) (answer : Answer)
+    → IsAmid all layout limit r x w → IfRefused e (λ why. (m : List ℕ) × LostIn all layout limit IsAtFeed (x ++ p) m) → SaysError layout e line → EndsWith sums ((w ++ t) ++ line) 1 answer
+    → IsAnswer all layout limit sums at_end (x ++ p) answer
+for_another all layout limit sums at_end r x p w t line e answer h lost says ends =
+    inr (inr (inr (inl (record {
+      why = e;
+      shown = w ++ t;
+      line = line;
+      begins = begins_made all layout limit r x p w t h;
+      lost = lost;
+      says = says;
+      ends = ends;
+    }))))
+
 -- after something is lost
 after_lost : (all : List PacketKindTag) (layout : Layout) (limit : ℕ) (sums : Bool) (at_end : Type 0) (r : Recording) (x p w t text line : List ℕ) (e : RecordingError) (answer : Answer)
     → IsAmid all layout limit r x w → LostIn all layout limit IsAtFeed (x ++ p) text → SaysError layout e line → EndsWith sums ((w ++ t) ++ line) 1 answer
     → IsAnswer all layout limit sums at_end (x ++ p) answer
 after_lost all layout limit sums at_end r x p w t text line e answer h l says ends =
-    no_further all layout limit sums at_end (x ++ p) answer (record {
-      why = e;
-      shown = w ++ t;
-      line = line;
-      begins = begins_made all layout limit r x p w t h;
-      lost = whatever e ((m : List ℕ) × LostIn all layout limit IsAtFeed (x ++ p) m) (text, l);
-      says = says;
-      ends = ends;
-    })
-
--- for another reason
-for_another : (all : List PacketKindTag) (layout : Layout) (limit : ℕ) (sums : Bool) (at_end : Type 0) (r : Recording) (x p w t line : List ℕ) (e : RecordingError) (answer : Answer)
-    → IsAmid all layout limit r x w → ((P : SessionError → Type 0) → IfRefused e P) → SaysError layout e line → EndsWith sums ((w ++ t) ++ line) 1 answer
-    → IsAnswer all layout limit sums at_end (x ++ p) answer
-for_another all layout limit sums at_end r x p w t line e answer h other says ends =
-    no_further all layout limit sums at_end (x ++ p) answer (record {
-      why = e;
-      shown = w ++ t;
-      line = line;
-      begins = begins_made all layout limit r x p w t h;
-      lost = other (λ why. (m : List ℕ) × LostIn all layout limit IsAtFeed (x ++ p) m);
-      says = says;
-      ends = ends;
-    })
+    for_another all layout limit sums at_end r x p w t line e answer h (whatever e ((m : List ℕ) × LostIn all layout limit IsAtFeed (x ++ p) m) (text, l)) says ends
 
 -- a packet is unexpected, or there is another reason
 stopped : (all : List PacketKindTag) (layout : Layout) (limit : ℕ) (sums : Bool) (at_end : Type 0) (r : Recording) (x p w t line : List ℕ) (e : RecordingError) (answer : Answer)
     → IsAmid all layout limit r x w → IfRefused e (λ why. RefusedIn all layout why (x ++ p) (w ++ t)) → SaysError layout e line → EndsWith sums ((w ++ t) ++ line) 1 answer
     → IsAnswer all layout limit sums at_end (x ++ p) answer
 stopped all layout limit sums at_end r x p w t line (error.Refused why) answer h stops says ends =
-    refused all layout limit sums at_end (x ++ p) answer (record {
+    inr (inr (inl (record {
       why = why;
       shown = w ++ t;
       stops = stops;
       ends = subst (λ l. EndsWith sums l 1 answer) (ap (λ (l : List ℕ). (w ++ t) ++ l) says ∙ append-nil (w ++ t)) ends;
-    })
-stopped all layout limit sums at_end r x p w t line error.Memory answer h stops says ends =
-    for_another all layout limit sums at_end r x p w t line error.Memory answer h (λ P. tt) says ends
-stopped all layout limit sums at_end r x p w t line error.Line answer h stops says ends =
-    for_another all layout limit sums at_end r x p w t line error.Line answer h (λ P. tt) says ends
-stopped all layout limit sums at_end r x p w t line error.OutOfOrder answer h stops says ends =
-    for_another all layout limit sums at_end r x p w t line error.OutOfOrder answer h (λ P. tt) says ends
-stopped all layout limit sums at_end r x p w t line error.TooLong answer h stops says ends =
-    for_another all layout limit sums at_end r x p w t line error.TooLong answer h (λ P. tt) says ends
-stopped all layout limit sums at_end r x p w t line error.Missing answer h stops says ends =
-    for_another all layout limit sums at_end r x p w t line error.Missing answer h (λ P. tt) says ends
+    })))
+stopped all layout limit sums at_end r x p w t line e answer h stops says ends = for_another all layout limit sums at_end r x p w t line e answer h tt says ends
 
 -- what stops in the middle of a piece
 piece_refused : (all : List PacketKindTag) (layout : Layout) (e : RecordingError) (x p w t : List ℕ) (items : List Item) → Writes layout [] items [] w
@@ -254,21 +216,13 @@ piece_refused : (all : List PacketKindTag) (layout : Layout) (e : RecordingError
     → IfRefused e (λ why. RefusedIn all layout why (x ++ p) (w ++ t))
 piece_refused all layout (error.Refused why) x p w t items writes s =
     (x ++ s.0, s.1, items ++ s.2, w ++ s.3, is_after x s.0 p s.1 s.4, writes_more layout items s.2 w s.3 writes s.5, stops_after_after w all layout (x ++ s.0) (items ++ s.2) why s.3 t s.6)
-piece_refused all layout error.Memory x p w t items writes s = tt
-piece_refused all layout error.Line x p w t items writes s = tt
-piece_refused all layout error.OutOfOrder x p w t items writes s = tt
-piece_refused all layout error.TooLong x p w t items writes s = tt
-piece_refused all layout error.Missing x p w t items writes s = tt
+piece_refused all layout _ x p w t items writes s = tt
 
 end_refused : (all : List PacketKindTag) (layout : Layout) (e : RecordingError) (x w t : List ℕ) (items : List Item) → Writes layout [] items [] w
     → IfRefused e (λ why. StopsAfter all layout x items why [] t) → IfRefused e (λ why. RefusedIn all layout why (x ++ []) (w ++ t))
 end_refused all layout (error.Refused why) x w t items writes s =
     (x, [], items, w, refl, writes, subst (λ l. StopsAfter all layout x items why l (w ++ t)) (append-nil w) (stops_after_after w all layout x items why [] t s))
-end_refused all layout error.Memory x w t items writes s = tt
-end_refused all layout error.Line x w t items writes s = tt
-end_refused all layout error.OutOfOrder x w t items writes s = tt
-end_refused all layout error.TooLong x w t items writes s = tt
-end_refused all layout error.Missing x w t items writes s = tt
+end_refused all layout _ x w t items writes s = tt
 
 piece_stops : (all : List PacketKindTag) (sums : Bool) (at_end : Type 0) (old new : Recording) (x p w t line : List ℕ) (e : RecordingError) (answer : Answer) → Takes (Err e) all p old new t
     → IsAmid all (recorded.layout old) (recorded.longest old) old x w → SaysError (recorded.layout old) e line → EndsWith sums ((w ++ t) ++ line) 1 answer
@@ -313,15 +267,14 @@ finished : (all : List PacketKindTag) (sums has_lost : Bool) (at_end : Type 0) (
     → IsAmid all (recorded.layout old) (recorded.longest old) old x w → EndsWith sums (w ++ t) (lost_status has_lost) answer
     → IsAnswer all (recorded.layout old) (recorded.longest old) sums at_end x answer
 finished all sums true at_end old new x w t answer says is here (inl h) ends =
-    lost all (recorded.layout old) (recorded.longest old) sums at_end x answer here (record { shown = w ++ t; lost = no_more all old new x w t h.0 h.1 h.2 says is; ends = ends })
+    inr (inl (here, record { shown = w ++ t; lost = no_more all old new x w t h.0 h.1 h.2 says is; ends = ends }))
 finished all sums false at_end old new x w t answer says is here (inl h) ends =
     elim (says.finishes x h.0 h.1) as (λ _. IsAnswer all (recorded.layout old) (recorded.longest old) sums at_end x answer) [
       | inl lost_now ↦ absurd (let no : true ≡ false = sym lost_now ∙ is in cc)
-      | inr f ↦ done all (recorded.layout old) (recorded.longest old) sums at_end x answer here
-          (record { shown = w ++ t; shows = (h.0 ++ f.0, f.1.shown, writes_more (recorded.layout old) h.0 f.0 w t h.2 f.2); ends = ends })
+      | inr f ↦ inl (here, record { shown = w ++ t; shows = (h.0 ++ f.0, f.1.shown, writes_more (recorded.layout old) h.0 f.0 w t h.2 f.2); ends = ends })
     ]
 finished all sums true at_end old new x w t answer says is here (inr h) ends =
-    lost all (recorded.layout old) (recorded.longest old) sums at_end x answer here (record { shown = w ++ t; lost = lost_ends all (recorded.layout old) (recorded.longest old) x w t h.1; ends = ends })
+    inr (inl (here, record { shown = w ++ t; lost = lost_ends all (recorded.layout old) (recorded.longest old) x w t h.1; ends = ends }))
 finished all sums false at_end old new x w t answer says is here (inr h) ends = absurd (let no : true ≡ false = sym (says.lost h.0) ∙ is in cc)
 
 -- ---- what is written

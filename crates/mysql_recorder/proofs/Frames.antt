@@ -53,11 +53,8 @@ framed_less number payload after held input rest h = omega (arith, framed_shorte
 
 -- if the header is complete, the payload has its number
 index_front : (held input : List ℕ) → 4 ≤ length held → slice_index (held ++ input) 3 ≡ slice_index held 3
-index_front [] input h = absurd (omega arith)
-index_front (a ∷ []) input h = absurd (omega arith)
-index_front (a ∷ b ∷ []) input h = absurd (omega arith)
-index_front (a ∷ b ∷ c ∷ []) input h = absurd (omega arith)
 index_front (a ∷ b ∷ c ∷ d ∷ held) input h = refl
+index_front _ input h = absurd (omega arith)
 
 by_header : (is : Bool) (reader : ReaderState) (input : List ℕ) → header_comes reader input ≡ is → IsNumbered reader → 4 ≤ length (reader.held ++ input)
     → number_sent is reader input ≡ slice_index (reader.held ++ input) 3

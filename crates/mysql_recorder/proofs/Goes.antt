@@ -4,12 +4,12 @@ use Rattle.std.proofs.lemmas.List.{take_more}
 use Rattle.mysql_conversation.specs.declared.packet_kind.Side.{Side}
 use Rattle.mysql_conversation.specs.declared.packet_kind.Side.TheVariants as side
 use Rattle.mysql_observer.specs.Observed.{Observed}
-use Rattle.mysql_recorder.specs.Frames.{Piece, joined, AreFrames, NoneComes, IsNumbered}
+use Rattle.mysql_recorder.specs.Frames.{Piece, joined, AreFrames, NoneComes, IsNumbered, ComeIn, of_side, client_with, server_with}
 use Rattle.mysql_recorder.specs.Lines.{Heard, heard, IsRead, Stands, Passes}
 use Rattle.mysql_recorder.specs.Recorded as recorded
 use Rattle.mysql_recorder.specs.Recorded.{IsReadTo, Recorded, Takes}
 use Rattle.mysql_recorder.specs.Shown.{Item, Writes, placed}
-use Rattle.mysql_recorder.specs.Sides.{InStep, Stand, has_lost, layout, piece, IsAt, Reads}
+use Rattle.mysql_recorder.specs.Sides.{InStep, Stand, has_lost, layout, piece, stream_of, IsAt, Reads}
 use Rattle.mysql_recorder.specs.Sides as sides
 use Rattle.mysql_recorder.specs.declared.error.RecordingError.{RecordingError}
 use Rattle.mysql_recorder.specs.declared.line.Said.TheVariants as says
@@ -42,11 +42,6 @@ sides_then a b old mid new x y z first lost same second pieces items h =
       ]
     ]
 
-pub then_on_ok : (r : Result (Unit {0}) RecordingError) (b : List Piece) (old mid new : Sides) (x y z : List ℕ) → sides.GoesOn [] old mid x y → (has_lost mid ≡ true → has_lost new ≡ true) → layout mid ≡ layout old
-    → OnOk r (sides.GoesOn b mid new y z) → OnOk r (sides.GoesOn b old new x z)
-then_on_ok (Ok u) b old mid new x y z first lost same second = sides_then [] b old mid new x y z first lost same second
-then_on_ok (Err e) b old mid new x y z first lost same second = tt
-
 -- the stream of a piece
 read_step : (side : Side) (bytes : List ℕ) (items here : List Item) (old new : Stream) (before after : Packets) (x y : List ℕ) (longest : ℕ) → Reads side bytes [] items here old new before after x y
     → NoneComes new.reader.held → new.passed ≡ old.passed → InStep old longest → InStep new longest
@@ -57,50 +52,45 @@ read_step side bytes items here old new before after x y longest r none passed h
   none_passed = passed ∙ h.none_passed;
 }
 
--- a piece of the client, or one of the server
-pub read_client : (r : Result Came RecordingError) (old : Sides) (new : Stream) (packets : Packets) (bytes before after : List ℕ)
-    → IfOk r (λ came. came ≡ came_as.Whole → (items : List Item) → IsAt old.client old.packets items
-    → (here : List Item) × Reads side.Client bytes [] items here old.client new old.packets packets before after)
-    → IfOk r (λ came. came ≡ came_as.Whole → IsNumbered old.client.reader → NoneComes new.reader.held)
-    → new.passed ≡ old.client.passed
-    → IfOk r (λ came. came ≡ came_as.Whole → sides.GoesOn (piece side.Client bytes ∷ []) old (record old { client = new; packets = packets }) before after)
-read_client (Err e) old new packets bytes before after reads none passed = tt
-read_client (Ok came) old new packets bytes before after reads none passed = λ w pieces items h.
-    let r = reads w items (h.client.numbered, h.observed) in
-    let last = none w h.client.numbered in
-    inr (
-      r.0,
-      record {
-        come = come_then [] [] pieces items old.client.reader.held old.server.reader.held (piece side.Client bytes) r.0 new.reader.held h.come r.1.from
-            (subst (λ left. AreFrames r.0 (old.client.reader.held ++ bytes) left) (append-nil new.reader.held) r.1.frames) last;
-        client = read_step side.Client bytes items r.0 old.client new old.packets packets before after old.longest r.1 last passed h.client;
-        server = h.server;
-        observed = r.1.observed;
-        nothing_lost = h.nothing_lost;
-      },
-      r.1.written,
-    )
+-- the stream of a side is in step, and holds its bytes
+pub stream_in_step : (side : Side) (s : Sides) (pieces : List Piece) (items : List Item) → Stand s pieces items → InStep (stream_of side s) s.longest
+stream_in_step side.Client s pieces items h = h.client
+stream_in_step side.Server s pieces items h = h.server
 
-pub read_server : (r : Result Came RecordingError) (old : Sides) (new : Stream) (packets : Packets) (bytes before after : List ℕ)
-    → IfOk r (λ came. came ≡ came_as.Whole → (items : List Item) → IsAt old.server old.packets items
-    → (here : List Item) × Reads side.Server bytes [] items here old.server new old.packets packets before after)
-    → IfOk r (λ came. came ≡ came_as.Whole → IsNumbered old.server.reader → NoneComes new.reader.held)
-    → new.passed ≡ old.server.passed
-    → IfOk r (λ came. came ≡ came_as.Whole → sides.GoesOn (piece side.Server bytes ∷ []) old (record old { server = new; packets = packets }) before after)
-read_server (Err e) old new packets bytes before after reads none passed = tt
-read_server (Ok came) old new packets bytes before after reads none passed = λ w pieces items h.
-    let r = reads w items (h.server.numbered, h.observed) in
-    let last = none w h.server.numbered in
+pub stream_holds : (side : Side) (s : Sides) → (stream_of side s).reader.held ≡ of_side side s.client.reader.held s.server.reader.held
+stream_holds side.Client s = refl
+stream_holds side.Server s = refl
+
+-- this is the stream of a side
+abbrev pub with_stream : Side → Sides → Stream → Packets → Sides
+with_stream side.Client s stream packets = record s { client = stream; packets = packets }
+with_stream side.Server s stream packets = record s { server = stream; packets = packets }
+
+stands_with : (side : Side) (s : Sides) (stream : Stream) (packets : Packets) (before pieces : List Piece) (old items : List Item) → Stand s before old
+    → ComeIn [] [] pieces items (client_with side stream.reader.held s.client.reader.held) (server_with side stream.reader.held s.server.reader.held)
+    → InStep stream s.longest → Observed packets.observer (placed items) → Stand (with_stream side s stream packets) pieces items
+stands_with side.Client s stream packets before pieces old items h come in_step observed = record { come = come; client = in_step; server = h.server; observed = observed; nothing_lost = h.nothing_lost }
+stands_with side.Server s stream packets before pieces old items h come in_step observed = record { come = come; client = h.client; server = in_step; observed = observed; nothing_lost = h.nothing_lost }
+
+-- a piece of a side
+pub read_piece : (side : Side) (r : Result Came RecordingError) (old : Sides) (new : Stream) (packets : Packets) (bytes before after : List ℕ)
+    → IfOk r (λ came. came ≡ came_as.Whole → (items : List Item) → IsAt (stream_of side old) old.packets items
+    → (here : List Item) × Reads side bytes [] items here (stream_of side old) new old.packets packets before after)
+    → IfOk r (λ came. came ≡ came_as.Whole → IsNumbered (stream_of side old).reader → NoneComes new.reader.held)
+    → new.passed ≡ (stream_of side old).passed
+    → IfOk r (λ came. came ≡ came_as.Whole → sides.GoesOn (piece side bytes ∷ []) old (with_stream side old new packets) before after)
+read_piece side (Err e) old new packets bytes before after reads none passed = tt
+read_piece side (Ok came) old new packets bytes before after reads none passed = λ w pieces items h.
+    let at = stream_in_step side old pieces items h in
+    let r = reads w items (at.numbered, h.observed) in
+    let last = none w at.numbered in
+    let frames = subst (λ held. AreFrames r.0 (held ++ bytes) new.reader.held) (stream_holds side old)
+    (subst (λ left. AreFrames r.0 ((stream_of side old).reader.held ++ bytes) left) (append-nil new.reader.held) r.1.frames) in
     inr (
       r.0,
-      record {
-        come = come_then [] [] pieces items old.client.reader.held old.server.reader.held (piece side.Server bytes) r.0 new.reader.held h.come r.1.from
-            (subst (λ left. AreFrames r.0 (old.server.reader.held ++ bytes) left) (append-nil new.reader.held) r.1.frames) last;
-        client = h.client;
-        server = read_step side.Server bytes items r.0 old.server new old.packets packets before after old.longest r.1 last passed h.server;
-        observed = r.1.observed;
-        nothing_lost = h.nothing_lost;
-      },
+      stands_with side old new packets pieces (pieces ++ piece side bytes ∷ []) items (items ++ r.0) h
+          (come_then [] [] pieces items old.client.reader.held old.server.reader.held (piece side bytes) r.0 new.reader.held h.come r.1.from frames last)
+          (read_step side bytes items r.0 (stream_of side old) new old.packets packets before after old.longest r.1 last passed at) r.1.observed,
       r.1.written,
     )
 
@@ -211,11 +201,6 @@ takes_piece old new bytes before after e g pieces items h =
     subst (λ b. (recorded.has_lost new ≡ true) ⊎ ((here : List Item) × Stand new.sides (pieces ++ piece old.line.side b ∷ []) (items ++ here) × Writes (recorded.layout old) items here before after)) e
     (g pieces items h)
 
-pub takes_piece_on_ok : (r : Result (Unit {0}) RecordingError) (old new : Recording) (bytes before after : List ℕ) → bytes ≡ old.line.bytes.items
-    → OnOk r (sides.GoesOn (piece old.line.side bytes ∷ []) old.sides new.sides before after) → OnOk r (Takes old new before after)
-takes_piece_on_ok (Ok u) old new bytes before after e g = takes_piece old new bytes before after e g
-takes_piece_on_ok (Err x) old new bytes before after e g = tt
-
 pub ends_on_ok : (r : Result (Unit {0}) RecordingError) (old mid new : Recording) (c : ℕ) (before after : List ℕ)
     → ((line : List ℕ) (said : List Heard) → Stands old.place line said → Passes (Some says.End) c line said mid.place) → mid.line ≡ old.line → mid.sides ≡ old.sides
     → OnOk r (Takes mid new before after) → new.place ≡ mid.place → OnOk r (new.line.bytes.items ≡ []) → OnOk r (recorded.GoesOn (c ∷ []) old new before after)
@@ -242,9 +227,8 @@ pub loop_goes : (xs : List ℕ) (i c : ℕ) (old mid new : Recording) (x y z : L
 loop_goes xs i c old mid new x y z below is first lost same second =
     subst (λ t. recorded.GoesOn t old new x z) (ap (λ b. take i xs ++ b ∷ []) is ∙ sym (take_more xs i 0 below)) (recorded_then (take i xs) (c ∷ []) old mid new x y z first lost same second)
 
-pub loop_ends : (r : Result (Unit {0}) RecordingError) (xs : List ℕ) (n : ℕ) (old mid new : Recording) (x y z : List ℕ) → take n xs ≡ xs
+pub loop_ends : (xs : List ℕ) (n : ℕ) (old mid new : Recording) (x y z : List ℕ) → take n xs ≡ xs
     → recorded.GoesOn (take n xs) old mid x y → (recorded.has_lost mid ≡ true → recorded.has_lost new ≡ true) → recorded.layout mid ≡ recorded.layout old
-    → OnOk r (recorded.GoesOn [] mid new y z) → OnOk r (recorded.GoesOn xs old new x z)
-loop_ends (Ok u) xs n old mid new x y z all first lost same second =
+    → recorded.GoesOn [] mid new y z → recorded.GoesOn xs old new x z
+loop_ends xs n old mid new x y z all first lost same second =
     subst (λ t. recorded.GoesOn t old new x z) (append-nil (take n xs) ∙ all) (recorded_then (take n xs) [] old mid new x y z first lost same second)
-loop_ends (Err e) xs n old mid new x y z all first lost same second = tt

@@ -95,11 +95,7 @@ place_stops (Some at) (c ∷ input) (suc i) mid less h e = place_stops (next_pla
 
 pub if_line : (e : RecordingError) (P Q : Type 0) → (P → Q) → IfLine e P → IfLine e Q
 if_line error.Line P Q f h = f h
-if_line (error.Refused why) P Q f h = tt
-if_line error.Memory P Q f h = tt
-if_line error.OutOfOrder P Q f h = tt
-if_line error.TooLong P Q f h = tt
-if_line error.Missing P Q f h = tt
+if_line _ _ _ f h = tt
 
 pub on_ok_of : {E : Type 0} (r : Result (Unit {0}) E) (P : Type 0) → P → OnOk r P
 on_ok_of (Ok u) P h = h

@@ -2,7 +2,6 @@
 use Rattle.std.proofs.Common.{◌≡◌, ◌≢◌, ◌⊎◌, inl, inr, ℕ, ◌+◌, ◌<◌, true, false, List, [], ◌∷◌, ◌++◌, Result, Ok, Err, IfOk, Some, refl, sym, ap, subst, ◌∙◌, append_assoc, append-nil, length, get_or, take, drop, drop-cons, take-append-drop, suc, add-one}
 use Rattle.std.proofs.lemmas.List.{take_more}
 use Rattle.mysql_conversation.specs.declared.packet_kind.Side.{Side}
-use Rattle.mysql_conversation.specs.declared.packet_kind.Side.TheVariants as side
 use Rattle.mysql_conversation.specs.declared.packet_kind_tag.PacketKindTag.{PacketKindTag}
 use Rattle.mysql_conversation.specs.declared.pipeline.SessionError.{SessionError}
 use Rattle.mysql_conversation.specs.Pipelined.{Numbered}
@@ -20,7 +19,7 @@ use Rattle.mysql_recorder.specs.Recorded.{Recorded}
 use Rattle.mysql_recorder.specs.Recorded as recorded
 use Rattle.mysql_recorder.specs.Refused.{ShowsRefused}
 use Rattle.mysql_recorder.specs.Shown.{Item, placed, Writes}
-use Rattle.mysql_recorder.specs.Sides.{IsAt, Reads, has_lost, layout}
+use Rattle.mysql_recorder.specs.Sides.{IsAt, Reads, has_lost, layout, stream_of}
 use Rattle.mysql_recorder.specs.Sides as sides
 use Rattle.mysql_recorder.specs.Streams.{as_sent}
 use Rattle.mysql_recorder.specs.declared.error.RecordingError.{RecordingError}
@@ -33,6 +32,7 @@ use Rattle.mysql_recorder.specs.declared.recording.Recording.{Recording}
 use Rattle.mysql_recorder.specs.declared.sides.Sides.{Sides}
 use Rattle.mysql_recorder.specs.declared.stream.Stream.{Stream}
 use Rattle.mysql_recorder.proofs.Frames.{numbered_sent, sent-held, sent-limit}
+use Rattle.mysql_recorder.proofs.Goes.{stream_holds, stream_in_step}
 use Rattle.mysql_recorder.proofs.Stays.{stays_then}
 use Rattle.mysql_recorder.proofs.Stopped.{stops_in}
 use Rattle.mysql_recorder.proofs.Texts.{shown_of}
@@ -85,21 +85,15 @@ module _ (all : List PacketKindTag) (side : Side) (bytes input : List ℕ) (item
 
 -- ---- both sides
 
-pub client_loses : (r : Result Came RecordingError) (all : List PacketKindTag) (s : Sides) (bytes before after : List ℕ)
-    → IfOk r (λ came. came ≢ came_as.Whole → (items : List Item) → IsAt s.client s.packets items
-    → LosesIn all s.packets.layout s.client.reader.limit side.Client (s.client.reader.held ++ bytes) items before after)
-    → IfOk r (λ came. came ≢ came_as.Whole → PieceLosesIn all side.Client bytes s before after)
-client_loses (Ok came) all s bytes before after h = λ w pieces items k.
-    subst (λ limit. LosesIn all s.packets.layout limit side.Client (s.client.reader.held ++ bytes) items before after) k.client.limit (h w items (k.client.numbered, k.observed))
-client_loses (Err e) all s bytes before after h = tt
-
-pub server_loses : (r : Result Came RecordingError) (all : List PacketKindTag) (s : Sides) (bytes before after : List ℕ)
-    → IfOk r (λ came. came ≢ came_as.Whole → (items : List Item) → IsAt s.server s.packets items
-    → LosesIn all s.packets.layout s.server.reader.limit side.Server (s.server.reader.held ++ bytes) items before after)
-    → IfOk r (λ came. came ≢ came_as.Whole → PieceLosesIn all side.Server bytes s before after)
-server_loses (Ok came) all s bytes before after h = λ w pieces items k.
-    subst (λ limit. LosesIn all s.packets.layout limit side.Server (s.server.reader.held ++ bytes) items before after) k.server.limit (h w items (k.server.numbered, k.observed))
-server_loses (Err e) all s bytes before after h = tt
+pub side_loses : (side : Side) (r : Result Came RecordingError) (all : List PacketKindTag) (s : Sides) (bytes before after : List ℕ)
+    → IfOk r (λ came. came ≢ came_as.Whole → (items : List Item) → IsAt (stream_of side s) s.packets items
+    → LosesIn all s.packets.layout (stream_of side s).reader.limit side ((stream_of side s).reader.held ++ bytes) items before after)
+    → IfOk r (λ came. came ≢ came_as.Whole → PieceLosesIn all side bytes s before after)
+side_loses side (Ok came) all s bytes before after h = λ w pieces items k.
+    let at = stream_in_step side s pieces items k in
+    subst (λ held. LosesIn all s.packets.layout s.longest side (held ++ bytes) items before after) (stream_holds side s)
+    (subst (λ limit. LosesIn all s.packets.layout limit side ((stream_of side s).reader.held ++ bytes) items before after) at.limit (h w items (at.numbered, k.observed)))
+side_loses side (Err e) all s bytes before after h = tt
 
 -- nothing more is lost
 pub piece_keeps : (all : List PacketKindTag) (side : Side) (bytes : List ℕ) (old new : Sides) (before after : List ℕ)

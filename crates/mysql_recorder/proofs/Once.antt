@@ -46,21 +46,13 @@ byte_at : (is : Bool) (b : ℕ) (xs ys zs : List ℕ) → xs ≡ ys ++ zs → (i
 byte_at true b xs ys zs e = ap (λ t. b ∷ t) e
 byte_at false b xs ys zs e = e
 
-byte_same : (is : Bool) (b : ℕ) {xs ys : List ℕ} → is ≡ true → xs ≡ ys → (if is then b ∷ xs else xs) ≡ b ∷ ys
-byte_same true b e h = ap (λ t. b ∷ t) h
-byte_same false b e h = cc
+in_front : {A : Type 0} (is : Bool) (x : A) {xs ys : List A} → is ≡ true → xs ≡ ys → (if is then x ∷ xs else xs) ≡ x ∷ ys
+in_front true x e h = ap (λ t. x ∷ t) h
+in_front false x e h = cc
 
-byte_less : (is : Bool) (b : ℕ) {xs ys : List ℕ} → is ≡ false → xs ≡ ys → (if is then b ∷ xs else xs) ≡ ys
-byte_less true b e h = cc
-byte_less false b e h = h
-
-item_same : (is : Bool) (x : Item) {xs ys : List Item} → is ≡ true → xs ≡ ys → (if is then x ∷ xs else xs) ≡ x ∷ ys
-item_same true x e h = ap (λ t. x ∷ t) h
-item_same false x e h = cc
-
-item_less : (is : Bool) (x : Item) {xs ys : List Item} → is ≡ false → xs ≡ ys → (if is then x ∷ xs else xs) ≡ ys
-item_less true x e h = cc
-item_less false x e h = h
+left_out : {A : Type 0} (is : Bool) (x : A) {xs ys : List A} → is ≡ false → xs ≡ ys → (if is then x ∷ xs else xs) ≡ ys
+left_out true x e h = cc
+left_out false x e h = h
 
 bytes-append : (side : Side) (xs ys : List Heard) → bytes_of side (xs ++ ys) ≡ bytes_of side xs ++ bytes_of side ys
 bytes-append side [] ys = refl
@@ -72,21 +64,21 @@ same_side Server = refl
 
 pub bytes_heard : (side : Side) (bytes : List ℕ) → bytes_of side (heard side bytes) ≡ bytes
 bytes_heard side [] = refl
-bytes_heard side (b ∷ bytes) = byte_same (is_side side side) b (same_side side) (bytes_heard side bytes)
+bytes_heard side (b ∷ bytes) = in_front (is_side side side) b (same_side side) (bytes_heard side bytes)
 
 bytes_other : (side other : Side) (bytes : List ℕ) → is_side side other ≡ false → bytes_of side (heard other bytes) ≡ []
 bytes_other side other [] e = refl
-bytes_other side other (b ∷ bytes) e = byte_less (is_side side other) b e (bytes_other side other bytes e)
+bytes_other side other (b ∷ bytes) e = left_out (is_side side other) b e (bytes_other side other bytes e)
 
 own : (side : Side) (here later : List Item) → AreFrom side here → packets_of side (here ++ later) ≡ here ++ packets_of side later
 own side [] later h = refl
 own side (x ∷ here) later h =
-    item_same (is_side side x.placed.packet.from) x (ap (is_side side) h.0 ∙ same_side side) (own side here later h.1)
+    in_front (is_side side x.placed.packet.from) x (ap (is_side side) h.0 ∙ same_side side) (own side here later h.1)
 
 others : (side other : Side) (here later : List Item) → is_side side other ≡ false → AreFrom other here → packets_of side (here ++ later) ≡ packets_of side later
 others side other [] later e h = refl
 others side other (x ∷ here) later e h =
-    item_less (is_side side x.placed.packet.from) x (ap (is_side side) h.0 ∙ e) (others side other here later e h.1)
+    left_out (is_side side x.placed.packet.from) x (ap (is_side side) h.0 ∙ e) (others side other here later e h.1)
 
 step_own : (side : Side) (here later items : List Item) (bytes held left rest : List ℕ) (more : List Heard)
     → items ≡ here ++ later → AreFrom side here → AreFrames here (held ++ bytes) left → AreFrames (packets_of side later) (left ++ bytes_of side more) rest
@@ -108,28 +100,18 @@ step_other side other here later items bytes held rest more apart e from g =
     subst (λ xs. AreFrames xs (held ++ bytes_of side (heard other bytes ++ more)) rest) (sym (ap (packets_of side) e ∙ others side other here later apart from))
     (subst (λ b. AreFrames (packets_of side later) (held ++ b) rest) (sym stream) g)
 
-client_by : (side : Side) (bytes client server : List ℕ) (pieces : List Piece) (items : List Item) (c s : List ℕ) (here later : List Item) (left : List ℕ)
-    → items ≡ here ++ later → AreFrom side here → AreFrames here (of_side side client server ++ bytes) left
-    → AreFrames (packets_of Client later) (client_with side left client ++ bytes_of Client (joined pieces)) c
-    → AreFrames (packets_of Client items) (client ++ bytes_of Client (heard side bytes ++ joined pieces)) c
-client_by Client bytes client server pieces items c s here later left e from h g = step_own Client here later items bytes client left c (joined pieces) e from h g
-client_by Server bytes client server pieces items c s here later left e from h g = step_other Client Server here later items bytes client c (joined pieces) refl e from g
+by_piece : (side other : Side) (bytes client server : List ℕ) (pieces : List Piece) (items : List Item) (rest : List ℕ) (here later : List Item) (left : List ℕ)
+    → items ≡ here ++ later → AreFrom other here → AreFrames here (of_side other client server ++ bytes) left
+    → AreFrames (packets_of side later) (of_side side (client_with other left client) (server_with other left server) ++ bytes_of side (joined pieces)) rest
+    → AreFrames (packets_of side items) (of_side side client server ++ bytes_of side (heard other bytes ++ joined pieces)) rest
+by_piece Client Client bytes client server pieces items rest here later left e from h g = step_own Client here later items bytes client left rest (joined pieces) e from h g
+by_piece Client Server bytes client server pieces items rest here later left e from h g = step_other Client Server here later items bytes client rest (joined pieces) refl e from g
+by_piece Server Client bytes client server pieces items rest here later left e from h g = step_other Server Client here later items bytes server rest (joined pieces) refl e from g
+by_piece Server Server bytes client server pieces items rest here later left e from h g = step_own Server here later items bytes server left rest (joined pieces) e from h g
 
-server_by : (side : Side) (bytes client server : List ℕ) (pieces : List Piece) (items : List Item) (c s : List ℕ) (here later : List Item) (left : List ℕ)
-    → items ≡ here ++ later → AreFrom side here → AreFrames here (of_side side client server ++ bytes) left
-    → AreFrames (packets_of Server later) (server_with side left server ++ bytes_of Server (joined pieces)) s
-    → AreFrames (packets_of Server items) (server ++ bytes_of Server (heard side bytes ++ joined pieces)) s
-server_by Server bytes client server pieces items c s here later left e from h g = step_own Server here later items bytes server left s (joined pieces) e from h g
-server_by Client bytes client server pieces items c s here later left e from h g = step_other Server Client here later items bytes server s (joined pieces) refl e from g
-
-pub of_client : (client server : List ℕ) (pieces : List Piece) (items : List Item) (c s : List ℕ) → ComeIn client server pieces items c s
-    → AreFrames (packets_of Client items) (client ++ bytes_of Client (joined pieces)) c
-of_client client server [] items c s h = subst (λ xs. AreFrames (packets_of Client xs) (client ++ []) c) (sym h.0) (append-nil client ∙ h.1)
-of_client client server (p ∷ pieces) items c s h = client_by p.side p.bytes client server pieces items c s h.0 h.1 h.2 h.3 h.4 h.5
-    (of_client (client_with p.side h.2 client) (server_with p.side h.2 server) pieces h.1 c s h.7)
-
-pub of_server : (client server : List ℕ) (pieces : List Piece) (items : List Item) (c s : List ℕ) → ComeIn client server pieces items c s
-    → AreFrames (packets_of Server items) (server ++ bytes_of Server (joined pieces)) s
-of_server client server [] items c s h = subst (λ xs. AreFrames (packets_of Server xs) (server ++ []) s) (sym h.0) (append-nil server ∙ h.2)
-of_server client server (p ∷ pieces) items c s h = server_by p.side p.bytes client server pieces items c s h.0 h.1 h.2 h.3 h.4 h.5
-    (of_server (client_with p.side h.2 client) (server_with p.side h.2 server) pieces h.1 c s h.7)
+pub of_one_side : (side : Side) (client server : List ℕ) (pieces : List Piece) (items : List Item) (c s : List ℕ) → ComeIn client server pieces items c s
+    → AreFrames (packets_of side items) (of_side side client server ++ bytes_of side (joined pieces)) (of_side side c s)
+of_one_side side client server [] items c s h = subst (λ xs. AreFrames (packets_of side xs) (of_side side client server ++ []) (of_side side c s)) (sym h.0)
+    (append-nil (of_side side client server) ∙ ap (λ x. of_side side x server) h.1 ∙ ap (of_side side c) h.2)
+of_one_side side client server (p ∷ pieces) items c s h = by_piece side p.side p.bytes client server pieces items (of_side side c s) h.0 h.1 h.2 h.3 h.4 h.5
+    (of_one_side side (client_with p.side h.2 client) (server_with p.side h.2 server) pieces h.1 c s h.7)

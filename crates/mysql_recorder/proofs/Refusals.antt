@@ -39,8 +39,4 @@ module _ (all : List PacketKindTag) (layout : Layout) (old new : Observer) (side
       → IfErr r (λ e. (items : List Numbered) → Observed old items → IfRefused e (λ reason. ShowsRefused all layout side sequence payload items reason before after))
   refused_err (Ok taken) h = tt
   refused_err (Err (error.Refused shown)) h = λ items f. subst (λ reason. ShowsRefused all layout side sequence payload items reason before after) (sym h.0) (shows items f h.1)
-  refused_err (Err error.Memory) h = λ items f. tt
-  refused_err (Err error.Line) h = λ items f. tt
-  refused_err (Err error.OutOfOrder) h = λ items f. tt
-  refused_err (Err error.TooLong) h = λ items f. tt
-  refused_err (Err error.Missing) h = λ items f. tt
+  refused_err _ h = λ items f. tt

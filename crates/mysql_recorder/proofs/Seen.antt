@@ -9,7 +9,7 @@ use Rattle.mysql_recorder.specs.Shown.{Item, Writes, placed}
 use Rattle.mysql_recorder.specs.Sides.{SaysNothing, piece}
 use Rattle.mysql_recorder.specs.declared.recording.Recording.{Recording}
 use Rattle.mysql_recorder.proofs.Frames.{joined-append}
-use Rattle.mysql_recorder.proofs.Once.{of_client, of_server, frames_once}
+use Rattle.mysql_recorder.proofs.Once.{of_one_side, frames_once}
 use Rattle.mysql_recorder.proofs.Texts.{shown_of}
 use Rattle.mysql_recorder.proofs.Wholes.{observed_session}
 
@@ -21,11 +21,11 @@ recorded_session r text items h = observed_session r.sides.packets.observer (pla
 
 pub client_packets : (pieces : List Piece) (items : List Item) (client server : List ℕ) → ComeIn [] [] pieces items client server
     → AreFrames (packets_of side.Client items) (bytes_of side.Client (joined pieces)) client
-client_packets pieces items client server h = of_client [] [] pieces items client server h
+client_packets pieces items client server h = of_one_side side.Client [] [] pieces items client server h
 
 pub server_packets : (pieces : List Piece) (items : List Item) (client server : List ℕ) → ComeIn [] [] pieces items client server
     → AreFrames (packets_of side.Server items) (bytes_of side.Server (joined pieces)) server
-server_packets pieces items client server h = of_server [] [] pieces items client server h
+server_packets pieces items client server h = of_one_side side.Server [] [] pieces items client server h
 
 pub finishes : (old new : Recording) (before mid after : List ℕ) → Takes old new before mid → new.place ≡ old.place → SaysNothing new.sides mid after → Finishes old new before after
 finishes old new before mid after takes place nothing text items h =

@@ -2,7 +2,6 @@
 use Rattle.std.proofs.Common.{◌≡◌, ◌≢◌, ◌⊎◌, inl, inr, ℕ, true, List, ◌++◌, Result, Ok, Err, IfOk, IfErr, OnOk, refl, sym, subst, ◌∙◌, take, drop, take-append-drop}
 use Rattle.mysql_conversation.specs.Agreements.{Agreed}
 use Rattle.mysql_conversation.specs.declared.packet_kind.Side.{Side}
-use Rattle.mysql_conversation.specs.declared.packet_kind.Side.TheVariants as side
 use Rattle.mysql_conversation.specs.declared.packet_kind_tag.PacketKindTag.{PacketKindTag}
 use Rattle.mysql_conversation.specs.declared.pipeline.SessionError.{SessionError}
 use Rattle.mysql_conversation.specs.Pipelined.{Numbered}
@@ -15,7 +14,7 @@ use Rattle.mysql_recorder.specs.Recorded as recorded
 use Rattle.mysql_recorder.specs.Refused.{ShowsRefused}
 use Rattle.mysql_recorder.specs.Refusals.{IfRefused}
 use Rattle.mysql_recorder.specs.Shown.{Item, placed, Writes}
-use Rattle.mysql_recorder.specs.Sides.{IsAt, Reads, Stand, has_lost, layout, passed_of}
+use Rattle.mysql_recorder.specs.Sides.{IsAt, Reads, Stand, has_lost, layout, stream_of}
 use Rattle.mysql_recorder.specs.Sides as sides
 use Rattle.mysql_recorder.specs.Stops.{StopsIn, PieceStops, LineStops, StopsAfter, TextStops, Stops}
 use Rattle.mysql_recorder.specs.Streams.{as_sent}
@@ -30,18 +29,14 @@ use Rattle.mysql_recorder.specs.declared.piece.Came.TheVariants as came_as
 use Rattle.mysql_recorder.specs.declared.sides.Sides.{Sides}
 use Rattle.mysql_recorder.specs.declared.stream.Stream.{Stream}
 use Rattle.mysql_recorder.proofs.Frames.{handed_out}
-use Rattle.mysql_recorder.proofs.Goes.{goes_same, is_lost}
+use Rattle.mysql_recorder.proofs.Goes.{goes_same, is_lost, stream_holds, stream_in_step}
 use Rattle.mysql_recorder.proofs.Texts.{shown_of}
 use Rattle.mysql_recorder.proofs.Wholes.{observed_session}
 
 -- a property of each reason
 pub if_refused : (e : RecordingError) (P Q : SessionError → Type 0) → ((why : SessionError) → P why → Q why) → IfRefused e P → IfRefused e Q
 if_refused (error.Refused why) P Q f h = f why h
-if_refused error.Memory P Q f h = tt
-if_refused error.Line P Q f h = tt
-if_refused error.OutOfOrder P Q f h = tt
-if_refused error.TooLong P Q f h = tt
-if_refused error.Missing P Q f h = tt
+if_refused _ _ _ f h = tt
 
 pub never : (e : RecordingError) (Q : SessionError → Type 0) → IfRefused e (λ why. ⊥) → IfRefused e Q
 never e Q h = if_refused e (λ why. ⊥) Q (λ why n. absurd n) h
@@ -100,17 +95,12 @@ reads_refused all side bytes input rest items here s old new p po a b c sequence
     (λ why shown. stops_in all side bytes input rest items here s old new p po a b c sequence payload why r h n l shown)
     (shows (placed (items ++ here)) r.observed)
 
-pub client_stops : (r : Result Came RecordingError) (all : List PacketKindTag) (s : Sides) (bytes before after : List ℕ)
-    → IfErr r (λ e. (items : List Item) → IsAt s.client s.packets items → IfRefused e (λ why. StopsIn all s.packets.layout side.Client (s.client.reader.held ++ bytes) items why before after))
-    → IfErr r (λ e. PieceStops all side.Client bytes s e before after)
-client_stops (Ok came) all s bytes before after h = tt
-client_stops (Err e) all s bytes before after h = λ pieces items k. h items (k.client.numbered, k.observed)
-
-pub server_stops : (r : Result Came RecordingError) (all : List PacketKindTag) (s : Sides) (bytes before after : List ℕ)
-    → IfErr r (λ e. (items : List Item) → IsAt s.server s.packets items → IfRefused e (λ why. StopsIn all s.packets.layout side.Server (s.server.reader.held ++ bytes) items why before after))
-    → IfErr r (λ e. PieceStops all side.Server bytes s e before after)
-server_stops (Ok came) all s bytes before after h = tt
-server_stops (Err e) all s bytes before after h = λ pieces items k. h items (k.server.numbered, k.observed)
+pub side_stops : (side : Side) (r : Result Came RecordingError) (all : List PacketKindTag) (s : Sides) (bytes before after : List ℕ)
+    → IfErr r (λ e. (items : List Item) → IsAt (stream_of side s) s.packets items → IfRefused e (λ why. StopsIn all s.packets.layout side ((stream_of side s).reader.held ++ bytes) items why before after))
+    → IfErr r (λ e. PieceStops all side bytes s e before after)
+side_stops side (Ok came) all s bytes before after h = tt
+side_stops side (Err e) all s bytes before after h = λ pieces items k.
+    subst (λ held. IfRefused e (λ why. StopsIn all s.packets.layout side (held ++ bytes) items why before after)) (stream_holds side s) (h items ((stream_in_step side s pieces items k).numbered, k.observed))
 
 -- what is never refused
 pub piece_never : (r : Result (Unit {0}) RecordingError) (all : List PacketKindTag) (side : Side) (bytes : List ℕ) (s : Sides) (before after : List ℕ)
@@ -157,9 +147,3 @@ stops_after all xs i old mid new x y z e first lost same stops text items h =
           (λ why s. (take i xs, drop i xs, f.0, y, sym (take-append-drop i xs), f.2, subst (λ l. StopsAfter all l (text ++ take i xs) (items ++ f.0) why y z) same s))
           (stops (text ++ take i xs) (items ++ f.0) f.1))
     ]
-
-pub stops_on_err : (r : Result (Unit {0}) RecordingError) (all : List PacketKindTag) (xs : List ℕ) (i : ℕ) (old mid new : Recording) (x y z : List ℕ)
-    → recorded.GoesOn (take i xs) old mid x y → (recorded.has_lost mid ≡ true → recorded.has_lost new ≡ true) → recorded.layout mid ≡ recorded.layout old
-    → IfErr r (λ e. TextStops all mid e y z) → IfErr r (λ e. Stops all xs old new e x z)
-stops_on_err (Ok u) all xs i old mid new x y z first lost same stops = tt
-stops_on_err (Err e) all xs i old mid new x y z first lost same stops = stops_after all xs i old mid new x y z e first lost same stops

@@ -28,17 +28,9 @@ Refuses all layout f side sequence payload why before after = AppendsRefused all
 -- if the error is a refusal, this holds for its reason
 abbrev pub IfRefused : RecordingError → (SessionError → Type 0) → Type 0
 IfRefused (error.Refused why) P = P why
-IfRefused error.Memory P = Unit {0}
-IfRefused error.Line P = Unit {0}
-IfRefused error.OutOfOrder P = Unit {0}
-IfRefused error.TooLong P = Unit {0}
-IfRefused error.Missing P = Unit {0}
+IfRefused _ _ = Unit {0}
 
 -- if the error is a malformed line, this holds
 abbrev pub IfLine : RecordingError → Type 0 → Type 0
 IfLine error.Line P = P
-IfLine (error.Refused why) P = Unit {0}
-IfLine error.Memory P = Unit {0}
-IfLine error.OutOfOrder P = Unit {0}
-IfLine error.TooLong P = Unit {0}
-IfLine error.Missing P = Unit {0}
+IfLine _ _ = Unit {0}

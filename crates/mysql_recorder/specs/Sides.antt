@@ -69,9 +69,13 @@ pub record Options : Type 0 where
 abbrev pub options : Packets → Options
 options p = record { layout = p.layout; may_wait = observed.limit p.observer; is_deciphered = p.is_deciphered; has_sums = is_some p.sums }
 
+-- a side's stream
+abbrev pub stream_of : Side → Sides → Stream
+stream_of Client s = s.client
+stream_of Server s = s.server
+
 abbrev pub passed_of : Side → Sides → Option ℕ
-passed_of Client s = s.client.passed
-passed_of Server s = s.server.passed
+passed_of side s = (stream_of side s).passed
 
 -- A stream is synchronized: if a header is held, its number is the expected one, and the held bytes begin no payload's frames.
 pub record InStep (stream : Stream) (longest : ℕ) : Type 0 where

@@ -202,67 +202,21 @@ impl Sums {
     fn append_counts(&self, out: &mut String) -> Result<(), AllocError>
         ensures { Stays (string_bytes out.old) (string_bytes out.new) }
     {
-        self.append_exchanges(out)?;
-        self.append_tallies(out)?;
-        self.append_rows(out)?;
-        self.append_errors(out)?;
-        self.append_largest(out)?;
-        self.append_open(out)
-    }
-
-    fn append_rows(&self, out: &mut String) -> Result<(), AllocError>
-        ensures { Stays (string_bytes out.old) (string_bytes out.new) }
-    {
-        let line = rows_line(self.alloc, self.rows)?;
-        out.push_str(line.as_str())
-    }
-
-    fn append_exchanges(&self, out: &mut String) -> Result<(), AllocError>
-        ensures { Stays (string_bytes out.old) (string_bytes out.new) }
-    {
         for (code, count) in self.exchanges.iter() {
-            let line = exchange_line(self.alloc, *code, *count)?;
-            out.push_str(line.as_str())?;
+            append_line(out, exchange_line(self.alloc, *code, *count))?;
         }
-        Ok(())
-    }
-
-    fn append_tallies(&self, out: &mut String) -> Result<(), AllocError>
-        ensures { Stays (string_bytes out.old) (string_bytes out.new) }
-    {
         for tally in self.tallies.iter() {
-            let line = tally_line(self.alloc, tally)?;
-            out.push_str(line.as_str())?;
+            append_line(out, tally_line(self.alloc, tally))?;
         }
-        Ok(())
-    }
-
-    fn append_errors(&self, out: &mut String) -> Result<(), AllocError>
-        ensures { Stays (string_bytes out.old) (string_bytes out.new) }
-    {
-        for (code, count) in self.errors.iter() {
-            let line = error_line(self.alloc, *code, *count)?;
-            out.push_str(line.as_str())?;
+        append_line(out, rows_line(self.alloc, self.rows))?;
+        for (error, count) in self.errors.iter() {
+            append_line(out, error_line(self.alloc, *error, *count))?;
         }
-        Ok(())
-    }
-
-    fn append_largest(&self, out: &mut String) -> Result<(), AllocError>
-        ensures { Stays (string_bytes out.old) (string_bytes out.new) }
-    {
         for large in self.largest.iter() {
-            let line = large_line(self.alloc, large)?;
-            out.push_str(line.as_str())?;
+            append_line(out, large_line(self.alloc, large))?;
         }
-        Ok(())
-    }
-
-    fn append_open(&self, out: &mut String) -> Result<(), AllocError>
-        ensures { Stays (string_bytes out.old) (string_bytes out.new) }
-    {
         for (id, number) in self.open.iter() {
-            let line = statement_line(self.alloc, *id, *number)?;
-            out.push_str(line.as_str())?;
+            append_line(out, statement_line(self.alloc, *id, *number))?;
         }
         Ok(())
     }
@@ -363,6 +317,14 @@ impl Sums {
         }
         Ok(Value::Array(list))
     }
+}
+
+/// Appends a line, unless memory ran out for it.
+fn append_line(out: &mut String, line: Result<String, AllocError>) -> Result<(), AllocError>
+    ensures { Stays (string_bytes out.old) (string_bytes out.new) }
+{
+    let line = line?;
+    out.push_str(line.as_str())
 }
 
 /// Increments a count.

@@ -73,6 +73,20 @@ pub(crate) fn append_attributes<'p>(
     }
 }
 
+/// Appends the values of a row of either protocol. The two types share no trait with `next_value`.
+macro_rules! append_values {
+    ($row:ident, $fields:ident) => {
+        'values: loop {
+            let mut rest = $row.rest();
+            match $row.next_value() {
+                Ok(Some(value)) => $fields.push(Field::value("value", value))?,
+                Ok(None) => return Ok(()),
+                Err(fault) => return append_refused(&fault, rest.eat_all(), $fields),
+            }
+        }
+    };
+}
+
 /// Appends the values of a text row, up to the first that can't be read, and the bytes from there on.
 pub(crate) fn append_text_row<'p>(
     row: &mut TextRowView<'p>,
@@ -80,14 +94,7 @@ pub(crate) fn append_text_row<'p>(
 ) -> Result<(), AllocError>
     ensures ok { OnOk result (fields.new.items ≡ fields.old.items ++ spec.row_fields row.old) }
 {
-    'values: loop {
-        let mut rest = row.rest();
-        match row.next_value() {
-            Ok(Some(value)) => fields.push(Field::value("value", value))?,
-            Ok(None) => return Ok(()),
-            Err(fault) => return append_refused(&fault, rest.eat_all(), fields),
-        }
-    }
+    append_values!(row, fields)
 }
 
 /// Appends the values of a binary row, up to the first that can't be read, and the bytes from there on.
@@ -97,12 +104,5 @@ pub(crate) fn append_row<'p, C: TypedColumn>(
 ) -> Result<(), AllocError>
     ensures ok { OnOk result (fields.new.items ≡ fields.old.items ++ spec.row_fields row.old) }
 {
-    'values: loop {
-        let mut rest = row.rest();
-        match row.next_value() {
-            Ok(Some(value)) => fields.push(Field::value("value", value))?,
-            Ok(None) => return Ok(()),
-            Err(fault) => return append_refused(&fault, rest.eat_all(), fields),
-        }
-    }
+    append_values!(row, fields)
 }

@@ -7,7 +7,7 @@ ghost use Rattle.mysql_replies.specs.Column as spec;
 ghost use Rattle.mysql_replies.specs.ColumnNames.{has_a_name};
 
 use crate::column_fields::{ColumnFields, fields_of};
-use crate::column_names::{ColumnNames, Names};
+use crate::column_names::{ColumnNames, ColumnNamesRef};
 use crate::faults::InvalidCatalog;
 use bstr::ByteSlice;
 use mysql_wire::{
@@ -59,7 +59,7 @@ pub struct Column {
 /// Creates a column of these names and fields, and copies the names.
 pub(crate) fn named(
     alloc: Global,
-    names: &Names<'_>,
+    names: &ColumnNamesRef<'_>,
     fields: ColumnFields,
 ) -> Result<Column, AllocError>
     ensures value { IfOk result (λ column. (column.meta ≡ names.now) × (column.fields ≡ fields)) }
@@ -89,7 +89,7 @@ impl Column {
         ensures value { IfOk result (λ column. column ≡ spec.with_schema self schema.now) }
         ensures no_memory { spec.HasNoName (spec.with_schema self schema.now) → IsOk result }
     {
-        let names = Names {
+        let names = ColumnNamesRef {
             schema,
             ..self.meta.names()
         };
@@ -102,7 +102,7 @@ impl Column {
         ensures value { IfOk result (λ column. column ≡ spec.with_table self table.now) }
         ensures no_memory { spec.HasNoName (spec.with_table self table.now) → IsOk result }
     {
-        let names = Names {
+        let names = ColumnNamesRef {
             table,
             ..self.meta.names()
         };
@@ -115,7 +115,7 @@ impl Column {
         ensures value { IfOk result (λ column. column ≡ spec.with_org_table self org_table.now) }
         ensures no_memory { spec.HasNoName (spec.with_org_table self org_table.now) → IsOk result }
     {
-        let names = Names {
+        let names = ColumnNamesRef {
             org_table,
             ..self.meta.names()
         };
@@ -128,7 +128,7 @@ impl Column {
         ensures value { IfOk result (λ column. column ≡ spec.with_name self name.now) }
         ensures no_memory { spec.HasNoName (spec.with_name self name.now) → IsOk result }
     {
-        let names = Names {
+        let names = ColumnNamesRef {
             name,
             ..self.meta.names()
         };
@@ -141,7 +141,7 @@ impl Column {
         ensures value { IfOk result (λ column. column ≡ spec.with_org_name self org_name.now) }
         ensures no_memory { spec.HasNoName (spec.with_org_name self org_name.now) → IsOk result }
     {
-        let names = Names {
+        let names = ColumnNamesRef {
             org_name,
             ..self.meta.names()
         };

@@ -55,17 +55,22 @@ impl Parts for ColumnMeta<'_> {
     }
 }
 
-/// The borrowed names of a column. In a clause they are a column's names.
+/// The names of a [`ColumnRef`](crate::ColumnRef), borrowed. In a clause they are a column's names.
 #[derive(Drop)]
-pub(crate) struct Names<'a> {
-    pub(crate) schema: &'a [u8],
-    pub(crate) table: &'a [u8],
-    pub(crate) org_table: &'a [u8],
-    pub(crate) name: &'a [u8],
-    pub(crate) org_name: &'a [u8],
+pub struct ColumnNamesRef<'a> {
+    /// The name of the schema.
+    pub schema: &'a [u8],
+    /// The name of the table, or of its alias.
+    pub table: &'a [u8],
+    /// The name of the table itself.
+    pub org_table: &'a [u8],
+    /// The name of the column, or of its alias.
+    pub name: &'a [u8],
+    /// The name of the column itself.
+    pub org_name: &'a [u8],
 }
 
-impl<'a> Model for Names<'a> {
+impl<'a> Model for ColumnNamesRef<'a> {
     ghost use Rattle.mysql_replies.specs.declared.column_names.ColumnMeta.{ColumnMeta};
     ghost use Rattle.mysql_replies.specs.ColumnNames.{meta_of};
 
@@ -74,7 +79,7 @@ impl<'a> Model for Names<'a> {
     ghost view = { λ n. meta_of n.schema.now n.table.now n.org_table.now n.name.now n.org_name.now };
 }
 
-impl<'a> Names<'a> {
+impl<'a> ColumnNamesRef<'a> {
     /// Returns the names in the form in which they are written, borrowed.
     pub(crate) fn meta(&self) -> ColumnMeta<'a>
         ensures value { result ≡ self.now }
@@ -89,10 +94,10 @@ impl<'a> Names<'a> {
     }
 
     /// Copies the names; both borrow from the packet.
-    pub(crate) fn again(&self) -> Names<'a>
+    pub(crate) fn again(&self) -> ColumnNamesRef<'a>
         ensures value { result ≡ self.now }
     {
-        Names {
+        ColumnNamesRef {
             schema: self.schema,
             table: self.table,
             org_table: self.org_table,
@@ -131,12 +136,12 @@ pub(crate) fn read_name<'s, 'de>(buf: &mut ParseBuf<'de>) -> Result<&'de [u8], F
 #[inline(always)]
 pub(crate) fn read_names<'s, 'de, const READER: u8>(
     buf: &mut ParseBuf<'de>,
-) -> Result<Names<'de>, FaultOf<'s>>
+) -> Result<ColumnNamesRef<'de>, FaultOf<'s>>
     ensures value { Answers false result buf.new ((spec.column_meta.form tt).reads buf.old) }
     ensures err { OnErr result (buf.new ≡ buf.old) }
 {
     let mut rest = buf.rest();
-    let names = Names {
+    let names = ColumnNamesRef {
         schema: read_name(&mut rest)?,
         table: read_name(&mut rest)?,
         org_table: read_name(&mut rest)?,
@@ -193,7 +198,7 @@ fn put(name: &[u8], bytes: &mut Vec<u8>) -> usize
 impl ColumnNames {
     /// Copies these names.
     #[tactic(auto, using(crate::proofs::NamesAfter::names), unfolding(mysql_wire::specs::Writing::saturated))]
-    pub(crate) fn of(alloc: Global, names: &Names<'_>) -> Result<Self, AllocError>
+    pub(crate) fn of(alloc: Global, names: &ColumnNamesRef<'_>) -> Result<Self, AllocError>
         ensures value { IfOk result (λ copy. copy ≡ names.now) }
         ensures err { OnErr result (IsTrue (spec.has_a_name names.now)) }
     {
@@ -214,10 +219,10 @@ impl ColumnNames {
     }
 
     /// Returns the names as slices.
-    pub(crate) fn names(&self) -> Names<'_>
+    pub(crate) fn names(&self) -> ColumnNamesRef<'_>
         ensures value { result ≡ self.now }
     {
-        Names {
+        ColumnNamesRef {
             schema: self.schema(),
             table: self.table(),
             org_table: self.org_table(),

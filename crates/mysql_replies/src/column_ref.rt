@@ -9,7 +9,7 @@ ghost use Rattle.mysql_replies.specs.ColumnFields.{fields_of};
 
 use crate::column::{Column, ColumnDefinitionCatalog, named};
 use crate::column_fields::{ColumnFields, fields_of};
-use crate::column_names::{Names, read_names};
+use crate::column_names::{ColumnNamesRef, read_names};
 use mysql_wire::{AnyWidth, ColumnFlags, ColumnType, FaultOf, MyDeserialize, ParseBuf};
 use std::alloc::{AllocError, Global};
 use std::fmt;
@@ -28,7 +28,7 @@ use std::marker::Model;
 /// ```
 #[derive(Drop)]
 pub struct ColumnRef<'a> {
-    pub(crate) names: Names<'a>,
+    pub(crate) names: ColumnNamesRef<'a>,
     character_set: u16,
     column_length: u32,
     column_type: ColumnType,
@@ -47,6 +47,28 @@ impl<'a> Model for ColumnRef<'a> {
 }
 
 impl<'a> ColumnRef<'a> {
+    /// Creates a column of these names and fields.
+    #[inline]
+    pub fn new(
+        names: ColumnNamesRef<'a>,
+        character_set: u16,
+        column_length: u32,
+        column_type: ColumnType,
+        flags: ColumnFlags,
+        decimals: u8,
+    ) -> Self
+        ensures value { result ≡ spec.column_with names.entry (fields_of character_set column_length column_type flags decimals) }
+    {
+        ColumnRef {
+            names,
+            character_set,
+            column_length,
+            column_type,
+            flags,
+            decimals,
+        }
+    }
+
     /// The bytes of the name of the schema.
     #[inline]
     pub fn schema(&self) -> &'a [u8]
@@ -195,17 +217,17 @@ impl Debug for ColumnRef<'_> {
 
 /// Creates a column of these names and fields.
 #[inline(always)]
-pub(crate) fn placed<'a>(names: Names<'a>, fields: &ColumnFields) -> ColumnRef<'a>
+pub(crate) fn placed<'a>(names: ColumnNamesRef<'a>, fields: &ColumnFields) -> ColumnRef<'a>
     ensures value { result ≡ spec.column_with names.entry fields.now }
 {
-    ColumnRef {
+    ColumnRef::new(
         names,
-        character_set: fields.character_set.0,
-        column_length: fields.column_length.0,
-        column_type: fields.column_type.0,
-        flags: fields.flags.0,
-        decimals: fields.decimals.0,
-    }
+        fields.character_set.0,
+        fields.column_length.0,
+        fields.column_type.0,
+        fields.flags.0,
+        fields.decimals.0,
+    )
 }
 
 /// Read like a [`Column`], but never `Memory`.

@@ -51,6 +51,14 @@ impl<'a> Model for ExtendedColumnRef<'a> {
 }
 
 impl<'a> ExtendedColumnRef<'a> {
+    /// Creates a column with this metadata, or with none.
+    #[inline]
+    pub fn new(column: ColumnRef<'a>, metadata: Option<&'a [u8]>) -> Self
+        ensures value { result ≡ extended column.entry (option_map (λ m. m.now) metadata.entry) }
+    {
+        ExtendedColumnRef { column, metadata }
+    }
+
     /// The column itself.
     #[inline]
     pub fn column(&self) -> &ColumnRef<'a>

@@ -41,6 +41,7 @@ pub use column_attribute_ref::ColumnAttributeRef;
 pub use column_attributes::ColumnAttributes;
 pub use column_count::ColumnCount;
 pub use column_fields::FixedLengthFieldsLen;
+pub use column_names::ColumnNamesRef;
 pub use column_ref::ColumnRef;
 pub use err_packet::{ErrPacket, ErrPacketHeader, ErrPacketRef};
 pub use extended_column::ExtendedColumn;

@@ -3,4 +3,3 @@ pub mod EqualChanges
 pub mod PlainFits
 pub mod SessionStateChangeAgain
 pub mod SystemVariablesFit
-pub mod VariablesRead

@@ -1,16 +1,15 @@
 //! Borrowed lists of system variables.
 
 ghost use Rattle.std.specs.Prelude.{◌≡◌, ◌≢◌, [], List, false, refl, IfOk, IfErr, OnOk, OnErr, Ok, length, ⊤};
-ghost use Rattle.mysql_wire.specs.Many.{size-many};
-ghost use Rattle.mysql_wire.specs.Reading.{Faults};
+ghost use Rattle.mysql_wire.specs.Many.{NextItem, size-many};
 ghost use Rattle.mysql_session.specs.declared.system_variable.SystemVariable.{SystemVariable};
 ghost use Rattle.mysql_session.specs.SystemVariables as spec;
-ghost use Rattle.mysql_session.specs.SystemVariablesRef.{AreVariables, NextVariable, variables_in};
+ghost use Rattle.mysql_session.specs.SystemVariablesRef.{AreVariables, variables_in};
 ghost use Rattle.std.specs.Iterator.{at_most};
 
 use crate::system_variable_ref::SystemVariableRef;
 use crate::system_variables::SystemVariables;
-use mysql_wire::{AnyWidth, Fault, FaultOf, MyDeserialize, ParseBuf};
+use mysql_wire::{AnyWidth, FaultOf, MyDeserialize, ParseBuf, check_all, next_item};
 use std::alloc::{AllocError, Global};
 use std::marker::Model;
 
@@ -30,37 +29,6 @@ impl<'a> Model for SystemVariablesRef<'a> {
     ghost view = { λ v. variables_in v.variables };
 
     ghost invariant = { λ v. AreVariables v.variables };
-}
-
-/// Reads variables to the end, and keeps none.
-#[tactic(auto, using(crate::proofs::VariablesRead::reads_variables))]
-fn read_variables<'s>(variables: ParseBuf<'_>) -> Result<(), FaultOf<'s>>
-    ensures ok { OnOk result (AreVariables variables.entry) }
-    ensures err { IfErr result (λ e. Faults {A = List SystemVariable} false e ((spec.system_variables.form tt).reads variables.entry)) }
-{
-    let mut rest = variables;
-    while !rest.is_empty() {
-        let before = rest.len();
-        let _variable: SystemVariableRef<'_> = rest.parse(())?;
-        if rest.len() == before {
-            return Err(FaultOf::InvalidData("Empty value in a list"));
-        }
-    }
-    Ok(())
-}
-
-/// Takes the first variable off the front, if one is left.
-#[tactic(auto, using(crate::proofs::VariablesRead::next_variables))]
-fn next_variable<'a>(variables: &mut ParseBuf<'a>) -> Option<SystemVariableRef<'a>>
-    requires { AreVariables variables.old }
-    ensures next { NextVariable (variables_in variables.old) result (variables_in variables.new) }
-    ensures others { AreVariables variables.new }
-{
-    if variables.is_empty() {
-        return None;
-    }
-    let variable: Result<SystemVariableRef<'a>, Fault> = variables.parse(());
-    variable.ok()
 }
 
 impl<'a> SystemVariablesRef<'a> {
@@ -92,12 +60,12 @@ impl<'a> Iterator for SystemVariablesRef<'a> {
 
     ghost can_next = { λ _. ⊤ };
 
-    ghost next_gives = { NextVariable };
+    ghost next_gives = { NextItem };
 
     ghost remaining = { λ left. at_most (length left) };
 
     fn next(&mut self) -> Option<SystemVariableRef<'a>> {
-        next_variable(&mut self.variables)
+        next_item(&mut self.variables)
     }
 }
 
@@ -111,9 +79,9 @@ impl<'de> MyDeserialize<'de> for SystemVariablesRef<'de> {
 
     ghost form = { spec.system_variables.form };
 
-    #[tactic(auto, using(mysql_wire::proofs::Packets::packets))]
+    #[tactic(auto, using(mysql_wire::proofs::Packets::packets), unfolding(crate::specs::SystemVariables::system_variables))]
     fn deserialize<'s>(_ctx: (), buf: &mut ParseBuf<'de>) -> Result<Self, FaultOf<'s>> {
-        read_variables(buf.rest())?;
+        check_all::<SystemVariableRef<'de>>(buf.rest())?;
         let variables = buf.rest();
         buf.eat_all();
         Ok(SystemVariablesRef { variables })

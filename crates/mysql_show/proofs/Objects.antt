@@ -20,28 +20,18 @@ bytes-none : (bytes : List ℕ) → has_float (bytes_data bytes) ≡ false
 bytes-none bytes = text-or-digits (is_utf8 bytes) bytes
 
 value-none : (v : Content) → value_is_float v ≡ false → has_float (value_data v) ≡ false
-value-none value.NULL h = refl
 value-none (value.Bytes bytes) h = bytes-none bytes
 value-none (value.Int (pos n)) h = refl
-value-none (value.Int (negsuc n)) h = refl
-value-none (value.UInt n) h = refl
 value-none (value.Float bits) h = absurd (true≢false h)
 value-none (value.Double bits) h = absurd (true≢false h)
-value-none (value.Date date) h = refl
-value-none (value.Time time) h = refl
+value-none _ h = refl
 
 held-none : (s : Held) → is_float s ≡ false → has_float (held_data s) ≡ false
-held-none (Number n) h = refl
 held-none (Bytes bytes) h = bytes-none bytes
-held-none (Digits bytes) h = refl
-held-none (Word word) h = refl
-held-none (Flag flag) h = refl
 held-none (Value v) h = value-none v h
-held-none (WithOffset date) h = refl
 held-none (OptionalNumber (Some n)) h = refl
-held-none (OptionalNumber None) h = refl
 held-none (OptionalBytes (Some bytes)) h = bytes-none bytes
-held-none (OptionalBytes None) h = refl
+held-none _ h = refl
 
 put-at : (o : Ordering) (k l : List ℕ) (d e : Data) (ms : Members) → has_float d ≡ false → has_float e ≡ false → members_have_float ms ≡ false → members_have_float (put k d ms) ≡ false
     → members_have_float (match_ordering o (member k d (member l e ms)) (member l d ms) (member l e (put k d ms))) ≡ false

@@ -13,23 +13,11 @@ use Rattle.mysql_show.specs.FieldText.{IsValueText, IsHeldText, IsLine, AreLines
 value_plain : (v : Content) (text : List ℕ) → value_is_float v ≡ false → IsValueText v text → text ≡ value_text v
 value_plain (value.Float bits) text n h = absurd cc
 value_plain (value.Double bits) text n h = absurd cc
-value_plain value.NULL text n h = h
-value_plain (value.Bytes bytes) text n h = h
-value_plain (value.Int k) text n h = h
-value_plain (value.UInt k) text n h = h
-value_plain (value.Date date) text n h = h
-value_plain (value.Time time) text n h = h
+value_plain _ text n h = h
 
 held_plain : (held : Held) (text : List ℕ) → is_float held ≡ false → IsHeldText held text → text ≡ held_text held
 held_plain (Value v) text n h = value_plain v text n h
-held_plain (Number k) text n h = h
-held_plain (Bytes bytes) text n h = h
-held_plain (Digits bytes) text n h = h
-held_plain (Word word) text n h = h
-held_plain (Flag flag) text n h = h
-held_plain (WithOffset date) text n h = h
-held_plain (OptionalNumber k) text n h = h
-held_plain (OptionalBytes bytes) text n h = h
+held_plain _ text n h = h
 
 line_plain : (f : Said) (line : List ℕ) → is_float f.held ≡ false → IsLine f line → line ≡ line_of f
 unfolding line_of

@@ -1,5 +1,5 @@
 -- The fields of replies.
-use Rattle.std.specs.Prelude.{List, [], ◌∷◌, codes, option_map}
+use Rattle.std.specs.Prelude.{List, [], ◌∷◌, ◌++◌, codes, option_map}
 use Rattle.mysql_replies.specs.declared.column_count.ColumnCount.{ColumnCount}
 use Rattle.mysql_replies.specs.declared.local_infile.LocalInfilePacket.{LocalInfilePacket}
 use Rattle.mysql_replies.specs.declared.ok_packet.OkPacket.{OkPacket}
@@ -31,26 +31,16 @@ report_fields r =
 abbrev pub count_fields : ColumnCount → List Said
 count_fields c = said (codes "count") (Number (count c)) ∷ said (codes "metadata_follows") (Flag (metadata_follows c)) ∷ []
 
-abbrev pub ok_fields : OkPacket → List Said
-ok_fields ok =
-    said (codes "affected_rows") (Number (affected_rows ok))
-    ∷ said (codes "last_insert_id") (OptionalNumber (last_insert_id ok))
-    ∷ said (codes "status_flags") (Number (status_flags ok).0)
-    ∷ said (codes "warnings") (Number (warnings ok))
-    ∷ said (codes "info") (OptionalBytes (info ok))
-    ∷ []
-
 -- an EOF packet has only these two
 abbrev pub end_fields : OkPacket → List Said
 end_fields ok = said (codes "status_flags") (Number (status_flags ok).0) ∷ said (codes "warnings") (Number (warnings ok)) ∷ []
 
 -- the end of a result has no affected rows and no last insert id
 abbrev pub terminator_fields : OkPacket → List Said
-terminator_fields ok =
-    said (codes "status_flags") (Number (status_flags ok).0)
-    ∷ said (codes "warnings") (Number (warnings ok))
-    ∷ said (codes "info") (OptionalBytes (info ok))
-    ∷ []
+terminator_fields ok = end_fields ok ++ said (codes "info") (OptionalBytes (info ok)) ∷ []
+
+abbrev pub ok_fields : OkPacket → List Said
+ok_fields ok = said (codes "affected_rows") (Number (affected_rows ok)) ∷ said (codes "last_insert_id") (OptionalNumber (last_insert_id ok)) ∷ terminator_fields ok
 
 abbrev pub statement_fields : StmtPacket → List Said
 statement_fields s =

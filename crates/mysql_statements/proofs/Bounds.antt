@@ -160,9 +160,7 @@ within_defined memory None t h = within_otherwise t h
 
 within_failed : (task : Task) (t : Table) → IsWithin t → IsWithin (failed_at task t)
 within_failed Prepare t h = same_bounds t t.statements None Other (omega arith) (omega arith) refl h
-within_failed Other t h = within_otherwise t h
-within_failed (Definitions id params columns) t h = within_otherwise t h
-within_failed (Execution id columns) t h = within_otherwise t h
+within_failed _ t h = within_otherwise t h
 
 within_cleared : (t : Table) → IsWithin (cleared t)
 within_cleared t = record { statements = omega arith; types = omega arith }
@@ -182,9 +180,6 @@ within_follow limit ss n true h = within_capacity limit ss n (has_capacity limit
 within_follow limit ss n false h = omega arith
 
 within_counted : (task : Task) (width : ℕ) (follow : Bool) (t : Table) → IsWithin t → IsWithin (counted_at task width follow t)
-within_counted Other width follow t h = h
-within_counted Prepare width follow t h = h
-within_counted (Definitions id params columns) width follow t h = h
 within_counted (Execution id left) width follow t h = record {
   statements = let a = length_change id (with_result width follow) t.statements in let b = h.statements in omega arith;
   types =
@@ -192,6 +187,7 @@ within_counted (Execution id left) width follow t h = record {
       let b = h.types in
       within_follow t.limits.types (change id (with_result width follow) t.statements) width follow (omega arith);
 }
+within_counted _ width follow t h = h
 
 expected_following : (follow : Bool) (id params columns : ℕ) → expected (following follow id params columns) ≤ columns
 expected_following true id params columns = omega arith

@@ -48,11 +48,9 @@ types_read nulls place (b ∷ bs) bytes rest xs e =
 
 -- these are the types that are kept
 types_kept : (s : Bool) (ps : List BoundParam) (ts : List NamedType) → map kept (map without_data (given_types s ps ts)) ≡ map in_use (in_force s ps ts)
-types_kept true [] ts = refl
-types_kept true (p ∷ ps) [] = refl
 types_kept true (p ∷ ps) (t ∷ ts) = ap (λ l. t.param_type ∷ l) (types_kept true ps ts)
-types_kept false [] ts = refl
 types_kept false (p ∷ ps) ts = ap (λ l. p.param_type ∷ l) (types_kept false ps ts)
+types_kept _ _ _ = refl
 
 pub execution_keeps : (c : CapabilityFlags) (s : Kept) (p body rest : List ℕ) (h : ComStmtExecuteHead) (params : List TypedParam) (attributes : List Attribute) → (execute_head.form tt).reads p ≡ Ok (h, body)
     → (execution c (cursor_flags h) s.params).reads body ≡ Ok ((params, attributes), rest) → map kept (with_execution (Single c) p s).params ≡ map type_read params

@@ -64,10 +64,8 @@ change_when : (f : Kept → Kept) (b : Bool) (o : Option ℕ) (s : Kept) (ss cha
     → (if b then Some 0 else option_map suc o) ≡ Some i → x ≡ get_or (s ∷ ss) i x
     → (if b then f s ∷ ss else s ∷ changed) ≡ set (s ∷ ss) i (f x)
 change_when f true o s ss changed zero x ih h r = ap (λ y. f y ∷ ss) (sym r)
-change_when f true o s ss changed (suc i) x ih h r = absurd cc
-change_when f false None s ss changed i x ih h r = absurd cc
-change_when f false (Some j) s ss changed zero x ih h r = absurd cc
 change_when f false (Some j) s ss changed (suc i) x ih h r = ap (λ l. s ∷ l) (ih i (cc) r)
+change_when f _ _ s ss changed _ x ih h r = absurd cc
 
 pub change_at : (id : ℕ) (f : Kept → Kept) (xs : List Kept) (i : ℕ) (x : Kept) → place_of id xs ≡ Some i → x ≡ get_or xs i x → change id f xs ≡ set xs i (f x)
 change_at id f [] i x h r = absurd cc
@@ -83,10 +81,8 @@ find_when : (b : Bool) (o : Option ℕ) (s : Kept) (ss : List Kept) (found : Opt
     → (if b then Some 0 else option_map suc o) ≡ Some i → x ≡ get_or (s ∷ ss) i x
     → (if b then Some s else found) ≡ Some x
 find_when true o s ss found zero x ih h r = ap (λ y. Some y) (sym r)
-find_when true o s ss found (suc i) x ih h r = absurd cc
-find_when false None s ss found i x ih h r = absurd cc
-find_when false (Some j) s ss found zero x ih h r = absurd cc
 find_when false (Some j) s ss found (suc i) x ih h r = ih i (cc) r
+find_when _ _ s ss found _ x ih h r = absurd cc
 
 pub find_at : (id : ℕ) (xs : List Kept) (i : ℕ) (x : Kept) → place_of id xs ≡ Some i → x ≡ get_or xs i x → find id xs ≡ Some x
 find_at id [] i x h r = absurd cc

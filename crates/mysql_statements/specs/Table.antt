@@ -93,9 +93,7 @@ prepared memory id params columns follow t =
 -- a statement could not be prepared
 abbrev pub failed_at : Task → Table → Table
 failed_at Prepare t = with t t.statements None Other
-failed_at Other t = otherwise t
-failed_at (Definitions id params columns) t = otherwise t
-failed_at (Execution id columns) t = otherwise t
+failed_at _ t = otherwise t
 
 abbrev pub failed : Table → Table
 failed t = failed_at t.task t

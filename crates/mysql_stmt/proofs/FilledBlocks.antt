@@ -8,10 +8,9 @@ use Rattle.mysql_wire.specs.Reading.{IsTail, IsTail-refl, IsTail-trans}
 use Rattle.mysql_wire.specs.Writing.{le_bytes}
 use Rattle.mysql_values.specs.Value.{Content}
 use Rattle.mysql_stmt.specs.declared.stored_form.StoredForm.{StoredForm}
-use Rattle.mysql_stmt.specs.declared.stored_form.StoredForm.TheVariants as stored
 use Rattle.mysql_stmt.specs.RowView.{RowLeft, Gives}
-use Rattle.mysql_stmt.specs.StoredRow.{AreStored, HoldsRow, IsStored, ReadsAs, code_of, entry_number, entry_reading, first_entry, form_of, form_of_code, stored_size, stored_values, value_read}
-use Rattle.mysql_stmt.proofs.StoredRows.{code-again, values-append, stored-append, values-more, stored-more}
+use Rattle.mysql_stmt.specs.StoredRow.{AreStored, HoldsRow, IsCode, IsStored, ReadsAs, entry_number, entry_reading, first_entry, form_of, form_of_code, stored_size, stored_values, value_read}
+use Rattle.mysql_stmt.proofs.StoredRows.{values-append, stored-append, values-more, stored-more}
 
 -- the entries of the values read so far describe them, whatever follows in the block
 pub record Filling (row now : RowLeft) (block : List ℕ) : Type 0 where
@@ -51,47 +50,31 @@ at-place row tail final place t rest at =
     ap (λ (n : ℕ). drop n final) at ∙ sym (drop-drop (length row.rest - length tail) (8 * row.left) final)
     ∙ ap (λ (b : List ℕ). drop (length row.rest - length tail) b) rest ∙ tail-is tail row.rest t
 
-code-small : (f : StoredForm) → code_of f < 14
-code-small stored.Null = omega arith
-code-small stored.String = omega arith
-code-small stored.Tiny = omega arith
-code-small stored.UnsignedTiny = omega arith
-code-small stored.Short = omega arith
-code-small stored.UnsignedShort = omega arith
-code-small stored.Long = omega arith
-code-small stored.UnsignedLong = omega arith
-code-small stored.LongLong = omega arith
-code-small stored.UnsignedLongLong = omega arith
-code-small stored.Float = omega arith
-code-small stored.Double = omega arith
-code-small stored.Date = omega arith
-code-small stored.Time = omega arith
-
 -- an entry as it is read: the place, and the number of the form
-entry-is : (f : StoredForm) (place : ℕ) → place < 2 ^ 32 → first_entry (le_bytes 8 (entry_number f place)) ≡ entry_number f place
-entry-is f place small =
-    let n = entry_number f place in
-    let fits : n < 256 ^ 8 = omega (arith, small, code-small f) in
+entry-is : (code place : ℕ) → code < 14 → place < 2 ^ 32 → first_entry (le_bytes 8 (entry_number code place)) ≡ entry_number code place
+entry-is code place low small =
+    let n = entry_number code place in
+    let fits : n < 256 ^ 8 = omega (arith, small, low) in
     ap le_value (take_all 8 (le_bytes 8 n) (let l : length (le_bytes 8 n) ≤ 8 = omega (arith, length-le_bytes 8 n) in l)) ∙ value-le_bytes 8 n fits
 
-entry-place : (f : StoredForm) (place : ℕ) → place < 2 ^ 32 → first_entry (le_bytes 8 (entry_number f place)) % 2 ^ 32 ≡ place
-entry-place f place small = rw (entry-is f place small) (omega (arith, small))
+entry-place : (code place : ℕ) → code < 14 → place < 2 ^ 32 → first_entry (le_bytes 8 (entry_number code place)) % 2 ^ 32 ≡ place
+entry-place code place low small = rw (entry-is code place low small) (omega (arith, small))
 
-entry-code : (f : StoredForm) (place : ℕ) → place < 2 ^ 32 → first_entry (le_bytes 8 (entry_number f place)) / 2 ^ 32 ≡ code_of f
-entry-code f place small = rw (entry-is f place small) (omega (arith, small))
+entry-code : (code place : ℕ) → code < 14 → place < 2 ^ 32 → first_entry (le_bytes 8 (entry_number code place)) / 2 ^ 32 ≡ code
+entry-code code place low small = rw (entry-is code place low small) (omega (arith, small))
 
-entry-reads : (f : StoredForm) (place : ℕ) (final bytes : List ℕ) (x : Content) (after : List ℕ) → place < 2 ^ 32 → drop place final ≡ bytes → (form_of f).reads bytes ≡ Ok (x, after)
-    → entry_reading (le_bytes 8 (entry_number f place)) final ≡ Ok (x, after)
-entry-reads f place final bytes x after small at reads =
-    let entry = first_entry (le_bytes 8 (entry_number f place)) in
-    ap (λ (c : ℕ). (form_of_code c).reads (drop (entry % 2 ^ 32) final)) (entry-code f place small)
-    ∙ ap (λ (g : StoredForm). (form_of g).reads (drop (entry % 2 ^ 32) final)) (code-again f)
-    ∙ ap (λ (n : ℕ). (form_of f).reads (drop n final)) (entry-place f place small) ∙ ap (λ (b : List ℕ). (form_of f).reads b) at ∙ reads
+entry-reads : (f : StoredForm) (code place : ℕ) (final bytes : List ℕ) (x : Content) (after : List ℕ) → IsCode f code → place < 2 ^ 32 → drop place final ≡ bytes → (form_of f).reads bytes ≡ Ok (x, after)
+    → entry_reading (le_bytes 8 (entry_number code place)) final ≡ Ok (x, after)
+entry-reads f code place final bytes x after is small at reads =
+    let entry = first_entry (le_bytes 8 (entry_number code place)) in
+    ap (λ (c : ℕ). (form_of_code c).reads (drop (entry % 2 ^ 32) final)) (entry-code code place is.small small)
+    ∙ ap (λ (g : StoredForm). (form_of g).reads (drop (entry % 2 ^ 32) final)) is.form
+    ∙ ap (λ (n : ℕ). (form_of f).reads (drop n final)) (entry-place code place is.small small) ∙ ap (λ (b : List ℕ). (form_of f).reads b) at ∙ reads
 
 -- one more entry
-pub filling-more : (row old new : RowLeft) (block : List ℕ) (f : StoredForm) (place : ℕ) → Filling row old block → (x : Content) × Gives old x new × IsTail new.rest old.rest × ReadsAs f old.rest x
-    → place ≡ 8 * row.left + length row.rest - length old.rest → stored_size row < 2 ^ 32 → Filling row new (block ++ le_bytes 8 (entry_number f place))
-filling-more row old new block f place h p at small =
+pub filling-more : (row old new : RowLeft) (block : List ℕ) (f : StoredForm) (code place : ℕ) → IsCode f code → Filling row old block → (x : Content) × Gives old x new × IsTail new.rest old.rest × ReadsAs f old.rest x
+    → place ≡ 8 * row.left + length row.rest - length old.rest → stored_size row < 2 ^ 32 → Filling row new (block ++ le_bytes 8 (entry_number code place))
+filling-more row old new block f code place is h p at small =
     let x = p.0 in
     let gives = p.1 in
     let after = p.3.0 in
@@ -99,8 +82,8 @@ filling-more row old new block f place h p at small =
     let shorter : length old.rest ≤ length row.rest = tail-shorter old.rest row.rest h.tail in
     let place_is : place ≡ 8 * row.left + (length row.rest - length old.rest) = omega (arith, at, shorter) in
     let fits : place < 2 ^ 32 = omega (arith, place_is, small) in
-    let entry : List ℕ = le_bytes 8 (entry_number f place) in
-    let entry_len : length entry ≡ 8 = length-le_bytes 8 (entry_number f place) in
+    let entry : List ℕ = le_bytes 8 (entry_number code place) in
+    let entry_len : length entry ≡ 8 = length-le_bytes 8 (entry_number code place) in
     record {
       done = suc h.done;
       count = omega (arith, h.count, gives.0);
@@ -110,10 +93,10 @@ filling-more row old new block f place h p at small =
       good = λ final len rest.
           let before = h.good final len rest in
           let here : drop place final ≡ old.rest = at-place row old.rest final place h.tail rest place_is in
-          let read : entry_reading entry final ≡ Ok (x, after) = entry-reads f place final old.rest x after fits here reads in
+          let read : entry_reading entry final ≡ Ok (x, after) = entry-reads f code place final old.rest x after is fits here reads in
           let stored : IsStored entry final = record {
             size = omega (arith, entry_len);
-            place = omega (arith, entry-place f place fits, place_is, len);
+            place = omega (arith, entry-place code place is.small fits, place_is, len);
             good = (x, after, read);
           } in
           let one : value_read (entry_reading entry final) ≡ x = ap value_read read in (

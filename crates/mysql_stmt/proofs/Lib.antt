@@ -2,7 +2,7 @@ pub mod Cells
 pub mod RowMemory
 pub mod Nulls
 pub mod PackedBits
-pub mod SentNulls
+pub mod ParamNulls
 pub mod SentBytes
 pub mod ExecutionBytes
 pub mod QueryParts

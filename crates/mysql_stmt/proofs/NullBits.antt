@@ -33,3 +33,5 @@ bits-after offset nulls none place left more h one = record {
   clear = h.clear;
   counted = omega (arith, h.counted, one);
 }
+
+pub ruleset next_bits = (bits-after)

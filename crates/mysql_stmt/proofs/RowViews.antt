@@ -38,8 +38,8 @@ module _ {C : Type 0} (f : ℕ → C → Form Content) (place : ℕ) (c : C) (cs
       ((read-fails _ (kind-in e read h).1).0, fault-same false e read (read_of (row_left f place (c ∷ cs) bytes)) (λ k h. (read-fails k h).1) h)
 
 -- no value is left
-pub no-value : {C : Type 0} (f : ℕ → C → Form Content) (place : ℕ) (cs : List C) (bytes : List ℕ) → length cs ≡ 0 → IsDone (row_left f place cs bytes)
-no-value f place cs bytes none = (none, (none-left f place cs bytes none).0)
+pub no-value : {C : Type 0} (f : ℕ → C → Form Content) (place : ℕ) (cs : List C) (bytes : List ℕ) (row : RowLeft) → row_left f place cs bytes ≡ row → length cs ≡ 0 → IsDone row
+no-value f place cs bytes row view none = subst IsDone view (none, (none-left f place cs bytes none).0)
 
 pub no-text : (f : ℕ → Unit {0} → Form Content) (left : ℕ) (bytes : List ℕ) → left ≡ 0 → ((several_in f 0 (replicate left tt) bytes).read ≡ []) × ((several_in f 0 (replicate left tt) bytes).end ≡ Ok bytes)
 unfolding several_in
@@ -48,7 +48,8 @@ no-text f left bytes e = (rw e refl, rw e refl)
 -- ---- one value of a binary row, NULL by the bitmap or read from the row's buffer: the first of the rest
 
 module _ {C : Type 0} (type_of : C → ColumnType) (unsigned : C → Bool) (nulls : List ℕ) (offset place : ℕ) (c : C) (cs left : List C) (bytes at : List ℕ)
-    (is_null : Bool) (bit : IsTrue is_null ↔ (cell nulls (place + offset) ≡ 1)) (cut : left ≡ c ∷ cs) (at_is : at ≡ bytes) where
+    (is_null : Bool) (bit : IsTrue is_null ↔ (cell nulls (place + offset) ≡ 1)) (cut : left ≡ c ∷ cs) (at_is : at ≡ bytes)
+    (row : RowLeft) (view : row_left (ref_cell type_of unsigned nulls offset) place left bytes ≡ row) where
   abbrev value_read : Bool → List ℕ → Reading Content
   value_read b buf = (ref_unless type_of unsigned b c).reads buf
 
@@ -61,19 +62,19 @@ module _ {C : Type 0} (type_of : C → ColumnType) (unsigned : C → Bool) (null
   abbrev row_before : List C → RowLeft
   row_before l = row_left (ref_cell type_of unsigned nulls offset) place l bytes
 
-  pub first-value : (x : Content) (after : List ℕ) → value_read is_null at ≡ Ok (x, after) → Gives (row_before left) x (row_after after)
+  pub first-value : (x : Content) (after : List ℕ) → value_read is_null at ≡ Ok (x, after) → Gives row x (row_after after)
   first-value x after h =
       let f = ref_cell type_of unsigned nulls offset in
       let here = subst (λ (buf : List ℕ). value_read (cell nulls (place + offset) == 1) buf ≡ Ok (x, after)) at_is (subst (λ (b : Bool). value_read b at ≡ Ok (x, after)) is_the_bit h) in
-      subst (λ (l : List C). Gives (row_before l) x (row_after after)) (sym cut)
+      subst (λ (r : RowLeft). Gives r x (row_after after)) (ap row_before (sym cut) ∙ view)
       (refl, one-more f place c cs bytes x after here, same-end f place c cs bytes x after here, same-tails f place c cs bytes x after here)
 
   -- its fault is that of the row
-  pub first-fault : (e : FaultOf) → Faults false e (value_read is_null at) → RefusesNext e (row_before left)
+  pub first-fault : (e : FaultOf) → Faults false e (value_read is_null at) → RefusesNext e row
   first-fault e h =
       let f = ref_cell type_of unsigned nulls offset in
       let here = subst (λ (buf : List ℕ). Faults false e (value_read (cell nulls (place + offset) == 1) buf)) at_is (subst (λ (b : Bool). Faults false e (value_read b at)) is_the_bit h) in
-      subst (λ (l : List C). RefusesNext e (row_before l)) (sym cut) (one-fault f place c cs bytes e here)
+      subst (RefusesNext e) (ap row_before (sym cut) ∙ view) (one-fault f place c cs bytes e here)
 
 -- ---- all values of a row
 

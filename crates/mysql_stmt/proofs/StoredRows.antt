@@ -1,6 +1,6 @@
 -- Rows in one block: its entries, one more entry, and the entry at a place.
 use Rattle.std.proofs.Common.{◌≡◌, ◌∙◌, sym, ap, subst, zero, suc, ℕ, ◌+◌, ◌*◌, ◌<◌, ◌≤◌, ◌^◌, ◌++◌, List, [], ◌∷◌, Result, Ok, Err, Some, None, Option, Bool, true, false, length, drop, take, refl, arith, length-append, length-drop}
-use Rattle.std.specs.Prelude.{◌/◌, ◌%◌, slice_get, slice_index_or, nat_lt, map, if◌then◌else◌}
+use Rattle.std.specs.Prelude.{◌/◌, ◌%◌, slice_get, nat_lt, map, if◌then◌else◌}
 use Rattle.std.proofs.lemmas.List.{take-append-le, drop-append-le, drop-drop}
 use Rattle.mysql_wire.specs.declared.fault.FaultOf.{FaultOf}
 use Rattle.mysql_wire.specs.declared.fault.FaultKind.{FaultKind}
@@ -9,27 +9,8 @@ use Rattle.mysql_wire.specs.Form.{bytes, le_value, number}
 use Rattle.mysql_wire.specs.Reading.{Reading, Faults, then_read, done-value, done-rest}
 use Rattle.mysql_wire.proofs.Refused.{fault-same, no-fault}
 use Rattle.mysql_values.specs.Value.{Content}
-use Rattle.mysql_stmt.specs.declared.stored_form.StoredForm.{StoredForm}
-use Rattle.mysql_stmt.specs.declared.stored_form.StoredForm.TheVariants as stored
 use Rattle.mysql_stmt.specs.RowView.{read_to}
-use Rattle.mysql_stmt.specs.StoredRow.{AreStored, IsStored, code_of, entry_reading, first_entry, form_of_code, stored_forms, stored_values, value_read}
-
--- the form of its own number
-pub code-again : (f : StoredForm) → slice_index_or stored_forms (code_of f) stored.Null ≡ f
-code-again stored.Null = refl
-code-again stored.String = refl
-code-again stored.Tiny = refl
-code-again stored.UnsignedTiny = refl
-code-again stored.Short = refl
-code-again stored.UnsignedShort = refl
-code-again stored.Long = refl
-code-again stored.UnsignedLong = refl
-code-again stored.LongLong = refl
-code-again stored.UnsignedLongLong = refl
-code-again stored.Float = refl
-code-again stored.Double = refl
-code-again stored.Date = refl
-code-again stored.Time = refl
+use Rattle.mysql_stmt.specs.StoredRow.{AreStored, IsStored, entry_reading, first_entry, form_of_code, stored_values, value_read}
 
 -- a fault follows the values, whatever they are
 kind-same : (vs ws : List Content) (end : Result (List ℕ) FaultKind) (k : FaultKind) → read_to vs end ≡ Err k → read_to ws end ≡ Err k

@@ -1,25 +1,13 @@
 -- A NULL bitmap in the bytes.
-use Rattle.std.specs.Prelude.{◌≡◌, ℕ, ◌+◌, ◌^◌, List, None, Ok, Err, Bool, true, false, nat_lt, refl}
+use Rattle.std.specs.Prelude.{◌≡◌, ℕ, ◌+◌, ◌^◌, List, None, Bool, true, false, nat_lt, refl}
 use Rattle.mysql_wire.specs.declared.fault.FaultKind.TheVariants as kind
-use Rattle.mysql_wire.specs.Reading.{Reading}
-use Rattle.mysql_wire.specs.Form.{Form, map, either}
+use Rattle.mysql_wire.specs.Form.{Form, map, either, refuse_with}
 use Rattle.mysql_wire.specs.Bare.{bare}
 use Rattle.mysql_stmt.specs.Bitmap.{Bitmap, bytes_for}
 
-pub none-missing : {A P : Type 0} (v : A) (rest : List ℕ) → ◌≡◌ {A = Reading A} (Err kind.UnexpectedEof) (Ok (v, rest)) → P
-none-missing v rest e = absurd cc
-
 -- more bytes than there can be
 abbrev pub missing : {A : Type 0} → Form A
-missing {A} = record {
-  size = None;
-  Spells = λ v bytes rest. ⊥;
-  reads = λ bytes. Err kind.UnexpectedEof;
-  found = λ v bytes rest e. none-missing v rest e;
-  only = λ v bytes rest s. absurd s;
-  front = λ v bytes rest e. none-missing v rest e;
-  sized = tt;
-}
+missing = refuse_with kind.UnexpectedEof
 
 abbrev pub borrowed : List ℕ → Bitmap
 borrowed bytes = record { bytes = bytes; owned = false }

@@ -1,5 +1,5 @@
 -- Rows that outlive their packets, in one block of bytes: an entry of eight bytes for each value, and then the bytes of the values.
-use Rattle.std.specs.Prelude.{◌≡◌, ℕ, zero, suc, ◌+◌, ◌*◌, ◌/◌, ◌%◌, ◌≤◌, ◌^◌, ◌&&◌, Bool, true, false, List, [], ◌∷◌, length, map, take, drop, slice_get, slice_index_or, nat_lt, Option, Some, None, Result, Ok, Err, if◌then◌else◌}
+use Rattle.std.specs.Prelude.{◌≡◌, ℕ, zero, suc, ◌+◌, ◌*◌, ◌/◌, ◌%◌, ◌<◌, ◌≤◌, ◌^◌, ◌&&◌, Bool, true, false, List, [], ◌∷◌, length, map, take, drop, slice_get, slice_index_or, nat_lt, Option, Some, None, Result, Ok, Err, if◌then◌else◌}
 use Rattle.mysql_wire.specs.declared.fault.FaultOf.{FaultOf}
 use Rattle.mysql_wire.specs.declared.fault.FaultKind.TheVariants as fault
 use Rattle.mysql_wire.specs.Reading.{Reading, Faults, IsTail}
@@ -31,23 +31,7 @@ form_of stored.Double = value_of_kind value.Double false
 form_of stored.Date = value_of_kind value.Date false
 form_of stored.Time = value_of_kind value.Time false
 
--- the number of a form, in its order
-abbrev pub code_of : StoredForm → ℕ
-code_of stored.Null = 0
-code_of stored.String = 1
-code_of stored.Tiny = 2
-code_of stored.UnsignedTiny = 3
-code_of stored.Short = 4
-code_of stored.UnsignedShort = 5
-code_of stored.Long = 6
-code_of stored.UnsignedLong = 7
-code_of stored.LongLong = 8
-code_of stored.UnsignedLongLong = 9
-code_of stored.Float = 10
-code_of stored.Double = 11
-code_of stored.Date = 12
-code_of stored.Time = 13
-
+-- the forms, by their numbers
 abbrev pub stored_forms : List StoredForm
 stored_forms =
     stored.Null
@@ -69,6 +53,11 @@ stored_forms =
 -- the form that has the number
 abbrev pub form_of_code : ℕ → Form Content
 form_of_code n = form_of (slice_index_or stored_forms n stored.Null)
+
+-- the form has the number
+pub record IsCode (f : StoredForm) (n : ℕ) : Type 0 where
+  pub form : slice_index_or stored_forms n stored.Null ≡ f
+  pub small : n < 14
 
 -- values of the kind are stored in this form
 abbrev pub IsStoredAs : ValueKind → Bool → StoredForm → Type 0
@@ -98,8 +87,11 @@ ChecksRow (Err e) row = Faults false e (read_of row)
 -- ---- the block
 
 -- an entry is a number: the place of the value's bytes in the block, and in the upper half the number of its form
-abbrev pub entry_number : StoredForm → (place : ℕ) → ℕ
-entry_number form place = code_of form * 2 ^ 32 + place
+abbrev pub entry_number : (code place : ℕ) → ℕ
+entry_number code place = code * 2 ^ 32 + place
+
+abbrev pub IsEntry : StoredForm → (place n : ℕ) → Type 0
+IsEntry form place n = (code : ℕ) × IsCode form code × (n ≡ entry_number code place)
 
 abbrev pub first_entry : List ℕ → ℕ
 first_entry entries = le_value (take 8 entries)

@@ -292,6 +292,7 @@ impl<'a, 'c, S: SerializationSide, C: TypedColumn> BinaryRowView<'a, 'c, S, C> {
 
     /// Reads the next value, or returns `None` after the last. After an error the row is unchanged.
     #[inline(always)]
+    #[tactic(auto, using(crate::proofs::NullBits::next_bits))]
     pub fn next_value<'s>(&mut self) -> Result<Option<ValueRef<'a>>, FaultOf<'s>>
         ensures value { GivesOne self.old result self.new }
     {
@@ -309,6 +310,7 @@ impl<'a, 'c, S: SerializationSide, C: TypedColumn> BinaryRowView<'a, 'c, S, C> {
 
     /// Reads the next value, which exists, into a place. After an error the row and the place are unchanged.
     #[inline(always)]
+    #[tactic(auto, using(crate::proofs::NullBits::next_bits))]
     fn put_next<'s>(&mut self, place: &mut ValueRef<'a>) -> Result<(), FaultOf<'s>>
         requires { 0 < self.old.left }
         ensures value { OnOk result (GivesOne self.old (Ok (Some place.new)) self.new) }
@@ -365,13 +367,8 @@ impl<'a, 'c, S: SerializationSide, C: TypedColumn> RowView<'a> for BinaryRowView
     ghost remains = { λ row. row };
 
     #[inline(always)]
-    fn left(&self) -> usize {
-        self.left()
-    }
-
-    #[inline(always)]
-    fn rest(&self) -> ParseBuf<'a> {
-        self.rest()
+    fn remaining(&self) -> (usize, ParseBuf<'a>) {
+        (self.left(), self.rest())
     }
 
     fn check<'s>(&self) -> Result<(), FaultOf<'s>> {
@@ -386,6 +383,7 @@ impl<'a, 'c, S: SerializationSide, C: TypedColumn> RowView<'a> for BinaryRowView
     }
 
     #[inline(always)]
+    #[tactic(auto, using(crate::proofs::NullBits::next_bits))]
     fn next_form<'s>(&mut self) -> Result<Option<StoredForm>, FaultOf<'s>> {
         let Some((column, columns)) = self.columns.split_first() else {
             return Ok(None);

@@ -69,6 +69,7 @@ pub use row::{Row, new_row, new_row_raw};
 pub use row_deserializer::RowDeserializer;
 pub use row_protocol::RowProtocol;
 pub use row_view::RowView;
+pub use sent_nulls::SentNulls;
 pub use sent_types::SentParamTypes;
 pub use stmt::{InvalidStmtPacketStatus, StmtPacket};
 pub use stmt_fetch::{ComStmtFetch, ComStmtFetchHeader, InvalidComStmtFetchHeader};

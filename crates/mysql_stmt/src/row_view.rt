@@ -15,15 +15,30 @@ pub trait RowView<'a>: Sized + Drop {
     /// The rest of the row.
     ghost remains: { Self → RowLeft };
 
+    /// The number of remaining values, and the bytes after those that were read.
+    fn remaining(&self) -> (usize, ParseBuf<'a>)
+        ensures left { result.0 ≡ (remains self.now).left }
+        ensures done { result.0 ≡ 0 → IsDone (remains self.now) }
+        ensures end { result.0 ≡ 0 → (remains self.now).end ≡ Ok result.1 }
+        ensures rest { result.1 ≡ (remains self.now).rest };
+
     /// The number of remaining values.
-    fn left(&self) -> usize
+    #[inline(always)]
+    final fn left(&self) -> usize
         ensures value { result ≡ (remains self.now).left }
-        ensures done { result ≡ 0 → IsDone (remains self.now) };
+        ensures done { result ≡ 0 → IsDone (remains self.now) }
+    {
+        self.remaining().0
+    }
 
     /// The bytes after the values that were read: after the last, the bytes that follow the row.
-    fn rest(&self) -> ParseBuf<'a>
+    #[inline(always)]
+    final fn rest(&self) -> ParseBuf<'a>
         ensures value { (remains self.now).left ≡ 0 → (remains self.now).end ≡ Ok result }
-        ensures read { result ≡ (remains self.now).rest };
+        ensures read { result ≡ (remains self.now).rest }
+    {
+        self.remaining().1
+    }
 
     /// Checks that all remaining values can be read, or returns the first fault. It changes nothing.
     fn check<'s>(&self) -> Result<(), FaultOf<'s>>

@@ -1,5 +1,5 @@
 //! The NULL bitmap of parameters and attributes, as a client sends it.
-#![tactic(auto, using(crate::proofs::SentNulls::sent_nulls))]
+#![tactic(auto, using(crate::proofs::ParamNulls::sent_nulls))]
 
 ghost use Rattle.std.specs.Prelude.{◌≡◌, ◌<◌, ◌+◌, ◌^◌, length, drop, get_or, if◌then◌else◌};
 ghost use Rattle.mysql_stmt.specs.Bitmap.{bytes_for};
@@ -73,9 +73,11 @@ impl<V: AsExecuteParam, A: AsExecuteParam> NullBits<'_, V, A> {
 /// The NULL bitmap: a bit for each parameter and then for each attribute, the first one the lowest, set for
 /// NULL. It is written byte by byte, without memory.
 #[derive(Drop)]
-pub(crate) struct SentNulls<'a, V, A> {
-    pub(crate) params: &'a [V],
-    pub(crate) attributes: &'a [A],
+pub struct SentNulls<'a, V, A> {
+    /// The parameters.
+    pub params: &'a [V],
+    /// The attributes.
+    pub attributes: &'a [A],
 }
 
 impl<V, A> SentNulls<'_, V, A> {
@@ -94,12 +96,12 @@ impl<V: AsExecuteParam, A: AsExecuteParam> MySerialize for SentNulls<'_, V, A> {
 
     ghost bytes = { λ n. bitmap_with V.param A.param n.params.now n.attributes.now };
 
-    #[tactic(auto, using(crate::proofs::SentNulls::bitmap_lengths), unfolding(mysql_wire::specs::Writing::saturated))]
+    #[tactic(auto, using(crate::proofs::ParamNulls::bitmap_lengths), unfolding(mysql_wire::specs::Writing::saturated))]
     fn defined_len(&self) -> usize {
         self.bitmap_len()
     }
 
-    #[tactic(auto, using(mysql_wire::proofs::After::after, crate::proofs::SentNulls::bitmap_lengths))]
+    #[tactic(auto, using(mysql_wire::proofs::After::after, crate::proofs::ParamNulls::bitmap_lengths))]
     fn append<O: Buffer>(&self, out: &mut O) {
         let mut bytes = out.taken();
         let mut bits = NullBits {

@@ -4,7 +4,7 @@ ghost use Rattle.std.specs.Prelude.{false, ◌≡◌, List, ℕ};
 ghost use Rattle.mysql_wire.specs.Reading.{Answers};
 ghost use Rattle.mysql_values.specs.ValueDeserializer.{value_of_kind};
 ghost use Rattle.mysql_values.specs.ValueRef.{refs_contents};
-ghost use Rattle.mysql_stmt.specs.StoredRow.{IsStoredAs, code_of, form_of_code};
+ghost use Rattle.mysql_stmt.specs.StoredRow.{IsCode, IsStoredAs, form_of_code};
 
 use mysql_values::{
     ValueKind, ValueRef, read_kind_ref, read_long_ref, read_longlong_ref, read_string_ref,
@@ -71,24 +71,9 @@ impl StoredForm {
     /// The number of the form.
     #[inline(always)]
     pub(crate) fn code(self) -> u8
-        ensures value { result ≡ code_of self }
+        ensures value { IsCode self result }
     {
-        match self {
-            StoredForm::Null => 0,
-            StoredForm::String => 1,
-            StoredForm::Tiny => 2,
-            StoredForm::UnsignedTiny => 3,
-            StoredForm::Short => 4,
-            StoredForm::UnsignedShort => 5,
-            StoredForm::Long => 6,
-            StoredForm::UnsignedLong => 7,
-            StoredForm::LongLong => 8,
-            StoredForm::UnsignedLongLong => 9,
-            StoredForm::Float => 10,
-            StoredForm::Double => 11,
-            StoredForm::Date => 12,
-            StoredForm::Time => 13,
-        }
+        self as u8
     }
 }
 

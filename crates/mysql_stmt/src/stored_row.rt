@@ -6,7 +6,7 @@ ghost use Rattle.std.specs.Rc.{rc_slice_items};
 ghost use Rattle.mysql_values.specs.Cells.{held};
 ghost use Rattle.mysql_values.specs.ValueRef.{ref_content};
 ghost use Rattle.mysql_stmt.specs.RowView.{read_of};
-ghost use Rattle.mysql_stmt.specs.StoredRow.{FindsValue, HoldsRow, StoresRow, entry_number, first_entry, is_storable, reads_to_store, stored_size};
+ghost use Rattle.mysql_stmt.specs.StoredRow.{FindsValue, HoldsRow, IsEntry, StoresRow, first_entry, is_storable, reads_to_store, stored_size};
 
 use crate::column_index::ColumnIndex;
 use crate::row::{Row, new_row_raw};
@@ -30,7 +30,7 @@ const PLACES: u64 = 1 << 32;
 #[inline(always)]
 fn entry_of(form: StoredForm, place: usize) -> u64
     requires { place < 2 ^ 32 }
-    ensures value { result ≡ entry_number form place }
+    ensures value { IsEntry form place result }
 {
     u64::from(form.code()) * PLACES + place as u64
 }

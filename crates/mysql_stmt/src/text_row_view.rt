@@ -131,13 +131,8 @@ impl<'a> RowView<'a> for TextRowView<'a> {
     ghost remains = { λ row. row };
 
     #[inline(always)]
-    fn left(&self) -> usize {
-        self.left()
-    }
-
-    #[inline(always)]
-    fn rest(&self) -> ParseBuf<'a> {
-        self.rest()
+    fn remaining(&self) -> (usize, ParseBuf<'a>) {
+        (self.left(), self.rest())
     }
 
     fn check<'s>(&self) -> Result<(), FaultOf<'s>> {

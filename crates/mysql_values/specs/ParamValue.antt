@@ -17,6 +17,7 @@ use Rattle.mysql_values.specs.ReadingBack.{IsInRange}
 use Rattle.mysql_values.specs.TypedValue.{is_unsigned_type, kind_read, kind_spelled, kind_typed}
 use Rattle.mysql_values.specs.Value.{Content, NULL}
 use Rattle.mysql_values.specs.ValueDeserializer.{date_value, value_of_kind}
+use Rattle.mysql_values.specs.ValueKind.{kind_of}
 use Rattle.mysql_values.specs.ValueRef.{ref_content}
 
 -- what a parameter contains, borrowed or not
@@ -35,20 +36,15 @@ param_contents (Err e) = Err e
 
 -- ---- the types
 
--- the values of a parameter of each type: numbers of these types, dates and times; any other type is a string
+abbrev pub or_string : ValueKind → ValueKind
+or_string kind.Unsupported = kind.String
+or_string k = k
+
+-- the values of a parameter of each type: those of rows, but INT24, YEAR and the reserved types are strings
 abbrev pub param_kind : ColumnType → ValueKind
-param_kind column.MYSQL_TYPE_TINY = kind.Tiny
-param_kind column.MYSQL_TYPE_SHORT = kind.Short
-param_kind column.MYSQL_TYPE_LONG = kind.Long
-param_kind column.MYSQL_TYPE_LONGLONG = kind.LongLong
-param_kind column.MYSQL_TYPE_FLOAT = kind.Float
-param_kind column.MYSQL_TYPE_DOUBLE = kind.Double
-param_kind column.MYSQL_TYPE_DATE = kind.Date
-param_kind column.MYSQL_TYPE_TIME = kind.Time
-param_kind column.MYSQL_TYPE_DATETIME = kind.DateTime
-param_kind column.MYSQL_TYPE_TIMESTAMP = kind.DateTime
-param_kind column.MYSQL_TYPE_NULL = kind.Null
-param_kind _ = kind.String
+param_kind column.MYSQL_TYPE_INT24 = kind.String
+param_kind column.MYSQL_TYPE_YEAR = kind.String
+param_kind t = or_string (kind_of t)
 
 abbrev pub kind_under : ParamType → ValueKind
 kind_under t = param_kind t.column_type

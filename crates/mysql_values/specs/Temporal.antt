@@ -149,14 +149,6 @@ time_span = do
   length ← byte
   time_span_from length.0
 
-pub size-day : day.size ≡ Some 4
-unfolding day bytes
-size-day = refl
-
-pub size-clock : clock.size ≡ Some 3
-unfolding clock bytes
-size-clock = refl
-
 pub size-date_time : date_time.size ≡ None
 unfolding date_time
 size-date_time = refl

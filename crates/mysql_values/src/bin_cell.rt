@@ -36,27 +36,6 @@ fn read_other<'s>(
     read_kind(ValueKind::of(column_type), is_unsigned, buf)
 }
 
-/// Appends a value of the type, by a call.
-///
-/// This is a function of its own, with a buffer of its own: the caller's buffer stays in registers, and no
-/// memory is cleared for the other types.
-#[inline(always)]
-fn put_other<'s>(
-    column_type: ColumnType,
-    is_unsigned: bool,
-    buf: &mut ParseBuf<'_>,
-    cells: &mut Vec<Option<Value>>,
-) -> Result<(), FaultOf<'s>>
-    requires { vec_len cells.old < vec_capacity cells.old }
-    ensures { PutsCell (bin_value column_type is_unsigned) result buf.old buf.new cells.old cells.new }
-{
-    let mut rest = buf.rest();
-    let value = read_other(column_type, is_unsigned, &mut rest)?;
-    *buf = rest;
-    put(value, cells);
-    Ok(())
-}
-
 /// Reads a value of the given type. The most frequent types have arms of their own, so that a value's parts are
 /// written directly to its cell instead of being assembled and taken apart again.
 // One match on the type: the compiler would otherwise match its kind as well.
@@ -83,7 +62,14 @@ fn put_value<'s>(
             put(read_longlong(is_unsigned, buf)?, cells);
             Ok(())
         }
-        _ => put_other(column_type, is_unsigned, buf, cells),
+        _ => {
+            // A buffer of its own: the caller's stays in registers.
+            let mut rest = buf.rest();
+            let value = read_other(column_type, is_unsigned, &mut rest)?;
+            *buf = rest;
+            put(value, cells);
+            Ok(())
+        }
     }
 }
 

@@ -25,7 +25,7 @@ ghost use Rattle.mysql_values.specs.ParamType.{param_type, type_flags};
 pub use crate::date_time_with_offset::date_with_offset_size;
 use crate::param_type::ParamType;
 pub use crate::param_type::param_type_size;
-pub use crate::temporal::{clock_size, day_size, no_date_or_time_has_a_constant_size};
+pub use crate::temporal::no_date_or_time_has_a_constant_size;
 pub use crate::value_deserializer::no_value_has_a_constant_size;
 
 /// The binary form of a value has the length that `Value::bin_len` returns.

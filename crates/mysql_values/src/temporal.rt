@@ -3,8 +3,7 @@
 ghost use Rattle.std.specs.Prelude.{false, ◌≡◌, ◌≤◌, ◌+◌, ◌==◌, ℕ, Ok, length};
 
 use mysql_wire::{
-    AnyWidth, Buffer, FaultOf, Fixed, IntRepr, LeU16, LeU32, MyDeserialize, MySerialize, ParseBuf,
-    RawInt,
+    AnyWidth, Buffer, FaultOf, IntRepr, LeU16, LeU32, MyDeserialize, MySerialize, ParseBuf, RawInt,
 };
 
 /// A calendar date.
@@ -246,56 +245,6 @@ fn eat_sign(buf: &mut ParseBuf<'_>) -> bool
 {
     let [sign] = buf.eat_array::<1>();
     sign == 1
-}
-
-impl<'de> MyDeserialize<'de> for Day {
-    const SIZE: Option<usize> = Some(4);
-
-    type Size = Fixed<4>;
-
-    type Ctx = ();
-
-    ghost use Rattle.mysql_values.specs.Temporal.{day, size-day};
-
-    ghost form = { λ _. day };
-
-    fn deserialize<'s>(_ctx: (), buf: &mut ParseBuf<'de>) -> Result<Self, FaultOf<'s>> {
-        Ok(eat_day(buf))
-    }
-
-    ghost size_is = { λ _. size-day };
-}
-
-/// A calendar date takes four bytes.
-pub fn day_size() -> Option<usize>
-    ensures { result ≡ Some 4 }
-{
-    <Day as MyDeserialize>::SIZE
-}
-
-impl<'de> MyDeserialize<'de> for Clock {
-    const SIZE: Option<usize> = Some(3);
-
-    type Size = Fixed<3>;
-
-    type Ctx = ();
-
-    ghost use Rattle.mysql_values.specs.Temporal.{clock, size-clock};
-
-    ghost form = { λ _. clock };
-
-    fn deserialize<'s>(_ctx: (), buf: &mut ParseBuf<'de>) -> Result<Self, FaultOf<'s>> {
-        Ok(eat_clock(buf))
-    }
-
-    ghost size_is = { λ _. size-clock };
-}
-
-/// A time of day takes three bytes.
-pub fn clock_size() -> Option<usize>
-    ensures { result ≡ Some 3 }
-{
-    <Clock as MyDeserialize>::SIZE
 }
 
 impl<'de> MyDeserialize<'de> for DateTime {

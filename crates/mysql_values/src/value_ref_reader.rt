@@ -1,10 +1,9 @@
 //! Readers of values that borrow from rows and requests.
 
-ghost use Rattle.std.specs.Prelude.{false, ◌≡◌, IsFalse, IsTrue, OnErr};
-ghost use Rattle.mysql_wire.specs.Reading.{Answers};
+ghost use Rattle.std.specs.Prelude.{◌≡◌, IsFalse, IsTrue};
 ghost use Rattle.mysql_values.specs.Value.{Int};
 ghost use Rattle.mysql_values.specs.declared.value_kind.ValueKind.TheVariants as kind;
-ghost use Rattle.mysql_values.specs.ValueRef.{ref_content, refs_contents};
+ghost use Rattle.mysql_values.specs.ValueRef.{ReadsRef, ref_content};
 ghost use Rattle.mysql_values.specs.ValueDeserializer.{text_value, bin_value, value_of_kind, string_value, long_integer, date_value, time_value};
 
 use crate::temporal::{DateTime, TimeSpan};
@@ -15,8 +14,7 @@ use mysql_wire::{BytesRepr, ColumnType, FaultOf, LeU16, LeU32, LeU64, LenEnc, Pa
 /// Reads a length-encoded string. It takes no memory, and on an error the buffer is unchanged.
 #[inline(always)]
 pub fn read_string_ref<'s, 'de>(buf: &mut ParseBuf<'de>) -> Result<ValueRef<'de>, FaultOf<'s>>
-    ensures value { Answers false (refs_contents result) buf.new (string_value.reads buf.old) }
-    ensures stays { OnErr result (buf.new ≡ buf.old) }
+    ensures { ReadsRef string_value result buf.old buf.new }
 {
     let mut rest = buf.rest();
     let mut content = <LenEnc as BytesRepr>::deserialize((), &mut rest)?;
@@ -33,8 +31,7 @@ pub fn read_string_ref<'s, 'de>(buf: &mut ParseBuf<'de>) -> Result<ValueRef<'de>
 #[inline(always)]
 #[tactic(auto, using(mysql_wire::proofs::Tails::tails), unfolding(crate::specs::ValueDeserializer::text_value, mysql_wire::specs::Form::bytes))]
 pub fn read_text_ref<'s, 'de>(buf: &mut ParseBuf<'de>) -> Result<ValueRef<'de>, FaultOf<'s>>
-    ensures value { Answers false (refs_contents result) buf.new (text_value.reads buf.old) }
-    ensures stays { OnErr result (buf.new ≡ buf.old) }
+    ensures { ReadsRef text_value result buf.old buf.new }
 {
     if buf.first() == Some(0xfb) {
         buf.skip(1);
@@ -45,8 +42,7 @@ pub fn read_text_ref<'s, 'de>(buf: &mut ParseBuf<'de>) -> Result<ValueRef<'de>, 
 
 #[inline(never)]
 fn date_ref<'s, 'de>(buf: &mut ParseBuf<'de>) -> Result<ValueRef<'de>, FaultOf<'s>>
-    ensures value { Answers false (refs_contents result) buf.new (date_value.reads buf.old) }
-    ensures stays { OnErr result (buf.new ≡ buf.old) }
+    ensures { ReadsRef date_value result buf.old buf.new }
 {
     let date: DateTime = buf.parse(())?;
     Ok(ValueRef::Date(
@@ -62,8 +58,7 @@ fn date_ref<'s, 'de>(buf: &mut ParseBuf<'de>) -> Result<ValueRef<'de>, FaultOf<'
 
 #[inline(never)]
 fn time_ref<'s, 'de>(buf: &mut ParseBuf<'de>) -> Result<ValueRef<'de>, FaultOf<'s>>
-    ensures value { Answers false (refs_contents result) buf.new (time_value.reads buf.old) }
-    ensures stays { OnErr result (buf.new ≡ buf.old) }
+    ensures { ReadsRef time_value result buf.old buf.new }
 {
     let time: TimeSpan = buf.parse(())?;
     Ok(ValueRef::Time(
@@ -92,8 +87,7 @@ pub fn read_long_ref<'s, 'de>(
     is_unsigned: bool,
     buf: &mut ParseBuf<'de>,
 ) -> Result<ValueRef<'de>, FaultOf<'s>>
-    ensures value { Answers false (refs_contents result) buf.new ((value_of_kind kind.Long is_unsigned).reads buf.old) }
-    ensures stays { OnErr result (buf.new ≡ buf.old) }
+    ensures { ReadsRef (value_of_kind kind.Long is_unsigned) result buf.old buf.new }
 {
     let number: RawInt<LeU32> = buf.parse(())?;
     let signed = i64::from(number.0.cast_signed());
@@ -107,8 +101,7 @@ pub fn read_longlong_ref<'s, 'de>(
     is_unsigned: bool,
     buf: &mut ParseBuf<'de>,
 ) -> Result<ValueRef<'de>, FaultOf<'s>>
-    ensures value { Answers false (refs_contents result) buf.new ((long_integer is_unsigned).reads buf.old) }
-    ensures stays { OnErr result (buf.new ≡ buf.old) }
+    ensures { ReadsRef (long_integer is_unsigned) result buf.old buf.new }
 {
     let number: RawInt<LeU64> = buf.parse(())?;
     Ok(if is_unsigned {
@@ -126,8 +119,7 @@ pub fn read_kind_ref<'s, 'de>(
     is_unsigned: bool,
     buf: &mut ParseBuf<'de>,
 ) -> Result<ValueRef<'de>, FaultOf<'s>>
-    ensures value { Answers false (refs_contents result) buf.new ((value_of_kind kind is_unsigned).reads buf.old) }
-    ensures stays { OnErr result (buf.new ≡ buf.old) }
+    ensures { ReadsRef (value_of_kind kind is_unsigned) result buf.old buf.new }
 {
     match kind {
         ValueKind::String => read_string_ref(buf),
@@ -181,8 +173,7 @@ pub fn read_bin_ref<'s, 'de>(
     is_unsigned: bool,
     buf: &mut ParseBuf<'de>,
 ) -> Result<ValueRef<'de>, FaultOf<'s>>
-    ensures value { Answers false (refs_contents result) buf.new ((bin_value column_type is_unsigned).reads buf.old) }
-    ensures stays { OnErr result (buf.new ≡ buf.old) }
+    ensures { ReadsRef (bin_value column_type is_unsigned) result buf.old buf.new }
 {
     read_kind_ref(ValueKind::of(column_type), is_unsigned, buf)
 }

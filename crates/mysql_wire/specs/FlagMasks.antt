@@ -1,7 +1,19 @@
--- The masks of the flags, each named like its constant in src/flags: written by tools/tables.py from the tables of the flags in tables/.
+-- The flag words, and the masks of the flags, each named like its constant in src/flags: written by tools/tables.py from the tables of the
+-- flags in tables/.
 use Rattle.std.specs.Prelude.{ℕ}
+use Rattle.mysql_wire.specs.declared.flags.FlagWord.{FlagWord}
+use Rattle.mysql_wire.specs.declared.flags.binlog_dump_flags.BinlogDumpNames.{BinlogDumpNames}
+use Rattle.mysql_wire.specs.declared.flags.capability_flags.CapabilityNames.{CapabilityNames}
+use Rattle.mysql_wire.specs.declared.flags.column_flags.ColumnFlagNames.{ColumnFlagNames}
+use Rattle.mysql_wire.specs.declared.flags.cursor_type.CursorNames.{CursorNames}
+use Rattle.mysql_wire.specs.declared.flags.mariadb_capabilities.MariadbCapabilityNames.{MariadbCapabilityNames}
+use Rattle.mysql_wire.specs.declared.flags.status_flags.StatusNames.{StatusNames}
+use Rattle.mysql_wire.specs.declared.flags.stmt_bulk_execute_flags.StmtBulkExecuteNames.{StmtBulkExecuteNames}
+use Rattle.mysql_wire.specs.declared.flags.stmt_execute_param_flags.StmtExecuteParamNames.{StmtExecuteParamNames}
+use Rattle.mysql_wire.specs.declared.flags.stmt_execute_params_flags.StmtExecuteParamsNames.{StmtExecuteParamsNames}
 
--- ---- BinlogDumpFlags
+abbrev pub BinlogDumpFlags : Type 0
+BinlogDumpFlags = FlagWord BinlogDumpNames ℕ
 
 abbrev pub BINLOG_DUMP_NON_BLOCK : ℕ
 BINLOG_DUMP_NON_BLOCK = 1
@@ -12,7 +24,8 @@ BINLOG_THROUGH_POSITION = 2
 abbrev pub BINLOG_THROUGH_GTID : ℕ
 BINLOG_THROUGH_GTID = 4
 
--- ---- CapabilityFlags
+abbrev pub CapabilityFlags : Type 0
+CapabilityFlags = FlagWord CapabilityNames ℕ
 
 abbrev pub CLIENT_LONG_PASSWORD : ℕ
 CLIENT_LONG_PASSWORD = 0x0000_0001
@@ -110,7 +123,8 @@ CLIENT_SSL_VERIFY_SERVER_CERT = 0x4000_0000
 abbrev pub CLIENT_REMEMBER_OPTIONS : ℕ
 CLIENT_REMEMBER_OPTIONS = 0x8000_0000
 
--- ---- ColumnFlags
+abbrev pub ColumnFlags : Type 0
+ColumnFlags = FlagWord ColumnFlagNames ℕ
 
 abbrev pub NOT_NULL_FLAG : ℕ
 NOT_NULL_FLAG = 0x0001
@@ -160,7 +174,8 @@ PART_KEY_FLAG = 0x4000
 abbrev pub NUM_FLAG : ℕ
 NUM_FLAG = 0x8000
 
--- ---- CursorType
+abbrev pub CursorType : Type 0
+CursorType = FlagWord CursorNames ℕ
 
 abbrev pub CURSOR_TYPE_NO_CURSOR : ℕ
 CURSOR_TYPE_NO_CURSOR = 0
@@ -177,7 +192,8 @@ CURSOR_TYPE_SCROLLABLE = 4
 abbrev pub PARAMETER_COUNT_AVAILABLE : ℕ
 PARAMETER_COUNT_AVAILABLE = 8
 
--- ---- MariadbCapabilities
+abbrev pub MariadbCapabilities : Type 0
+MariadbCapabilities = FlagWord MariadbCapabilityNames ℕ
 
 abbrev pub MARIADB_CLIENT_PROGRESS : ℕ
 MARIADB_CLIENT_PROGRESS = 0x01
@@ -197,7 +213,8 @@ MARIADB_CLIENT_CACHE_METADATA = 0x10
 abbrev pub MARIADB_CLIENT_BULK_UNIT_RESULTS : ℕ
 MARIADB_CLIENT_BULK_UNIT_RESULTS = 0x20
 
--- ---- StatusFlags
+abbrev pub StatusFlags : Type 0
+StatusFlags = FlagWord StatusNames ℕ
 
 abbrev pub SERVER_STATUS_IN_TRANS : ℕ
 SERVER_STATUS_IN_TRANS = 0x0001
@@ -244,7 +261,8 @@ SERVER_SESSION_STATE_CHANGED = 0x4000
 abbrev pub SERVER_STATUS_ANSI_QUOTES : ℕ
 SERVER_STATUS_ANSI_QUOTES = 0x8000
 
--- ---- StmtBulkExecuteFlags
+abbrev pub StmtBulkExecuteFlags : Type 0
+StmtBulkExecuteFlags = FlagWord StmtBulkExecuteNames ℕ
 
 abbrev pub SEND_UNIT_RESULTS : ℕ
 SEND_UNIT_RESULTS = 64
@@ -252,12 +270,14 @@ SEND_UNIT_RESULTS = 64
 abbrev pub SEND_TYPES_TO_SERVER : ℕ
 SEND_TYPES_TO_SERVER = 128
 
--- ---- StmtExecuteParamFlags
+abbrev pub StmtExecuteParamFlags : Type 0
+StmtExecuteParamFlags = FlagWord StmtExecuteParamNames ℕ
 
 abbrev pub UNSIGNED : ℕ
 UNSIGNED = 128
 
--- ---- StmtExecuteParamsFlags
+abbrev pub StmtExecuteParamsFlags : Type 0
+StmtExecuteParamsFlags = FlagWord StmtExecuteParamsNames ℕ
 
 abbrev pub NEW_PARAMS_BOUND : ℕ
 NEW_PARAMS_BOUND = 1

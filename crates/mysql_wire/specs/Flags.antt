@@ -3,19 +3,11 @@ use Rattle.std.specs.Prelude.{ℕ, ◌^◌, ◌<◌, Bool, Option, Some, ◌==�
 use Rattle.bitflags.specs.Sets.{without}
 use Rattle.mysql_wire.specs.declared.constant_value.Const.{Const}
 use Rattle.mysql_wire.specs.declared.flags.FlagWord.{FlagWord}
-use Rattle.mysql_wire.specs.declared.flags.binlog_dump_flags.BinlogDumpNames.{BinlogDumpNames}
-use Rattle.mysql_wire.specs.declared.flags.capability_flags.CapabilityNames.{CapabilityNames}
-use Rattle.mysql_wire.specs.declared.flags.column_flags.ColumnFlagNames.{ColumnFlagNames}
-use Rattle.mysql_wire.specs.declared.flags.cursor_type.CursorNames.{CursorNames}
-use Rattle.mysql_wire.specs.declared.flags.mariadb_capabilities.MariadbCapabilityNames.{MariadbCapabilityNames}
-use Rattle.mysql_wire.specs.declared.flags.status_flags.StatusNames.{StatusNames}
-use Rattle.mysql_wire.specs.declared.flags.stmt_bulk_execute_flags.StmtBulkExecuteNames.{StmtBulkExecuteNames}
-use Rattle.mysql_wire.specs.declared.flags.stmt_execute_param_flags.StmtExecuteParamNames.{StmtExecuteParamNames}
-use Rattle.mysql_wire.specs.declared.flags.stmt_execute_params_flags.StmtExecuteParamsNames.{StmtExecuteParamsNames}
 use Rattle.mysql_wire.specs.Form.{Form, number}
 use Rattle.mysql_wire.specs.ConstantValue.{coded, coded-again}
 use Rattle.mysql_wire.specs.Spelling.{IsSpelling, number-again}
 use Rattle.mysql_wire.specs.Writing.{le_bytes}
+pub use Rattle.mysql_wire.specs.FlagMasks.{BinlogDumpFlags, CapabilityFlags, ColumnFlags, CursorType, MariadbCapabilities, StatusFlags, StmtBulkExecuteFlags, StmtExecuteParamFlags, StmtExecuteParamsFlags}
 
 -- all bits of the mask are set
 abbrev pub has : ℕ → ℕ → Bool
@@ -38,30 +30,3 @@ pub flag_word-again : {N U : Type 0} (width : ℕ) (v : Const (FlagWord N ℕ) U
 flag_word-again width v lt = coded-again flags_of (number width) v.0.0 v (le_bytes width v.0.0) refl (number-again width v.0.0 lt)
 
 pub ruleset flag_word_round_trips = (flag_word-again)
-
-abbrev pub BinlogDumpFlags : Type 0
-BinlogDumpFlags = FlagWord BinlogDumpNames ℕ
-
-abbrev pub CapabilityFlags : Type 0
-CapabilityFlags = FlagWord CapabilityNames ℕ
-
-abbrev pub ColumnFlags : Type 0
-ColumnFlags = FlagWord ColumnFlagNames ℕ
-
-abbrev pub CursorType : Type 0
-CursorType = FlagWord CursorNames ℕ
-
-abbrev pub MariadbCapabilities : Type 0
-MariadbCapabilities = FlagWord MariadbCapabilityNames ℕ
-
-abbrev pub StatusFlags : Type 0
-StatusFlags = FlagWord StatusNames ℕ
-
-abbrev pub StmtBulkExecuteFlags : Type 0
-StmtBulkExecuteFlags = FlagWord StmtBulkExecuteNames ℕ
-
-abbrev pub StmtExecuteParamFlags : Type 0
-StmtExecuteParamFlags = FlagWord StmtExecuteParamNames ℕ
-
-abbrev pub StmtExecuteParamsFlags : Type 0
-StmtExecuteParamsFlags = FlagWord StmtExecuteParamsNames ℕ

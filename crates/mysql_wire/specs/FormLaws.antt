@@ -3,6 +3,7 @@ use Rattle.std.specs.Prelude.{◌≡◌, ℕ, ◌≤◌, List, [], ◌∷◌, �
 use Rattle.std.proofs.Common.{sym, ap, ◌∙◌, arith}
 use Rattle.std.proofs.lemmas.Bool.{ltb-false, le-ltb, lt-ltb}
 use Rattle.std.proofs.lemmas.List.{take_at, drop_at, take-append-drop, length-append, length-take, append-nil}
+use Rattle.mysql_wire.specs.declared.fault.FaultKind.{FaultKind}
 use Rattle.mysql_wire.specs.declared.fault.FaultKind.TheVariants as kind
 use Rattle.mysql_wire.specs.Reading.{Reading, IsTail, IsTail-trans, IsSized, HasSize, then_read, then_read-ok, done-value, done-rest, done-both, guard_ok}
 use Rattle.mysql_wire.specs.Grammar.{Form, then_Spells, then_reads, bytes_Spells, bytes_reads, map_Spells, map_reads, looked_up, decode_Spells, decode_reads, ended, whole, within_Spells, within_reads, beginning_Spells, beginning_reads}
@@ -191,5 +192,5 @@ rest-front c bytes rest e = record { front = bytes; parts = rw (← done-rest by
 
 -- ---- the form that no bytes have
 
-pub refuse-none : {A : Type 0} {P : Type 0} (v : A) (bytes rest : List ℕ) → ◌≡◌ {A = Reading A} (Err kind.InvalidData) (Ok (v, rest)) → P
-refuse-none v bytes rest e = absurd cc
+pub refuse-none : {A : Type 0} {P : Type 0} (fault : FaultKind) (v : A) (bytes rest : List ℕ) → ◌≡◌ {A = Reading A} (Err fault) (Ok (v, rest)) → P
+refuse-none fault v bytes rest e = absurd cc

@@ -19,6 +19,31 @@ pub record Form (A : Type 0) : Type 1 where
   -- reading takes a fixed number of bytes, if the size is constant
   pub sized : HasSize size reads
 
+-- a form whose values have this size
+abbrev pub with_size : {A : Type 0} (size : Option ℕ) (Spells : A → List ℕ → List ℕ → Type 0) (reads : List ℕ → Reading A)
+    → ((v : A) (bytes rest : List ℕ) → reads bytes ≡ Ok (v, rest) → Spells v bytes rest)
+    → ((v : A) (bytes rest : List ℕ) → Spells v bytes rest → reads bytes ≡ Ok (v, rest))
+    → ((v : A) (bytes rest : List ℕ) → reads bytes ≡ Ok (v, rest) → IsTail rest bytes)
+    → HasSize size reads
+    → Form A
+with_size size Spells reads found only front sized = record {
+  size = size;
+  Spells = Spells;
+  reads = reads;
+  found = found;
+  only = only;
+  front = front;
+  sized = sized;
+}
+
+-- a form whose values have no constant size
+abbrev pub any_size : {A : Type 0} (Spells : A → List ℕ → List ℕ → Type 0) (reads : List ℕ → Reading A)
+    → ((v : A) (bytes rest : List ℕ) → reads bytes ≡ Ok (v, rest) → Spells v bytes rest)
+    → ((v : A) (bytes rest : List ℕ) → Spells v bytes rest → reads bytes ≡ Ok (v, rest))
+    → ((v : A) (bytes rest : List ℕ) → reads bytes ≡ Ok (v, rest) → IsTail rest bytes)
+    → Form A
+any_size Spells reads found only front = with_size None Spells reads found only front tt
+
 -- ---- one form, and then another that may depend on the first one's value
 
 module _ {A B : Type 0} (f : Form A) (g : A → Form B) where

@@ -3,22 +3,14 @@ pub mod Grammar
 pub mod Laws
 pub mod Again
 use Rattle.std.specs.Prelude.{◌≡◌, ℕ, zero, suc, ◌+◌, ◌-◌, ◌*◌, ◌^◌, List, ◌∷◌, ◌++◌, length, None, nat_lt, ◌==◌, if◌then◌else◌, refl}
-use Rattle.mysql_wire.specs.Form.{Form, ◌>>=◌, bytes}
+use Rattle.mysql_wire.specs.Form.{Form, any_size, ◌>>=◌, bytes}
 use Rattle.mysql_wire.specs.Varlen.Laws as law
 use Rattle.mysql_wire.specs.Writing.{le_bytes}
 pub use Rattle.mysql_wire.specs.Varlen.Grammar.{varlen_Spells, low_ones, above_ones, varlen_reads}
 
 -- in k + 1 bytes, the number above a zero and k ones; or the byte ff, and the number in eight bytes
 unfoldable pub varlen : Form ℕ
-varlen = record {
-  size = None;
-  Spells = varlen_Spells;
-  reads = varlen_reads;
-  found = law.varlen-found;
-  only = law.varlen-only;
-  front = law.varlen-front;
-  sized = tt;
-}
+varlen = any_size varlen_Spells varlen_reads law.varlen-found law.varlen-only law.varlen-front
 
 pub size-varlen : varlen.size ≡ None
 unfolding varlen

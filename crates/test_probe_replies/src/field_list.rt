@@ -16,6 +16,27 @@ impl Shows<FieldListColumn<'_>> for Server {
     }
 }
 
+/// Creates a column of the same names and fields.
+fn made_column<'a>(column: &ExtendedColumnRef<'a>) -> ExtendedColumnRef<'a> {
+    let it = column.column();
+    let names = ColumnNamesRef {
+        schema: it.schema(),
+        table: it.table(),
+        org_table: it.org_table(),
+        name: it.name(),
+        org_name: it.org_name(),
+    };
+    let made = ColumnRef::new(
+        names,
+        it.character_set(),
+        it.column_length(),
+        it.column_type(),
+        it.flags(),
+        it.decimals(),
+    );
+    ExtendedColumnRef::new(made, column.metadata())
+}
+
 /// Whether both have the same fields.
 fn are_same(left: &FieldListColumn<'_>, right: &FieldListColumn<'_>) -> bool {
     left.column() == right.column() && left.default_value() == right.default_value()
@@ -28,10 +49,7 @@ pub fn field_list_column(out: &mut Out, request: &Request<'_>) {
     let Some(record) = read::<Server, FieldListColumn<'_>>(out, bytes, ctx) else {
         return;
     };
-    let Some(copy) = or_lost(out, record.column().clone()) else {
-        return;
-    };
-    let made = FieldListColumn::new(copy, record.default_value());
+    let made = FieldListColumn::new(made_column(record.column()), record.default_value());
     out.same("made", Ok(are_same(&made, &record)));
     if let Some(written) = write(out, &made, bytes) {
         let (again, left) = parsed::<FieldListColumn<'_>>(out.alloc(), request.keep(written), ctx);

@@ -8,7 +8,7 @@ returns-in-Ok-clause-contents c = λ some columns fits fits_indicators.
     let types = c.args.types.now in
     let values = take (length types) c.fill_row.new.values in
     let indicators = take (length types) c.fill_row.new.indicators in
-    let left : c.eat_all-rest.result.now ≡ c.fill_row.new.buf = search rules in
+    let left : c.move_to.new.self.bytes.now ≡ c.fill_row.new.buf = search rules in
     let read : ReadsRow (Ok tt) values indicators c.fill_row.new.buf ((bulk_row types).reads c.args.rest.now.bytes.now) =
     subst (λ (bytes : List ℕ). ReadsRow (Ok tt) values indicators c.fill_row.new.buf ((bulk_row types).reads bytes)) c.new-buf.ensures c.in-Ok.ensures.value in
-    contents-into types c.args.rest.now.bytes.now values indicators c.fill_row.new.buf c.eat_all-rest.result.now read left
+    contents-into types c.args.rest.now.bytes.now values indicators c.fill_row.new.buf c.move_to.new.self.bytes.now read left

@@ -1,10 +1,6 @@
-use Rattle.std.proofs.Common.{◌≡◌, ◌++◌, ◌≤◌, drop, replicate}
+use Rattle.std.proofs.Common.{replicate}
+use Rattle.mysql_packets_c.specs.Appends.{Appends}
 use Rattle.mysql_packets_c.proofs.checked_nulls.append_zeros.Given as goal
 
 abbrev pub invariant-loop : goal.invariant-loop
-invariant-loop g l = record {
-  items : g.O.Buffer.held l.out ≡ g.O.Buffer.held l.fn.out ++ replicate l.counter 0;
-  after : g.O.Buffer.after l.out ≡ drop l.counter (g.O.Buffer.after l.fn.out);
-  capacity : g.O.Buffer.capacity l.fn.out ≤ g.O.Buffer.capacity l.out;
-  kept : g.O.Buffer.kept l.out ≡ g.O.Buffer.kept l.fn.out;
-}
+invariant-loop g l = Appends g.O.Buffer.held g.O.Buffer.after g.O.Buffer.capacity g.O.Buffer.kept (replicate l.counter 0) l.fn.out l.out

@@ -34,10 +34,11 @@ values-preserved g c =
     let a : c.len.result ≡ length row.rest = c.len.ensures ∙ ap length c.rest-source.ensures.read in
     let b : c.len-in-values.result ≡ length old.rest = c.len-in-values.ensures ∙ ap length c.rest.ensures.read in
     rw (c.left.ensures.value, a, b) (search rules) in
-    let block_is : c.append.new.out.items ≡ c.values.block.items ++ le_bytes 8 (entry_number c.in-Some.form place) =
-    c.append.ensures.items ∙ ap (λ (n : ℕ). c.values.block.items ++ le_bytes 8 n) c.entry_of.ensures.value in
+    let entry = c.entry_of.ensures.value in
+    let block_is : c.append.new.out.items ≡ c.values.block.items ++ le_bytes 8 (entry_number entry.0 place) =
+    c.append.ensures.items ∙ ap (λ (n : ℕ). c.values.block.items ++ le_bytes 8 n) entry.2 in
     record {
-      filling = subst (λ (b : List ℕ). Filling row new b) (sym block_is) (filling-more row old new c.values.block.items c.in-Some.form place c.values.invariant.filling passed place_is c.requires.small);
+      filling = subst (λ (b : List ℕ). Filling row new b) (sym block_is) (filling-more row old new c.values.block.items c.in-Some.form entry.0 place entry.1 c.values.invariant.filling passed place_is c.requires.small);
       capacity = omega (arith, c.values.invariant.capacity, c.append.ensures.capacity);
     }
 

@@ -1,6 +1,6 @@
 use Rattle.std.proofs.Common.{◌∙◌, ap, subst, sym}
 use Rattle.mysql_auth.specs.ConnectAttributesRef.{ArePairs, pairs_in}
-use Rattle.mysql_auth.proofs.PairsPassed.{no-pairs}
+use Rattle.mysql_auth.proofs.PairsMerged.{no-pairs}
 use Rattle.mysql_auth.proofs.connect_attributes_ref.ConnectAttributesRef.to_attributes.Goals as goal
 
 pub returns-in-Err-clause-no_memory : goal.returns-in-Err-clause-no_memory

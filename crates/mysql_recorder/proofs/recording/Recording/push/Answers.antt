@@ -1,7 +1,7 @@
 use Rattle.std.proofs.Common.{◌≡◌, Some, None, ap, IfErr, get_or, take, refl, sym, subst, ◌∙◌, string_bytes}
 use Rattle.mysql_conversation.specs.declared.packet_kind_tag.TheConstants.PacketKindTag.{ALL}
 use Rattle.std.proofs.lemmas.List.{take_all}
-use Rattle.std.proofs.lemmas.Result.{err_from_is_err_and}
+use Rattle.std.proofs.lemmas.Result.{IfErr-weaker, err_from_is_err_and, on_ok_weaker}
 use Rattle.mysql_recorder.specs.Stops.{Stops}
 use Rattle.mysql_recorder.proofs.Goes.{loop_starts, loop_goes, loop_ends}
 use Rattle.mysql_recorder.specs.Lines.{next_place, place_after}
@@ -9,7 +9,7 @@ use Rattle.mysql_recorder.specs.Refusals.{IfLine}
 use Rattle.mysql_recorder.proofs.Lines.{if_line, on_ok_of, place_more, place_stops}
 use Rattle.mysql_recorder.proofs.Losses.{byte_loses, loop_loses, loses_none, rest_loses}
 use Rattle.mysql_recorder.proofs.Stays.{stays_same, stays_then}
-use Rattle.mysql_recorder.proofs.Stopped.{stops_after, stops_on_err}
+use Rattle.mysql_recorder.proofs.Stopped.{stops_after}
 use Rattle.mysql_recorder.proofs.recording.Recording.push.Goals as goal
 
 pub loop-byte-init : goal.loop-byte-init
@@ -31,16 +31,18 @@ loop-byte-preserved c = record {
 
 pub returns-clause-goes : goal.returns-clause-goes
 returns-clause-goes c =
-    loop_ends c.take_rest.result c.args.input.now c.loop-byte.byte-index c.args.self.now c.loop-byte.self c.take_rest.new.self
+    on_ok_weaker c.take_rest.result
+    (loop_ends c.args.input.now c.loop-byte.byte-index c.args.self.now c.loop-byte.self c.take_rest.new.self
     (string_bytes c.args.out.now) (string_bytes c.loop-byte.out) (string_bytes c.take_rest.new.out)
     (take_all c.loop-byte.byte-index c.args.input.now c.loop-byte-test.false)
-    c.loop-byte.invariant.goes c.take_rest.ensures.keeps.lost (ap (λ s. s.layout) c.loop-byte.invariant.settings) c.take_rest.ensures.goes
+    c.loop-byte.invariant.goes c.take_rest.ensures.keeps.lost (ap (λ s. s.layout) c.loop-byte.invariant.settings)) c.take_rest.ensures.goes
 
 pub returns-clause-refused : goal.returns-clause-refused
 returns-clause-refused c =
-    stops_on_err c.take_rest.result ALL c.args.input.now c.loop-byte.byte-index c.args.self.now c.loop-byte.self c.take_rest.new.self
-    (string_bytes c.args.out.now) (string_bytes c.loop-byte.out) (string_bytes c.take_rest.new.out)
-    c.loop-byte.invariant.goes c.take_rest.ensures.keeps.lost (ap (λ s. s.layout) c.loop-byte.invariant.settings) c.take_rest.ensures.refused
+    IfErr-weaker c.take_rest.result _ _
+    (λ e. stops_after ALL c.args.input.now c.loop-byte.byte-index c.args.self.now c.loop-byte.self c.take_rest.new.self
+    (string_bytes c.args.out.now) (string_bytes c.loop-byte.out) (string_bytes c.take_rest.new.out) e
+    c.loop-byte.invariant.goes c.take_rest.ensures.keeps.lost (ap (λ s. s.layout) c.loop-byte.invariant.settings)) c.take_rest.ensures.refused
 
 pub returns-in_err-take_byte-clause-refused : goal.returns-in_err-take_byte-clause-refused
 returns-in_err-take_byte-clause-refused c =

@@ -1,34 +1,15 @@
-use Rattle.std.proofs.Common.{rules, arith, ◌≡◌, ◌+◌, length, subst, refl}
+use Rattle.std.proofs.Common.{rules, refl}
 use Rattle.std.proofs.lemmas.Result.{err_from_is_err_and}
-use Rattle.mysql_values.specs.ValueRef.{ref_content}
-use Rattle.mysql_stmt.specs.RowView.{RowLeft, Gives, IsDone, RefusesNext, ref_cell, row_left}
-use Rattle.mysql_stmt.proofs.NullBits.{bits-after}
 use Rattle.mysql_stmt.proofs.RowViews.{first-value, first-fault, no-value}
 use Rattle.mysql_stmt.proofs.binary_row_view.BinaryRowView.next_value.Goals as goal
 
 pub returns-in_default : goal.returns-in_default
-returns-in_default g c =
-    let v = c.self.inside in
-    let none : length v.columns.now ≡ 0 = search rules in
-    record { value = (subst IsDone c.self.view_is (no-value (ref_cell g.C.TypedColumn.type_of g.C.TypedColumn.unsigned v.nulls.bytes g.S.SerializationSide.BIT_OFFSET) v.place v.columns.now v.buf none), refl) }
+returns-in_default g c = record { value = (no-value _ _ _ _ _ c.self.view_is (search rules), refl) }
 
 pub returns-in_err-value : goal.returns-in_err-value
 returns-in_err-value g c =
-    let v = c.self.inside in
-    let offset = g.S.SerializationSide.BIT_OFFSET in
     let p = err_from_is_err_and c.from_residual.result c.from_residual.ensures.1 in
-    let fault = c.in_err-value.field-0.0 in
-    let row = first-fault g.C.TypedColumn.type_of g.C.TypedColumn.unsigned v.nulls.bytes offset v.place c.in-Some.column.now c.in-Some.columns.now v.columns.now v.buf c.rest-rest.result c.is_null_at-is_null.result c.is_null_at-is_null.ensures.value c.in-Some.ensures.cases.0 c.rest-rest.ensures fault c.in_err-value.ensures.value in
-    record { value = rw (p.1, p.2) (subst (RefusesNext fault) c.self.view_is row, refl) }
-
-pub invariant_of-self : goal.invariant_of-self
-invariant_of-self g c = bits-after g.S.SerializationSide.BIT_OFFSET _ _ _ _ _ c.self.invariant (omega (arith, c.in-Some.ensures.cases.1))
+    record { value = rw (p.1, p.2) (first-fault g.C.TypedColumn.type_of g.C.TypedColumn.unsigned _ g.S.SerializationSide.BIT_OFFSET _ _ _ _ _ _ _ c.is_null_at-is_null.ensures.value c.in-Some.ensures.cases.0 c.rest-rest.ensures _ c.self.view_is _ c.in_err-value.ensures.value, refl) }
 
 pub returns : goal.returns
-returns g c =
-    let v = c.self.inside in
-    let offset = g.S.SerializationSide.BIT_OFFSET in
-    let x = ref_content c.in_ok-value.value in
-    let one = first-value g.C.TypedColumn.type_of g.C.TypedColumn.unsigned v.nulls.bytes offset v.place c.in-Some.column.now c.in-Some.columns.now v.columns.now v.buf c.rest-rest.result c.is_null_at-is_null.result c.is_null_at-is_null.ensures.value c.in-Some.ensures.cases.0 c.rest-rest.ensures x c.read_unless.new.buf c.in_ok-value.ensures.value in
-    let now = row_left (ref_cell g.C.TypedColumn.type_of g.C.TypedColumn.unsigned v.nulls.bytes offset) (v.place + 1) c.in-Some.columns.now c.read_unless.new.buf in
-    record { value = subst (λ (r : RowLeft). Gives r x now) c.self.view_is one }
+returns g c = record { value = first-value g.C.TypedColumn.type_of g.C.TypedColumn.unsigned _ g.S.SerializationSide.BIT_OFFSET _ _ _ _ _ _ _ c.is_null_at-is_null.ensures.value c.in-Some.ensures.cases.0 c.rest-rest.ensures _ c.self.view_is _ _ c.in_ok-value.ensures.value }
