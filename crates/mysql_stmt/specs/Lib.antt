@@ -4,6 +4,7 @@ pub mod NullMarks
 pub mod OneByOne
 pub mod SentNulls
 pub mod NullBitmap
+pub mod StatementCommand
 pub mod Close
 pub mod StmtFetch
 pub mod StmtReset

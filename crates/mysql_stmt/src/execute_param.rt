@@ -194,11 +194,6 @@ impl AsExecuteParam for ValueRef<'_> {
     }
 
     #[inline(always)]
-    fn is_null(&self) -> bool {
-        matches!(self, ValueRef::NULL)
-    }
-
-    #[inline(always)]
     fn sent_type(&self) -> ParamType {
         ParamType::from_value_ref(self)
     }
@@ -206,6 +201,11 @@ impl AsExecuteParam for ValueRef<'_> {
     #[inline(always)]
     fn name(&self) -> &[u8] {
         &[]
+    }
+
+    #[inline(always)]
+    fn is_null(&self) -> bool {
+        matches!(self, ValueRef::NULL)
     }
 
     #[inline(always)]
@@ -266,11 +266,6 @@ impl AsExecuteParam for Value {
     }
 
     #[inline(always)]
-    fn is_null(&self) -> bool {
-        matches!(self, Value::NULL)
-    }
-
-    #[inline(always)]
     fn sent_type(&self) -> ParamType {
         ParamType::from_value(self)
     }
@@ -281,29 +276,23 @@ impl AsExecuteParam for Value {
     }
 
     #[inline(always)]
+    fn is_null(&self) -> bool {
+        matches!(self, Value::NULL)
+    }
+
+    #[inline(always)]
     fn is_spelled(&self) -> bool {
         true
     }
 
     #[inline(always)]
     fn sent_len(&self, as_long_data: bool) -> usize {
-        // (a guard of the arm would be tested for each value)
-        match self {
-            Value::Bytes(_) => { if as_long_data { 0 } else { self.defined_len() } }
-            value => value.defined_len(),
-        }
+        self.as_ref().sent_len(as_long_data)
     }
 
     #[inline(always)]
     fn append_sent<O: Buffer>(&self, as_long_data: bool, out: &mut O) {
-        match self {
-            Value::Bytes(_) => {
-                if !as_long_data {
-                    self.append(out);
-                }
-            }
-            value => value.append(out),
-        }
+        self.as_ref().append_sent(as_long_data, out);
     }
 }
 
