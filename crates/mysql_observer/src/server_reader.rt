@@ -28,28 +28,6 @@ fn read_ok<'s, 'a>(
     Ok(packet.into_inner())
 }
 
-/// Reads an EOF packet.
-fn read_eof<'s, 'a>(
-    agreed: SessionCapabilities,
-    buf: &mut ParseBuf<'a>,
-) -> Result<OkPacketRef<'a>, FaultOf<'s>>
-    ensures value { Answers false result buf.new ((spec.eof_form agreed).reads buf.old) }
-{
-    let packet: OkPacketRefDeserializer<'a, OldEofPacket> = buf.parse(agreed.mysql)?;
-    Ok(packet.into_inner())
-}
-
-/// Reads the OK packet at the end of rows.
-fn read_ok_terminator<'s, 'a>(
-    agreed: SessionCapabilities,
-    buf: &mut ParseBuf<'a>,
-) -> Result<OkPacketRef<'a>, FaultOf<'s>>
-    ensures value { Answers false result buf.new ((spec.ok_terminator_form agreed).reads buf.old) }
-{
-    let packet: OkPacketRefDeserializer<'a, ResultSetTerminator> = buf.parse(agreed.mysql)?;
-    Ok(packet.into_inner())
-}
-
 /// Reads a progress report, after the three bytes that mark it.
 fn read_progress_report<'s, 'a>(
     buf: &mut ParseBuf<'a>,
@@ -117,10 +95,14 @@ fn read_of_kind<'s, 'a, 'c, C: TypedColumn>(
         PacketKind::FieldListColumn => Ok(ServerPacket::FieldListColumn(buf.parse(
             agreed.mariadb,
         )?)),
-        PacketKind::Eof => Ok(ServerPacket::Eof(read_eof(agreed, buf)?)),
-        PacketKind::OkTerminator => Ok(ServerPacket::OkTerminator(read_ok_terminator(
-            agreed, buf,
-        )?)),
+        PacketKind::Eof => {
+            let packet: OkPacketRefDeserializer<'a, OldEofPacket> = buf.parse(agreed.mysql)?;
+            Ok(ServerPacket::Eof(packet.into_inner()))
+        }
+        PacketKind::OkTerminator => {
+            let packet: OkPacketRefDeserializer<'a, ResultSetTerminator> = buf.parse(agreed.mysql)?;
+            Ok(ServerPacket::OkTerminator(packet.into_inner()))
+        }
         PacketKind::Row(RowFormat::Text) => {
             Ok(ServerPacket::TextRow(read_text_row(context.column_count, buf)))
         }
