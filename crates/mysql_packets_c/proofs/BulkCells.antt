@@ -2,8 +2,8 @@
 use Rattle.std.proofs.Common.{◌≡◌, ◌≢◌, ◌||◌, ◌<◌, ◌≤◌, ◌+◌, ◌-◌, ◌++◌, ◌∷◌, ◌^◌, ℕ, zero, suc, Bool, true, false, ◌&&◌, if◌then◌else◌, List, [], length, map, drop, get_or, min, Option, Some, None, refl, sym, ap, ◌∙◌, inl, inr, append_assoc, arith, add-one}
 use Rattle.std.specs.List.{list_all}
 use Rattle.std.specs.Option.{option_map, unwrap_or}
-use Rattle.std.specs.Prelude.{◌==◌, is_some, nat_le, nat_lt}
-use Rattle.std.proofs.lemmas.Bool.{and_parts, and_right, cases_eq, eqb-true, false_from_ne_true, leb-true, ltb-true, ne_eqb}
+use Rattle.std.specs.Prelude.{◌==◌, is_some, nat_le}
+use Rattle.std.proofs.lemmas.Bool.{and_parts, and_right, cases_eq, eqb-true, false_from_ne_true, leb-true, ne_eqb}
 use Rattle.std.proofs.lemmas.List.{drop-drop, length-append, length-map}
 use Rattle.mysql_bulk.specs.BulkValue.{Cell, Given, cell_bytes, cell_spelled, indicator_bytes, spells_cell, spells_cells}
 use Rattle.mysql_bulk.proofs.BulkValues.{cells_long}
@@ -96,7 +96,7 @@ null-plain : (column : CColumnType) (v : CValue) → v.kind ≡ 0 → IsPlainly 
 unfolding le_bytes mariadb_bulk_indicator_code value_content
 null-plain column v e = rw e (omega arith, refl, refl)
 
-text-plain : (column : CColumnType) (v : CValue) → v.kind ≡ 1 → 252 ≤ column.column_type → column.column_type < 255 → IsPlainly column v
+text-plain : (column : CColumnType) (v : CValue) → v.kind ≡ 1 → 252 ≤ column.column_type → column.column_type ≤ 254 → IsPlainly column v
 unfolding column_type_code column_type_of le_bytes mariadb_bulk_indicator_code value_content
 text-plain column v e low high = elim (cases_eq column.column_type 252) [
   | inl blob ↦ rw (e, blob) (omega arith, refl, refl)
@@ -111,6 +111,7 @@ unfolding column_type_code column_type_of le_bytes mariadb_bulk_indicator_code v
 number-plain column v e longlong signed = rw (e, longlong, signed) (omega arith, refl, refl)
 
 pub plain-value : (column : CColumnType) (v : CValue) → is_plain column v ≡ true → IsPlainly column v
+unfolding column_type_code
 plain-value column v h = elim (cases_eq v.kind 0) [
   | inl none ↦ null-plain column v none
   | inr some ↦ elim (cases_eq v.kind 1) [
@@ -124,8 +125,8 @@ plain-value column v h = elim (cases_eq v.kind 0) [
   where
     text-of : v.kind ≡ 1 → is_plain column v ≡ true → IsPlainly column v
     text-of e h =
-        let parts = and_parts (nat_le 252 column.column_type) (nat_lt column.column_type 255) (rw e at h) in
-        text-plain column v e (leb-true 252 column.column_type parts.0) (ltb-true column.column_type 255 parts.1)
+        let parts = and_parts (nat_le 252 column.column_type) (nat_le column.column_type 254) (rw e at h) in
+        text-plain column v e (leb-true 252 column.column_type parts.0) (leb-true column.column_type 254 parts.1)
 
     number-of : v.kind ≡ 2 → is_plain column v ≡ true → IsPlainly column v
     number-of e h =

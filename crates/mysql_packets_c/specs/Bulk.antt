@@ -1,5 +1,5 @@
 -- A bulk request, as C requests it.
-use Rattle.std.specs.Prelude.{◌≡◌, ◌≢◌, ◌⊎◌, ℕ, zero, suc, ◌++◌, ◌+◌, ◌*◌, ◌-◌, ◌%◌, ◌==◌, ◌&&◌, ◌||◌, ◌≤◌, Bool, true, false, if◌then◌else◌, nat_le, nat_lt, is_some, List, [], ◌∷◌, length, map, take, drop, Option, MatchOption}
+use Rattle.std.specs.Prelude.{◌≡◌, ◌≢◌, ◌⊎◌, ℕ, zero, suc, ◌++◌, ◌+◌, ◌*◌, ◌-◌, ◌%◌, ◌==◌, ◌&&◌, ◌||◌, ◌≤◌, Bool, true, false, if◌then◌else◌, nat_le, is_some, List, [], ◌∷◌, length, map, take, drop, Option, MatchOption}
 use Rattle.std.specs.List.{list_all}
 use Rattle.mysql_cuts.specs.Cut.{PartFits, request_size}
 use Rattle.mysql_bulk.specs.BulkValue.{Cell, Given, Default, Ignore, cell_bytes, cells_bytes, spells_cell, spells_cells}
@@ -8,8 +8,9 @@ use Rattle.mysql_bulk.specs.ValueRows.{CellsFit, IsRequestOf, packing, plain_rul
 use Rattle.mysql_values.specs.ParamType.{typed}
 use Rattle.mysql_values.specs.Value.{NULL}
 use Rattle.mysql_values.specs.declared.param_type.ParamType.{ParamType}
-use Rattle.mysql_wire.specs.ColumnType.{column_type_of}
+use Rattle.mysql_wire.specs.ColumnType.{column_type_code, column_type_of}
 use Rattle.mysql_wire.specs.Writing.{saturated}
+use Rattle.mysql_wire.specs.declared.codes.column_type.ColumnType.TheVariants as type
 use Rattle.mysql_packets_c.specs.ColumnType.{type_of, unsigned_of}
 use Rattle.mysql_packets_c.specs.Value.{is_value, value_content}
 use Rattle.mysql_packets_c.specs.Output.{Puts}
@@ -74,8 +75,8 @@ row_bytes columns row = cells_bytes (declared_types columns) (cells_of row)
 abbrev pub is_plain : CColumnType → CValue → Bool
 is_plain column v =
     if v.kind == 0 then true
-    else if v.kind == 1 then nat_le 252 column.column_type && nat_lt column.column_type 255
-    else if v.kind == 2 then column.column_type == 8 && column.is_unsigned == 0
+    else if v.kind == 1 then nat_le (column_type_code type.MYSQL_TYPE_BLOB) column.column_type && nat_le column.column_type (column_type_code type.MYSQL_TYPE_STRING)
+    else if v.kind == 2 then column.column_type == column_type_code type.MYSQL_TYPE_LONGLONG && column.is_unsigned == 0
     else false
 
 -- it is a value, DEFAULT or IGNORE, which the type of its column can encode

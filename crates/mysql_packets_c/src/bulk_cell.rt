@@ -15,7 +15,7 @@ use crate::bulk::declared_type;
 use crate::rows::CColumnType;
 use crate::value::{CValue, to_ref};
 use mysql_values::{ParamType, TypedValue, ValueRef};
-use mysql_wire::{Buffer, MySerialize};
+use mysql_wire::{Buffer, ColumnType, MariadbBulkIndicator, MySerialize};
 
 /// The kind of a value that is the default of its column, and that of a column that is left unchanged.
 const KIND_DEFAULT: u8 = 9;
@@ -23,13 +23,21 @@ const KIND_DEFAULT: u8 = 9;
 const KIND_IGNORE: u8 = 10;
 
 /// The indicator before a value, and those without a value.
-const INDICATOR_NONE: u8 = 0;
+const INDICATOR_NONE: u8 = MariadbBulkIndicator::BULK_INDICATOR_NONE as u8;
 
-const INDICATOR_NULL: u8 = 1;
+const INDICATOR_NULL: u8 = MariadbBulkIndicator::BULK_INDICATOR_NULL as u8;
 
-const INDICATOR_DEFAULT: u8 = 2;
+const INDICATOR_DEFAULT: u8 = MariadbBulkIndicator::BULK_INDICATOR_DEFAULT as u8;
 
-const INDICATOR_IGNORE: u8 = 3;
+const INDICATOR_IGNORE: u8 = MariadbBulkIndicator::BULK_INDICATOR_IGNORE as u8;
+
+/// The code of numbers of eight bytes.
+const LONGLONG: u8 = ColumnType::MYSQL_TYPE_LONGLONG as u8;
+
+/// The codes of texts: from the first to the last, with that of a `VAR_STRING` between them.
+const BLOB: u8 = ColumnType::MYSQL_TYPE_BLOB as u8;
+
+const STRING: u8 = ColumnType::MYSQL_TYPE_STRING as u8;
 
 /// Converts the value. An invalid one is NULL.
 #[inline(always)]
@@ -45,13 +53,14 @@ fn given<'a>(value: &CValue<'a>) -> ValueRef<'a>
 /// Whether the value is NULL, or a signed number of eight bytes or a text under its own type: such values are
 /// encoded in line.
 #[inline(always)]
+#[tactic(auto, unfolding(mysql_wire::specs::ColumnType::column_type_code))]
 fn is_plain(column: &CColumnType, value: &CValue<'_>) -> bool
     ensures { result ≡ spec.is_plain column.now value.now }
 {
     match value.kind {
         0 => true,
-        1 => column.column_type >= 252 && column.column_type < 255,
-        2 => column.column_type == 8 && column.is_unsigned == 0,
+        1 => column.column_type >= BLOB && column.column_type <= STRING,
+        2 => column.column_type == LONGLONG && column.is_unsigned == 0,
         _ => false,
     }
 }
