@@ -13,7 +13,7 @@ import sys
 from pathlib import Path
 
 TOP = Path(__file__).resolve().parent.parent
-WIRE, SHOW, CONVERSATION = (TOP / f"crates/mysql_{name}" for name in ("wire", "show", "conversation"))
+WIRE, SHOW, CONVERSATION, FOR_C = (TOP / f"crates/mysql_{name}" for name in ("wire", "show", "conversation", "packets_c"))
 HEADER = TOP / "include/mysql_packets.h"
 # the widest line of rt fmt, and of a comment
 CODE, COMMENT = 100, 140
@@ -432,11 +432,21 @@ is_in n (x ∷ xs) = index n == index x || is_in n xs
     return source, spec
 
 
+# ---- codes of calls
+
+
+def call_codes():
+    """mysql_packets_c: what calls return."""
+    constants = "".join(f"\n/// {row.meaning}\npub(crate) const {row.name}: u32 = {row.number};\n" for row in table("c_codes"))
+    return f"""//! What calls return: {written_by("c_codes")}.
+{constants}"""
+
+
 # ---- the header
 
 # the enums of the header, and their tables
 ENUMS = {
-    "myp_packet_kind": "packet_kinds", "myp_session_track": "session_state_types", "myp_cursor": "cursor_type",
+    "myp_code": "c_codes", "myp_packet_kind": "packet_kinds", "myp_session_track": "session_state_types", "myp_cursor": "cursor_type",
     "myp_bulk_flag": "stmt_bulk_execute_flags", "myp_indicator": "mariadb_bulk_indicators", "myp_type": "column_types",
     "myp_column_flag": "column_flags", "myp_com": "commands", "myp_client_flag": "capability_flags",
     "myp_mariadb_client_flag": "mariadb_capabilities", "myp_server_flag": "status_flags", "myp_dump_flag": "binlog_dump_flags",
@@ -474,6 +484,7 @@ def files():
         yield WIRE / f"src/flags/{it.table}.rt", flags_source(it)
     yield WIRE / "specs/FlagMasks.antt", masks()
     yield from zip((CONVERSATION / "src/packet_kind_tag.rt", CONVERSATION / "specs/PacketKindTag.antt"), kinds())
+    yield FOR_C / "src/call_codes.rt", call_codes()
     yield HEADER, header()
 
 

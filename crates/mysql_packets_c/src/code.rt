@@ -3,31 +3,12 @@
 ghost use Rattle.std.specs.Prelude.{◌≡◌, ◌≤◌, option_map};
 ghost use Rattle.mysql_packets_c.specs.Code.{TextInto, code_text, fault_code};
 
+pub(crate) use crate::call_codes::{
+    BUFFER_TOO_SMALL, COMPRESSED, END, INVALID_DATA, INVALID_INPUT, OK, OUT_OF_RANGE,
+    ROW_TOO_LARGE, TOO_LARGE, TOO_MANY_COMMANDS, UNEXPECTED_EOF,
+};
 use crate::text::CBytes;
 use mysql_wire::FaultOf;
-
-/// Success.
-pub(crate) const OK: u32 = 0;
-/// The packet is truncated.
-pub(crate) const UNEXPECTED_EOF: u32 = 1;
-/// The bytes are not a valid packet of this type.
-pub(crate) const INVALID_DATA: u32 = 2;
-/// An argument fits no packet.
-pub(crate) const INVALID_INPUT: u32 = 3;
-/// The total length overflows `usize`.
-pub(crate) const TOO_LARGE: u32 = 4;
-/// The buffer is too small.
-pub(crate) const BUFFER_TOO_SMALL: u32 = 5;
-/// A row fits no bulk request.
-pub(crate) const ROW_TOO_LARGE: u32 = 6;
-/// End of the list.
-pub(crate) const END: u32 = 7;
-/// The number is beyond the range of its type.
-pub(crate) const OUT_OF_RANGE: u32 = 8;
-/// Both sides agreed on compression.
-pub(crate) const COMPRESSED: u32 = 9;
-/// A command would have to wait while eight others do.
-pub(crate) const TOO_MANY_COMMANDS: u32 = 10;
 
 /// Returns the code of a fault.
 #[inline]

@@ -1,8 +1,7 @@
 //! The C library: `include/mysql_packets.h` declares the calls that are exported here.
 //!
-//! A call returns a code, which the header names: 0 `MYP_OK`, 1 `UNEXPECTED_EOF`, 2 `INVALID_DATA`, 3 `INVALID_INPUT`, 4
-//! `TOO_LARGE`, 5 `BUFFER_TOO_SMALL`, 6 `ROW_TOO_LARGE`, 7 `MYP_END`. A byte string that is read points into the packet.
-//! Writers write to the caller's buffer.
+//! A call returns a code, which the header names and the module `call_codes` lists. A byte string that is read points into
+//! the packet. Writers write to the caller's buffer.
 #![tactic(auto)]
 
 mod attributes;
@@ -17,6 +16,7 @@ mod bulk_cut;
 mod bulk_head;
 mod bulk_row;
 mod bulk_sizes;
+mod call_codes;
 mod change_user;
 mod checked_execution;
 mod checked_nulls;
