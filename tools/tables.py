@@ -1,6 +1,6 @@
 #!/usr/bin/env python3
-"""Writes the numbers of the protocol into every file that lists them, from the tables in tables/: commands, column types, flags, kinds of
-packets, and so on.
+"""Writes the numbers of the protocol, and the codes of C calls, into every file that lists them, from the tables in tables/: commands,
+column types, flags, kinds of packets, and so on.
 
 tables.py          writes the files
 tables.py --check  fails if a file is out of date, and names it

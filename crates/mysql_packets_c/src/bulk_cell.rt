@@ -34,7 +34,7 @@ const INDICATOR_IGNORE: u8 = MariadbBulkIndicator::BULK_INDICATOR_IGNORE as u8;
 /// The code of numbers of eight bytes.
 const LONGLONG: u8 = ColumnType::MYSQL_TYPE_LONGLONG as u8;
 
-/// The codes of texts: from the first to the last, with that of a `VAR_STRING` between them.
+/// The first and the last code of texts: the code of `VAR_STRING` stands between them.
 const BLOB: u8 = ColumnType::MYSQL_TYPE_BLOB as u8;
 
 const STRING: u8 = ColumnType::MYSQL_TYPE_STRING as u8;
